@@ -3,7 +3,7 @@
 
 import { fstatSync, openSync, readFileSync, readSync, writeSync } from 'node:fs';
 import { Worker } from 'node:worker_threads';
-import { Crew, localHand } from '../web/core/crew/index.js';
+import { Crew, localWorker } from '../web/core/crew/index.js';
 import { openDisc } from '../web/core/disc/index.js';
 import { encodingOf } from '../web/core/encodings/index.js';
 import { filesOf } from '../web/core/iso/index.js';
@@ -31,7 +31,7 @@ function readerOf(path) {
 }
 
 /** A crew member that runs jobs in a thread of node. */
-function threadHand() {
+function threadWorker() {
     const worker = new Worker(new URL('core_worker.mjs', import.meta.url), { workerData: module });
     const hand = { post: (message, transfer) => worker.postMessage(message, transfer), onreply: () => {}, onfault: () => {} };
     worker.on('message', reply => hand.onreply(reply));
@@ -82,7 +82,7 @@ const JOBS_TIMED = {
 
 const opened = job === 'raw' ? paths.map(path => ({ reader: readerOf(path) })) : await tracks();
 const begin = process.hrtime.bigint();
-const crew = new Crew(Number(threads) === 0 ? [localHand(calls, JOBS)] : Array.from({ length: Number(threads) }, threadHand));
+const crew = new Crew(Number(threads) === 0 ? [localWorker(calls, JOBS)] : Array.from({ length: Number(threads) }, threadWorker));
 const result = await JOBS_TIMED[job](crew, opened);
 const seconds = Number(process.hrtime.bigint() - begin) / 1e9;
 const { user, system } = process.cpuUsage();

@@ -24,9 +24,10 @@ globalThis.longest = 0;
 const found = [...document.querySelectorAll('button')].find(it =>
     it.checkVisibility() && buttons.some(text => it.innerText.trim().startsWith(text)));
 if (!found) return 'no button ' + buttons;
-const parts = () => [...document.querySelectorAll('.tally, .say.good')].filter(it => it.checkVisibility());
+const parts = () => [...document.querySelectorAll('.verdict, .say.good')].filter(it => it.checkVisibility());
 const before = new Set(parts());
 found.click();
+document.querySelector('#sheet[open] .btn:not(.main)')?.click();
 while (!parts().some(it => !before.has(it))) {
     if (performance.now() - began > 120000) return 'nothing new: ' + document.body.innerText;
     await new Promise(done => setTimeout(done, 5));
@@ -36,7 +37,7 @@ return [(performance.now() - began) / 1000, globalThis.longest];'''
 # For each work its panel, and the beginning of its button's label.
 WORKS = {
     'check': ('script', ['Check']),
-    'undo': ('script', ['Save a script that takes it back', 'Make the undo script']),
+    'undo': ('script', ['Save…']),
     'save': ('script', ['Apply and save']),
     'publish': ('publish', ['Save as a patcher']),
 }

@@ -14,7 +14,7 @@ KINDS = {
     'pages': ('*.md', 'docs/*.md', 'man/*', 'bench/*.md', 'tests/README.md', 'tests/cases/README.md', 'web/npm/README.md',
               'tools/README.*', 'debian/control', 'debian/copyright'),
     'help and messages': ('crates/cd_args/src/help.rt', 'web/command/*.js', 'web/sentences/*.js'),
-    'the page': ('web/page/texts/english.js',),
+    'the page': ('web/page/texts/english.js', 'web/page/texts/player/english.js'),
 }
 PATTERNS = {
     'stand, for be or occur': r'\b(?:stands?|stood|standing)\b',

@@ -1,8 +1,10 @@
-// Exports the object JOINED that esbuild injects into the page. tools/pack.py provides the files at these paths. In a worker `script` is
-// empty, since a worker starts no others.
+// Exports the object JOINED that esbuild injects into the page. tools/pack.py provides the files at these paths. In a worker `script` and
+// `loader` are empty, since a worker starts no others.
 
 import module from '../module.gz';
 import notices from '../notices.gz';
 import own from '../own.gz';
 
-export const JOINED = { module, notices, own, script: typeof document === 'undefined' ? '' : document.currentScript.textContent };
+const { textContent: script, loader } = typeof document === 'undefined' ? { textContent: '', loader: '' } : document.currentScript;
+
+export const JOINED = { module, notices, own, script, loader };

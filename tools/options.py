@@ -36,7 +36,7 @@ class Option:
 
     @property
     def repeated(self) -> bool:
-        return 'may be given again' in self.does
+        return 'may be repeated' in self.does
 
     @property
     def values(self) -> list[str]:
@@ -94,7 +94,7 @@ def program_of(path: Path) -> Program:
     commands = []
     for name, says in re.findall(r'(?m)^  ([a-z-]+) +(\S.*)$', listed.group(1) if listed else ''):
         text = printed(str(path), name, '--help')
-        found = re.search(r'Status: 0 .*?, 1 (.*), 2 ', ' '.join(text.split()))
+        found = re.search(r'Status: 0 .*?; 1 (.*); 2 ', ' '.join(text.split()))
         commands.append(Command(name, says, forms_in(text, name), options_in(text), found.group(1) if found else ''))
     name = re.search(r'(?m)^Usage: (\w+)', whole)
     return Program(name.group(1) if name else path.name, path, commands, options_in(whole))

@@ -1,7 +1,7 @@
 """Packs a door into one file by esbuild: `pack.py command MODULE OUT` builds cdscript from web/command, and `pack.py page MODULE OUT` builds
 cdpatch.html from web/page. The licence notices are the file NOTICES in the directory of MODULE, or the file that `--notices` names.
 MODULE.txt says which tools built the module. `--web DIRECTORY` names another `web`. joined_command.js and joined_page.js define the object
-JOINED of the packed modules. The bytes depend only on these files and on the versions of esbuild and zlib, which `pack.py --versions` prints.
+JOINED of the packed modules. The page has its script gzipped, and page_loader.js, which starts it. The bytes depend only on these files and on the versions of esbuild and zlib, which `pack.py --versions` prints.
 
 `page.html` has these lines, each once; the policy comes after the first of them, and the last two are its end:
     <meta charset="utf-8">
@@ -27,15 +27,14 @@ import zlib
 from pathlib import Path
 
 TOOLS = Path(__file__).resolve().parent
-LARGEST_PAGE = 520_000
+LARGEST_PAGE = 400_000
 NEEDS = 'cdscript needs node 18 or later'
 # The paths of modules can occur in the output, so esbuild finds all of them under fixed names. It would also use web/tsconfig.json.
 EVERY = ['--bundle', '--charset=utf8', '--legal-comments=none', '--log-level=warning', '--log-limit=0', '--loader:.gz=base64',
          '--tsconfig=none.json', '--preserve-symlinks', '--minify-whitespace']
 COMMAND = ['--platform=node', '--target=node18', '--format=cjs', '--inject:tools/joined_command.js',
            '--footer:js=if (require.main === module) module.exports.start();']
-# esbuild does not know that modules are strict. It keeps line ends in texts: a text with the mark before a patcher's data is refused below,
-# and has to be joined from two.
+# esbuild does not know that modules are strict.
 PAGE = ['--target=es2022', '--format=iife', '--minify-identifiers', '--minify-syntax', "--banner:js='use strict';"]
 # A shell runs the lines up to `exec`, which are a comment for node. Node would treat a closed stream as an empty one.
 SHELL = f"""\
@@ -60,8 +59,10 @@ END = f'<script type="module" src="main.js"></script>\n{DATA}'
 # The text of a key in english.js, which may continue in indented lines.
 TEXT = r'''^export const {} = (['"].*(?:\n    .*)*);$'''
 POLICY_TAG = '<meta http-equiv="Content-Security-Policy" content="'
-POLICY = ("default-src 'none'; script-src '{script}' 'wasm-unsafe-eval'; style-src '{style}'; worker-src blob:; img-src data: blob:; "
-          "connect-src 'none'; form-action 'none'; base-uri 'none'; require-trusted-types-for 'script'; trusted-types cdpatch")
+# The policy has the hashes of two scripts: the loader, which is in the page, and the script that it inflates and starts.
+POLICY = ("default-src 'none'; script-src '{scripts}' 'wasm-unsafe-eval'; style-src '{style}'; worker-src blob:; img-src data: blob:; "
+          "connect-src 'none'; form-action 'none'; base-uri 'none'; require-trusted-types-for 'script'; "
+          "trusted-types cdpatch cdpatch-script")
 
 
 def esbuild(*words: str, at: Path = TOOLS) -> str:
@@ -132,16 +133,18 @@ def hash_of(text: str) -> str:
 def page(parts: Path, made: list[str]) -> str:
     pieces = page_pieces(parts / 'web')
     style = esbuild('web/page/style.css', *EVERY, at=parts)
-    policy = POLICY.format(script='{script}', style=hash_of(style))
-    # The page reproduces its own text from this. The hash of its script cannot be part of the script.
-    own = {'html': pieces, 'policy': policy.split('{script}'), 'made': made, 'licensed': (TOOLS.parent / 'LICENSE').is_file(),
+    if any(text in style.lower() for text in ('</style', '<!--', '\r', '\0', '\ufeff')):
+        sys.exit('pack.py: the style has what could end it, or change on its way')
+    policy = POLICY.format(scripts='{scripts}', style=hash_of(style))
+    # The page reproduces its own text from this. The hashes of its scripts cannot be part of them.
+    own = {'html': pieces, 'policy': policy.split('{scripts}'), 'made': made, 'licensed': (TOOLS.parent / 'LICENSE').is_file(),
            'style': {'size': len(style.encode()), 'sha1': hashlib.sha1(style.encode()).hexdigest()}}
     (parts / 'own.gz').write_bytes(packed(json.dumps(own, ensure_ascii=False).encode()))
     script = esbuild('web/page/main.js', *EVERY, *PAGE, '--inject:tools/joined_page.js', at=parts)
-    if any(text in script.lower() + style.lower() for text in ('</script', '</style', '<!--', '\n<plaintext', '\r', '\0', '\ufeff')):
-        sys.exit('pack.py: the script or the style has what could end it, or change on its way')
-    policy = policy.format(script=hash_of(script))
-    whole = f'{pieces[0]}{policy}{pieces[1]}{style}{pieces[2]}{script}{pieces[3]}'
+    (parts / 'script.gz').write_bytes(packed(script.encode()))
+    loader = esbuild('tools/page_loader.js', *EVERY, *PAGE, at=parts)
+    policy = policy.format(scripts=f"{hash_of(loader)}' '{hash_of(script)}")
+    whole = f'{pieces[0]}{policy}{pieces[1]}{style}{pieces[2]}{loader}{pieces[3]}'
     if len(whole.encode()) > LARGEST_PAGE:
         sys.exit(f'pack.py: the page has {len(whole.encode())} bytes, more than {LARGEST_PAGE}')
     return whole

@@ -30,16 +30,16 @@ class _InMemory:
         self.image = image
         self.new = new
 
-    def read(self, at: int, size: int, hand: int) -> int:
-        ctypes.memmove(hand, self.image.place + at, size)
+    def read(self, at: int, size: int, address: int) -> int:
+        ctypes.memmove(address, self.image.place + at, size)
         return size
 
     def copy(self, at: int, size: int) -> int:
         return size if self.new is self.image else self.write(at, size, self.image.place + at)
 
-    def write(self, at: int, size: int, hand: int) -> int:
+    def write(self, at: int, size: int, address: int) -> int:
         if self.new is not None:
-            ctypes.memmove(self.new.place + at, hand, size)
+            ctypes.memmove(self.new.place + at, address, size)
         return size
 
 

@@ -54,10 +54,10 @@ class _Streams:
                 raise OSError(f'the writer took {taken} of {len(data)} bytes')
             data = data[taken:]
 
-    def read(self, at: int, size: int, hand: int) -> int:
+    def read(self, at: int, size: int, address: int) -> int:
         came = 0
         while came < size and (data := self._some(size - came)):
-            ctypes.memmove(hand + came, data, len(data))
+            ctypes.memmove(address + came, data, len(data))
             came += len(data)
         return came
 
@@ -68,8 +68,8 @@ class _Streams:
             came += len(data)
         return came
 
-    def write(self, at: int, size: int, hand: int) -> int:
-        self._pass_on(ctypes.string_at(hand, size))
+    def write(self, at: int, size: int, address: int) -> int:
+        self._pass_on(ctypes.string_at(address, size))
         return size
 
 

@@ -26,16 +26,16 @@ _FIELDS = struct.Struct(STEP_FORMAT)
 
 class Client(Protocol):
     """Moves the bytes of an image forward, each once. A call returns how many bytes it moved: fewer than `size` only at the end of the
-    image. If it cannot move them, it raises, and the run is abandoned. `hand` is an address in memory."""
+    image. If it cannot move them, it raises, and the run is abandoned. `address` is an address in memory."""
 
-    def read(self, at: int, size: int, hand: int) -> int:
-        """Reads bytes to `hand`."""
+    def read(self, at: int, size: int, address: int) -> int:
+        """Reads bytes to `address`."""
 
     def copy(self, at: int, size: int) -> int:
         """Copies bytes unchanged."""
 
-    def write(self, at: int, size: int, hand: int) -> int:
-        """Writes the bytes at `hand`."""
+    def write(self, at: int, size: int, address: int) -> int:
+        """Writes the bytes at `address`."""
 
 
 def _kept(script: ReadableBuffer) -> ReadableBuffer:
@@ -55,12 +55,12 @@ def run(client: Client, image_size: int, script: ReadableBuffer, base: int, carr
     with Held(_kept(script)) as text:
         count = min(text.size, MOST_PATCHES)
         run_size, entry_size, rooms_size, step_size = map(ctypes.sizeof, (RunStruct, EntryStruct, RoomsStruct, StepStruct))
-        state, entries, hand, rooms, step = map(ctypes.create_string_buffer, (
+        state, entries, sectors, rooms, step = map(ctypes.create_string_buffer, (
             run_size, count * entry_size, SECTORS_IN_HAND * SECTOR_SIZE, rooms_size, step_size))
         library.cdpatch_run_begin(state, text, text.size, base, image_size, RunFlag.CARRY if carry else 0, entries, count)
-        given = (state, done, c_void_p(text.place), c_size_t(text.size), entries, c_size_t(count), hand, c_size_t(SECTORS_IN_HAND),
+        given = (state, done, c_void_p(text.place), c_size_t(text.size), entries, c_size_t(count), sectors, c_size_t(SECTORS_IN_HAND),
                  rooms, step)
-        first, line = ctypes.addressof(hand), memoryview(step)[_FIELDS.size:]
+        first, line = ctypes.addressof(sectors), memoryview(step)[_FIELDS.size:]
         while True:
             library.cdpatch_run_next(*given)
             kind, status, _, _, _, _, at, place, size = _FIELDS.unpack_from(step)

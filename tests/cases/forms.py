@@ -116,7 +116,7 @@ def patched(form, rest):
             Question('check', given, Answer(int(status), text_of(due), None))]
 
 
-def asked(line):
+def questions_of(line):
     """The questions of a line."""
     form, _, rest = line.partition(' ')
     if form in ('list', 'audit'):
@@ -152,5 +152,5 @@ def worked_lines(files=None):
         for number, line in enumerate(Path(file).read_text().splitlines(), 1):
             if line and not line.startswith('#'):
                 first, *others = alternatives(line)
-                questions = asked(first) + [asked(each)[0] for each in others]
+                questions = questions_of(first) + [questions_of(each)[0] for each in others]
                 yield Line(f'{Path(file).name}:{number}', line, questions)

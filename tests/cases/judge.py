@@ -42,24 +42,24 @@ def complaint(call, came, due):
 
 def judged(judge, line):
     """Asks a judge all questions of a line. Returns whether it can answer any of them, and the errors of its first wrong answer."""
-    asked = False
+    is_answered = False
     for call, given, due in line.questions:
         try:
             came = judge.answer(call, given)
         except Exception as fault:
             return line, True, [f'{call} came: {type(fault).__name__}: {short(fault)}']
-        asked = asked or came is not None
+        is_answered = is_answered or came is not None
         if came not in (None, due):
             return line, True, complaint(call, came, due)
-    return line, asked, []
+    return line, is_answered, []
 
 
 def failures(judge, lines, only_first=False):
     """The number of lines that a judge can answer, and the lines that it answers wrong with the errors."""
     count, wrong = 0, []
     with ProcessPoolExecutor(len(os.sched_getaffinity(0))) as pool:
-        for line, asked, reasons in pool.map(partial(judged, judge), lines):
-            count += asked
+        for line, is_answered, reasons in pool.map(partial(judged, judge), lines):
+            count += is_answered
             if reasons:
                 wrong.append((line, reasons))
                 if only_first:

@@ -40,10 +40,10 @@ test('a track of audio between tracks of data is no hole', () => inDirectory(asy
         ' TRACK 03 MODE1/2352\n INDEX 01 00:08:00\n';
     write(room, { image, 'image.cue': sheet });
     const alone = await run(['info', 'image'], { cwd: room });
-    const untested = 'not tested 400: blocks 200 to 599 are not mode1';
-    assert.deepEqual([alone.status, alone.out.split('\n').at(-2)], [0, `${untested}; a cue sheet would say whether they are audio`]);
+    const untested = 'not tested 400: blocks 200 to 599 are';
+    assert.deepEqual([alone.status, alone.out.split('\n').at(-2)], [0, `${untested} not mode1; a cue sheet would say whether they are audio`]);
     const info = await run(['info', 'image.cue'], { cwd: room });
-    assert.deepEqual([info.status, info.out.split('\n').at(-2), info.errors], [0, untested, '']);
+    assert.deepEqual([info.status, info.out.split('\n').at(-2), info.errors], [0, `${untested} audio`, '']);
     assert.equal((await run(['merge', 'image.cue', 'image', 'out'], { cwd: room })).status, 0);
 }));
 

@@ -51,6 +51,7 @@ async function said(room, name) {
 const COUNTS = 'taken 0 damaged 0 disputed 0 different 0';
 const untested = (count, blocks) => `not tested ${count}: blocks ${blocks} are not mode1`;
 const WHAT = '; a cue sheet would say whether they are audio';
+const MODE2 = 'mode2 without codes that show damage';
 
 test('blocks that the volume uses and that are not Mode 1 are lost, at an edge and in any number', () => inDirectory(async room => {
     const disc = await discOf(room, 1000, [['A.BIN', 20, 480], ['B.BIN', 500, 500]]);
@@ -93,11 +94,12 @@ test('tracks that a cue sheet calls audio or Mode 2, and what is Mode 2 througho
     write(room, { 'disc.bin': changed(mode2From(disc, 710), 400, 310, 0x55),
         'disc.cue': sheet(['MODE1/2352', '00:00:00'], ['AUDIO', TRACK_AT_400], ['MODE2/2352', TRACK_AT_710]) });
     const three = await said(room, 'disc.cue');
-    assert.deepEqual([three.status, three.lines.at(-1), three.findings], [[0, 0], untested(310, '400 to 709'), ['0']]);
+    assert.deepEqual([three.status, three.lines.at(-1), three.findings], [[0, 0], 'not tested 310: blocks 400 to 709 are audio', ['0']]);
     assert.match(three.lines[0], /^mode2 310: Mode 2 sectors cannot be audited/);
     assert.deepEqual((await said(room, 'disc.bin')).findings, ['620']);
     const alone = await run(['merge', 'disc.cue', 'disc.bin', 'out'], { cwd: room });
-    assert.deepEqual([alone.status, alone.out, alone.errors], [0, `${COUNTS}\n`, `cdscript: ${untested(620, '400 to 1019')}\n`]);
+    assert.deepEqual([alone.status, alone.out, alone.errors], [0, `${COUNTS}\n`,
+        `cdscript: not tested 310: blocks 400 to 709 are audio\ncdscript: not tested 310: blocks 710 to 1019 are ${MODE2}\n`]);
     write(room, { 'disc.bin': mode2From(disc, 0), 'ps.cue': sheet(['MODE1/2352', '00:00:00']) });
     for (const name of ['disc.bin', 'ps.cue']) {
         const { status, lines, findings } = await said(room, name);
@@ -121,17 +123,18 @@ test('merge names what it did not test and what is not the same in all dumps', (
     const mode2 = mode2From(image, 0);
     write(room, { ps: mode2, 'ps.2': changed(damaged(mode2, 0, [30, 500]), 31, 1, 0) });
     const ps = await run(['merge', 'ps.2', 'ps', 'out'], { cwd: room });
-    assert.deepEqual([ps.status, ps.out], [1, ['30-31 not tested, and not the same in all dumps', 'untested 2, not mode1 and not the same in all dumps',
+    assert.deepEqual([ps.status, ps.out], [1, ['30-30 mode2, not tested, and not the same in all dumps',
+        '31-31 audio, not tested, and not the same in all dumps', 'untested 2, not the same in all dumps: mode2 1, audio 1',
         COUNTS, ''].join('\n')]);
-    assert.match(ps.errors, new RegExp(`\\n?cdscript: ${untested(60, '0 to 59')}${WHAT}\\n$`));
+    assert.ok(ps.errors.endsWith(`cdscript: not tested 1: block 31 is not mode1${WHAT}\ncdscript: not tested 59: blocks 0 to 30 and 32 to 59 are ${MODE2}\n`), ps.errors);
     const same = await run(['merge', 'ps', 'ps', 'same'], { cwd: room });
     assert.deepEqual([same.status, same.out], [0, `${COUNTS}\n`]);
     const mixed = Buffer.concat([image, noise(RAW * 100, 6)]);
     const places = Array.from({ length: 23 }, (_, i) => [62 + 4 * i, 9]);
     write(room, { mixed, 'mixed.2': damaged(mixed, 0, ...places) });
     const { status, out } = await run(['merge', 'mixed.2', 'mixed', 'm'], { cwd: room });
-    const lines = places.slice(0, 20).map(([block]) => `${block}-${block} not tested, and not the same in all dumps`);
-    assert.deepEqual([status, out.split('\n')], [1, [...lines, 'and 3 others', 'untested 23, not mode1 and not the same in all dumps', COUNTS, '']]);
+    const lines = places.slice(0, 20).map(([block]) => `${block}-${block} audio, not tested, and not the same in all dumps`);
+    assert.deepEqual([status, out.split('\n')], [1, [...lines, 'and 3 others', 'untested 23, not the same in all dumps: audio 23', COUNTS, '']]);
 }));
 
 test('a finding is a block, and the blocks of an image that begins before block 0 have the addresses that they say', () => inDirectory(async room => {

@@ -109,7 +109,8 @@ test('a table of texts with new ones is a script', t => inDirectory(async room =
     const rows = out.split('\n').slice(1, -1).map((line, i) => i % 3 === 0 ? `${line}${'abc'.slice(0, 1 + i % 2)}` : line);
     write(room, { list: [HEAD, ...rows, ''].join('\n') });
     const made = await run(['replace', 'image', '--list', 'list', '-o', 'english'], { cwd: room });
-    assert.deepEqual([made.status, made.errors], [0, '']);
+    const glyphs = 'no old text has these characters, so the font of the game may lack them: a in row 2, b in row 5';
+    assert.deepEqual([made.status, made.errors], [0, `cdscript: ${glyphs}\n`]);
     tool(program, ['apply', 'image', 'english', 'out'], { cwd: room });
     assert.notEqual(createHash('sha1').update(read(room, 'out')).digest('hex'), createHash('sha1').update(read(room, 'image')).digest('hex'));
     const again = rowsOf((await run(['texts', 'image', '--csv', '--min', '4', '--in', 'UTF8.BIN', '--encoding', 'utf-8'], { cwd: room })).out.replace(/\r/g, '').replace(/,/g, '\t'));

@@ -57,7 +57,7 @@ test('tracks in one file are looked at together by what takes the whole image', 
     write(room, { 'game.bin': damaged(image, 0, [110, 100]), 'game.cue': cue });
     const { status, out, errors } = await run(['audit', 'game.cue'], { cwd: room });
     assert.deepEqual([status, out, errors], [1, '110 edc p=1 q=1\nsectors 125 mode1 50 damaged 1 tail 0\n', '']);
-    assert.match((await run(['info', 'game.cue'], { cwd: room })).out, /\nbase 0\n(.*\n)+mode1 50 damaged 1 address 0\nnot tested 75: blocks 30 to 104 are not mode1\n$/);
+    assert.match((await run(['info', 'game.cue'], { cwd: room })).out, /\nbase 0\n(.*\n)+mode1 50 damaged 1 address 0\nnot tested 75: blocks 30 to 104 are audio\n$/);
     // A place may be in any of them; a text is searched in one.
     const said = async (...words) => (await run(['replace', 'game.cue', ...words, '--encoding', 'hex'], { cwd: room })).errors.includes(TRACK_3);
     assert.deepEqual([await said('106', '0', '00', '01'), await said('0123456789ABCDEF', '00')], [false, true]);

@@ -6,7 +6,7 @@ import { core, diceOf, readerOf } from './common.mjs';
 import { localCrew } from './crews.mjs';
 import { rawOf } from './discs.mjs';
 
-const { stretchesOf, tableOfTexts } = await core('texts/all_texts.js');
+const { allTexts, stretchesOf } = await core('texts/all_texts.js');
 const { encodeText } = await core('encodings/encoding.js');
 const { encodingOf } = await core('encodings/encodings.js');
 
@@ -34,12 +34,12 @@ test('a track is looked at file by file, and what lies between files by itself',
 
 test('a row says where a text is and how much room it has, and the progress ends with all sectors', async () => {
     const [track, told, texts] = [someTrack(), [], []];
-    const how = { asked: {}, progress: (done, all) => { told.push([done, all]); } };
-    for await (const { text } of tableOfTexts(localCrew(), track, stretchesOf(track, FILES), how)) texts.push(text);
+    const how = { options: {}, progress: (done, all) => { told.push([done, all]); } };
+    for await (const some of allTexts(localCrew(), track, stretchesOf(track, FILES), how)) texts.push(...some);
     // A text ends with a 00. The bytes after it, up to the end of its file or of the gap between files, are its room.
-    const rows = [[51, 100, 10, 3000 - 100 - 1, 'CP932', '/a+100', 'はじめから', ''], [54, 5, 10, 2 * 2048 - 5 - 1, 'CP932', '-', 'つづきから', '']];
-    const head = ['block', 'offset', 'bytes', 'room', 'encoding', 'file', 'text', 'new'];
-    assert.equal(texts.join(''), [head, ...rows].map(row => `${row.join('\t')}\n`).join(''));
+    assert.deepEqual(texts, [
+        { block: 51, offset: 100, bytes: 10, room: 3000 - 100 - 1, encoding: 'CP932', file: '/a+100', text: 'はじめから' },
+        { block: 54, offset: 5, bytes: 10, room: 2 * 2048 - 5 - 1, encoding: 'CP932', file: '-', text: 'つづきから' }]);
     assert.deepEqual(told.at(-1), [SECTORS, SECTORS]);
     assert.ok(told.every(([done, all], i) => all === SECTORS && (i === 0 || done >= told[i - 1][0])), `${told}`);
 });
@@ -68,7 +68,7 @@ function linesIn(name, size, lineEnd, seed = 1) {
     return { bytes: Buffer.concat(parts), places };
 }
 
-/** The table's rows for a file of these bytes. */
+/** The texts of a file of these bytes. */
 async function rowsIn(bytes, name, lines = false) {
     const user = Buffer.alloc(2048 * Math.ceil(bytes.length / 2048));
     user.set(bytes);
@@ -76,10 +76,10 @@ async function rowsIn(bytes, name, lines = false) {
     const asked = { encoding: JAPANESE.includes(name) ? undefined : name, lines };
     const out = [];
     const file = [{ path: '/a', before: 0, first: 0, size: bytes.length }];
-    for await (const { text } of tableOfTexts(localCrew(), track, file, { asked, least: lines ? undefined : 1 })) out.push(text);
-    return out.join('').split('\n').slice(1, -1).map(line => line.split('\t')).map(cells => {
-        const start = Number(cells[5].split('+').pop());
-        return { start, end: start + Number(cells[2]), room: Number(cells[3]), text: cells[6] };
+    for await (const some of allTexts(localCrew(), track, file, { options: asked, least: lines ? undefined : 1 })) out.push(...some);
+    return out.map(({ bytes: size, room, file: place, text }) => {
+        const start = Number(place.split('+').pop());
+        return { start, end: start + size, room, text };
     });
 }
 

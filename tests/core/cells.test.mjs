@@ -8,7 +8,8 @@ const { MARKS, Table, rowText } = await core('texts/cells.js');
 const { assertMeant, cellOf, codesLeftOut, shownCell, unitsOfCell } = await core('texts/codes.js');
 const { fillingAfter } = await core('encodings/encoding.js');
 const { encodingOf, tableOf, textOfFile } = await core('encodings/encodings.js');
-const { listRows, replaceList } = await core('tasks/list.js');
+const { replaceList } = await core('tasks/list.js');
+const { listRows } = await core('tasks/list_rows.js');
 const { longTextOf } = await core('texts/long_file.js');
 
 const rowsOf = (text, mark = MARKS.find(it => text.includes(it)) ?? '\t') => [...new Table(text, mark).rows()];
@@ -108,8 +109,8 @@ test('codes in a cell are their bytes, and a cell is read as the bytes from whic
 test('a list has the rows with a new text, by the names of its columns', async () => {
     const list = 'New,Offset,block,text,note\nx,5,1,old,\n,6,1,other,\ny,+7,1,"a,b",z\n';
     const rows = await listed(list);
-    assert.deepEqual(rows, [{ number: 2, block: 1, offset: 5, room: -1, encoding: '', text: 'old', fresh: 'x', fault: null },
-        { number: 4, block: 1, offset: -1, room: -1, encoding: '', text: 'a,b', fresh: 'y', fault: null }]);
+    const shared = { list: '', unit: 'row', place: '', block: 1, room: -1, encoding: '', fill: '', fault: null, isFuzzy: false, isInFile: false };
+    assert.deepEqual(rows, [{ ...shared, number: 2, offset: 5, text: 'old', fresh: 'x' }, { ...shared, number: 4, offset: -1, text: 'a,b', fresh: 'y' }]);
     const more = await listed(list, ({ offset }) => offset === 6);
     assert.deepEqual(more.map(({ number, fresh }) => [number, fresh]), [[2, 'x'], [3, ''], [4, 'y']]);
     assert.deepEqual(await listed(list, () => false), rows);
@@ -132,7 +133,7 @@ test('of rows in one block that can not be patched each is left by its own numbe
     sectors[2352 + 2351] ^= 1;
     const image = { name: 'image', base: 0, sectors: 3, reader: readerOf(sectors) };
     const rows = [[2, 0, 4], [3, 1, 4], [4, 1, 90], [7, 2, 4], [8, 2, 2047]].map(([number, block, offset]) =>
-        ({ number, block, offset, room: -1, encoding: '', text: 'A', fresh: 'B', fault: null }));
+        ({ list: '', unit: 'row', number, place: '', block, offset, room: -1, encoding: '', text: 'A', fresh: 'B', fault: null }));
     const made = list => replaceList(calls, image, list, () => [encodingOf('CP932')], null);
     const damaged = { code: 'replace/damaged', facts: { block: 1 } };
     const { parts, left } = await made(rows);
@@ -142,7 +143,7 @@ test('of rows in one block that can not be patched each is left by its own numbe
     assert.deepEqual((await made(beyond)).left, [{ text: beyond[0], why: { code: 'replace/no-block', facts: { first: 0, last: 2 } } },
         { text: beyond[1], why: { code: 'list/no-place', facts: {} } }]);
     const met = [[8, 4], [2, 0], [5, 3]].map(([number, offset]) => ({ ...rows[0], number, offset, text: 'AAAA', fresh: 'BBBB' }));
-    assert.deepEqual((await made(met)).left, [{ text: met[2], why: { code: 'list/overlaps', facts: { row: 2 } } }]);
+    assert.deepEqual((await made(met)).left, [{ text: met[2], why: { code: 'list/overlaps', facts: { row: met[1] } } }]);
 });
 
 test('what fills up the room of a text is one byte over and over, in whole spaces, but for the 00 that ends the text', () => {
@@ -180,7 +181,7 @@ test('the error of a formula and a mistyped code are nothing that somebody meant
 
 test('codes that new texts leave out are told by number, each once, with the first rows', async () => {
     const left = async (rows, name = 'CP932') => (await codesLeftOut(rows.map(([text, fresh], i) => ({ number: i + 2, encoding: '', text, fresh })),
-        () => [encodingOf(name)])).map(({ code, count, rows: all, first }) => [code, count, all, ...first]);
+        () => [encodingOf(name)])).map(({ code, count, rows: all, first }) => [code, count, all, ...first.map(({ number }) => number)]);
     assert.deepEqual(await left([['a{0D}{0A}b{0D}{0A}c{0D}{0A}', 'A{0D0A}B'], ['{03}', '{04}'], ['x', 'y'], ['{00}{00}', '{0000}']]),
         [['0D', 2, 1, 2], ['0A', 2, 1, 2], ['03', 1, 1, 3]]);
     assert.deepEqual(await left(Array.from({ length: 8 }, () => ['{0A}', 'x'])), [['0A', 8, 8, 2, 3, 4, 5, 6]]);

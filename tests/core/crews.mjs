@@ -3,23 +3,23 @@
 import { Worker } from 'node:worker_threads';
 import { calls, core, module } from './common.mjs';
 
-const { Crew, localHand } = await core('crew/crew.js');
+const { Crew, localWorker } = await core('crew/crew.js');
 const { JOBS } = await core('jobs/jobs.js');
 
 /** A crew that works in this thread. */
-export const localCrew = (table = JOBS) => new Crew([localHand(calls, table)]);
+export const localCrew = (table = JOBS) => new Crew([localWorker(calls, table)]);
 
 /** Runs `use` with a crew of threads, and ends the threads afterwards. */
 export async function withThreads(count, use) {
     const workers = Array.from({ length: count }, () => new Worker(new URL('worker.mjs', import.meta.url), { workerData: module }));
     try {
-        return await use(new Crew(workers.map(threadHand)));
+        return await use(new Crew(workers.map(threadWorker)));
     } finally {
         await Promise.all(workers.map(worker => worker.terminate()));
     }
 }
 
-function threadHand(worker) {
+function threadWorker(worker) {
     const hand = { post: (message, transfer) => worker.postMessage(message, transfer) };
     worker.on('message', reply => hand.onreply(reply));
     worker.on('error', error => hand.onfault(error));

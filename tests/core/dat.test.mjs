@@ -49,6 +49,7 @@ test('several lists are one', async () => {
     for (const [size, code] of [[7, 'dat/only-size'], [9, 'dat/only-size'], [5, 'dat/no-size'], [8, 'dat/no-size']]) {
         assert.deepStrictEqual(dumps.remarkOfOther(size), { code, facts: {} });
     }
+    assert.deepStrictEqual([7, 9, 8].map(size => dumps.namesOfSize(size)), [['first.bin'], ['early.bin', 'third.bin'], []]);
 });
 
 test('what XML may have is read: > and / in names, CDATA, long comments, declared elements', async () => {

@@ -103,8 +103,8 @@ async function disc(t, path) {
 
 /** The script that replaces a file. */
 const replaced = (it, fresh, how = {}, crew = localCrew()) => replacedBy(it, readerOf(fresh, how.most ?? Infinity), how, crew);
-const replacedBy = ({ image, file: { names, extents } }, wanted, { fill, ...how }, crew = localCrew()) =>
-    replaceFile({ calls, crew }, { image, part: image, contents: async () => ({ volume: names }) }, { entries: extents, wanted, fill }, how);
+const replacedBy = ({ image, file: { names, extents } }, contents, { fill, ...how }, crew = localCrew()) =>
+    replaceFile({ calls, crew }, { image, part: image, contents: async () => ({ volume: names }) }, { entries: extents, newFile: contents, fill }, how);
 
 test('a file becomes another of its length, and nothing else changes', async t => {
     const it = await disc(t, '/GAME.DAT');

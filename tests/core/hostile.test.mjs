@@ -2,11 +2,13 @@
 
 import assert from 'node:assert/strict';
 import { test } from 'node:test';
-import { calls, core, diceOf, encoded } from './common.mjs';
+import { calls, core, diceOf, encoded, readerOf } from './common.mjs';
 
 const { Table } = await core('texts/cells.js');
+const { entriesOfPo } = await core('texts/po_reader.js');
 const { codesLeftOut } = await core('texts/codes.js');
-const { listRows, replaceList } = await core('tasks/list.js');
+const { replaceList } = await core('tasks/list.js');
+const { listRows, rowsOfLists } = await core('tasks/list_rows.js');
 const { encodingOf, tableOf } = await core('encodings/encodings.js');
 const { endOfMatch } = await core('texts/find.js');
 
@@ -53,9 +55,8 @@ test('no quotes, nested or without an end, are looked at more than a few times',
 test('a row of too many cells, and too many rows, are refused', async () => {
     assert.throws(() => cellsIn(`a,b\n${','.repeat(50 << 20)}`, ','), { name: 'Fault', code: 'list/too-many-cells', facts: { row: 2, most: 1000 } });
     assert.equal(cellsIn(`a,b\n${','.repeat(999)}\n`, ','), 1002);
-    const rows = 'block\toffset\ttext\tnew\n' + '0\t0\ta\tb\n'.repeat(1000001);
-    const read = async () => { for await (const row of listRows(rows)) assert.equal(row.text, 'a'); };
-    await assert.rejects(read(), { code: 'list/too-many-rows', facts: { most: 1000000 } });
+    const rows = `${`#:${' 1+1'.repeat(1000)}\n`.repeat(1000)}msgid "a"\nmsgstr "b"\n\n#: 2+2\nmsgid "a"\nmsgstr "b"\n`;
+    await assert.rejects(rowsOfLists([{ name: 'list', reader: readerOf(encoded(rows)) }]), { code: 'list/too-many-rows', facts: { most: 1000000 } });
 });
 
 test('a list of many columns is refused, and a row of many codes is looked at once', async () => {
@@ -66,12 +67,17 @@ test('a list of many columns is refused, and a row of many codes is looked at on
     for await (const row of listRows(most)) assert.fail(row);
     const coded = (code, count) => ({ number: 2, encoding: '', text: code.repeat(count), fresh: '{01}'.repeat(count) });
     const left = await codesLeftOut([coded('{00}', 220000), coded('{00}', 16000)], () => [encodingOf('CP932')]);
-    assert.deepEqual(left, [{ code: '00', count: 16000, rows: 1, first: [2] }]);
+    assert.deepEqual(left.map(({ code, count, rows, first }) => [code, count, rows, first.length]), [['00', 16000, 1, 1]]);
     assert.ok(process.cpuUsage().user - began < 1e6);
 });
 
-test('others get a turn while a list is read, sorted and replaced, and its signal ends it', async () => {
-    const list = `block\toffset\ttext\tnew\n${Array.from({ length: 20000 }, (_, i) => `${i * 7919 % 60013}\t0\ta\tb\n`).join('')}${'0\t0\ta\t\n'.repeat(4e5)}`;
+/** Long lists with 20,000 rows that have new texts. */
+const LONG_LISTS = {
+    'a table': `block\toffset\ttext\tnew\n${Array.from({ length: 20000 }, (_, i) => `${i * 7919 % 60013}\t0\ta\tb\n`).join('')}${'0\t0\ta\t\n'.repeat(4e5)}`,
+    'a PO file': `${Array.from({ length: 20000 }, (_, i) => `#: /A+1 ${i * 7919 % 60013}+0\nmsgid "a"\nmsgstr "b"\n\n`).join('')}${'msgid "a"\nmsgstr ""\n'.repeat(4e5)}`,
+};
+
+for (const [name, list] of Object.entries(LONG_LISTS)) test(`others get a turn while ${name} is read, sorted and replaced, and its signal ends it`, async () => {
     let turns = 0;
     const timer = setInterval(() => { turns += 1; });
     const signal = { aborted: false };
@@ -88,6 +94,22 @@ test('others get a turn while a list is read, sorted and replaced, and its signa
     } finally {
         clearInterval(timer);
     }
+});
+
+test('a PO file gives way after each part of it, whatever is in it', () => {
+    const size = 1 << 22;
+    const parts = { comments: '# a comment\n', 'obsolete entries': '#~ msgid "a"\n', strings: '"ab"\n', 'long strings': `"${'\\n'.repeat(1 << 17)}"\n`, 'long comments': `#${'a'.repeat(1 << 17)}\n`,
+        references: '#: 1+1\n', 'empty lines': '\n' };
+    for (const [name, part] of Object.entries(parts)) {
+        const list = `msgid "a"\nmsgstr "b"\n${part.repeat(name === 'references' ? 1e6 : size / part.length)}`;
+        let count = 0;
+        for (const it of entriesOfPo(list)) count += Number(it === null);
+        assert.ok(count > list.length / (1 << 19) - 2, `${name}: ${count} times in ${list.length} characters`);
+    }
+    const most = `${'#: 1+1\n'.repeat(1000001)}msgid "a"\nmsgstr "b"\n`;
+    assert.throws(() => [...entriesOfPo(most)], { code: 'po/many-places' });
+    const long = `msgid "a"\nmsgstr "${'b'.repeat(1 << 19)}"\n`;
+    assert.throws(() => [...entriesOfPo(long)], { code: 'po/long-line' });
 });
 
 /** The result of replacing these rows, and the number of characters that the encoding was asked for. */

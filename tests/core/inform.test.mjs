@@ -75,19 +75,19 @@ test('tracks of one file are surveyed together, and each by itself if their addr
     const sector = (block, count) => calls.encodeBlocks(block, new Uint8Array(USER * count));
     const sheet = encoded('FILE "game.bin" BINARY\n TRACK 01 MODE1/2352\n  INDEX 01 00:00:00\n TRACK 02 MODE1/2352\n  INDEX 01 00:04:00\n');
     const seen = async (...parts) => surveyedTracks(await open({ 'game.cue': sheet, 'game.bin': Buffer.concat(parts) }))
-        .map(({ number, isWhole, image: { base, sectors }, mode1Tracks }) => ({ number, isWhole, base, sectors, mode1Tracks }));
+        .map(({ number, isWhole, image: { base, sectors }, sheetTracks }) => ({ number, isWhole, base, sectors, sheetTracks }));
     const [first, second] = [{ first: 0, last: 299 }, { first: 300, last: 349 }];
     assert.deepEqual(await seen(sector(0, 300), sector(300, 50)),
-        [{ number: 1, isWhole: true, base: 0, sectors: 350, mode1Tracks: [first, second] }]);
+        [{ number: 1, isWhole: true, base: 0, sectors: 350, sheetTracks: { mode1: [first, second], mode2: [] } }]);
     const own = { first: 300 + BASE, last: 349 + BASE };
     assert.deepEqual(await seen(sector(0, 300), sector(300 + BASE, 50)),
-        [{ number: 1, isWhole: false, base: 0, sectors: 300, mode1Tracks: [first] },
-            { number: 2, isWhole: false, base: 300 + BASE, sectors: 50, mode1Tracks: [own] }]);
+        [{ number: 1, isWhole: false, base: 0, sectors: 300, sheetTracks: { mode1: [first], mode2: [] } },
+            { number: 2, isWhole: false, base: 300 + BASE, sectors: 50, sheetTracks: { mode1: [own], mode2: [] } }]);
 });
 
 test('the tracks of the cue sheet are where another base puts them', async () => {
     const one = sheetOf(['game.bin', ['MODE1/2352', '00:00:00']]);
     const disc = await open({ 'one.cue': one, 'game.bin': image() });
-    const { mode1Tracks, isAlone } = surveyedTrack(openTrack(disc, { base: BASE }));
-    assert.deepEqual([mode1Tracks, isAlone], [[{ first: BASE, last: BASE + SECTORS - 1 }], true]);
+    const { sheetTracks, isAlone } = surveyedTrack(openTrack(disc, { base: BASE }));
+    assert.deepEqual([sheetTracks, isAlone], [{ mode1: [{ first: BASE, last: BASE + SECTORS - 1 }], mode2: [] }, true]);
 });

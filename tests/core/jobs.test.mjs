@@ -7,7 +7,7 @@ import { answersOf, localCrew, withThreads } from './crews.mjs';
 
 const { Fault } = await core('faults.js');
 const { passUser } = await core('tasks/convert.js');
-const { Crew, UNREAD, localHand, serving, transfersOf } = await core('crew/crew.js');
+const { Crew, UNREAD, localWorker, serving, transfersOf } = await core('crew/crew.js');
 const { JOBS } = await core('jobs/jobs.js');
 const { addToRuns } = await core('sectors/runs.js');
 const { findIn, joinFound, sectorsBeyond } = await core('texts/find.js');
@@ -176,7 +176,7 @@ test('a fault that a worker meets comes with its code and what is known', async 
 
 test('a worker that ends is an error of this job and of the next', async () => {
     const hand = new SlowHand();
-    const crew = new Crew([hand, localHand(calls, JOBS)]);
+    const crew = new Crew([hand, localWorker(calls, JOBS)]);
     const job = answersOf(crew, 'user', [readerOf(small)], {}, { step: 3 });
     await turn();
     hand.onfault(new Error('the worker has ended'));

@@ -7,7 +7,7 @@ import { calls, core, decoded, diceOf, newCalls } from './common.mjs';
 const { ScriptModel, lastBlockOf, writersIn } = await core('script/model.js');
 const { firstLinesOf } = await core('script/block_lines.js');
 const { faultyWord, lacksDigit, wordsOf } = await core('script/line_words.js');
-const { linesGivingWay, linesGivingWayInTurns, mergedInTurns, mergedLines } = await core('script/merge_lines.js');
+const { replacedLines, replacedLinesInTurns, mergedInTurns, mergedLines } = await core('script/merge_lines.js');
 const { isMeantAsScript, isScript } = await core('script/script_start.js');
 const { CONTENT, VERB } = await core('module/records.js');
 
@@ -180,10 +180,10 @@ test('lines that are merged in turns are those that are merged at once, and a si
         const incoming = Array.from({ length: 100 }, () => set('42', 1 + dice(8)));
         const isMade = ({ number }) => number % 3 === 0;
         assert.deepEqual(await mergedInTurns(script, incoming, isMade), mergedLines(script, incoming, isMade));
-        assert.deepEqual(await linesGivingWayInTurns(script, incoming, isMade), linesGivingWay(script, incoming, isMade));
+        assert.deepEqual(await replacedLinesInTurns(script, incoming, isMade), replacedLines(script, incoming, isMade));
     }
     const script = new ScriptModel(calls, 'cdpatch 1\nset 1 0 4141 was 0000\n');
-    for (const merge of [mergedInTurns, linesGivingWayInTurns]) {
+    for (const merge of [mergedInTurns, replacedLinesInTurns]) {
         const signal = { aborted: false };
         const endLater = () => {
             for (const began = Date.now(); Date.now() < began + 60;);

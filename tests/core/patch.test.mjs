@@ -7,7 +7,7 @@ import { calls, core, decoded, diceOf, encoded, joinedPieces, newCalls, readerOf
 const { Refusal, readScript } = await core('script/script.js');
 const { Part, readLines } = await core('script/long_script.js');
 const { STEP } = await core('module/records.js');
-const { NEAR_WRITTEN } = await core('script/patch_run.js');
+const { BETWEEN_WRITTEN } = await core('script/patch_run.js');
 const { applyPatches, passPatched } = await core('script/patches.js');
 const { PieceKeeper, bytesOfPieces } = await core('bytes.js');
 const { pieceReader } = await core('piece_reader.js');
@@ -143,7 +143,7 @@ test('what was read between patches goes out with them as far as is asked for', 
         assert.ok(reader.reads.every(({ at, length }, i, all) => i === 0 || at >= all[i - 1].at + all[i - 1].length), 'a byte read twice');
         return { slices: pieces.filter(it => !it.bytes).length, pieces: pieces.length };
     };
-    const [few, all] = [await sizes({}), await sizes({ near: NEAR_WRITTEN })];
+    const [few, all] = [await sizes({}), await sizes({ mostBetween: BETWEEN_WRITTEN })];
     assert.ok(few.slices > 170 && all.slices <= 2 && all.pieces < 40, JSON.stringify({ few, all }));
 });
 

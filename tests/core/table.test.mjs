@@ -23,8 +23,8 @@ async function exported(opened, options, watch) {
 /** Imports a table with these rows. */
 function imported(opened, rows, options = {}) {
     const text = [['block', 'offset', 'text', 'new'], ...rows].map(cells => `${cells.join('\t')}\n`).join('');
-    const list = { name: 'texts.tsv', reader: readerOf(encoded(text)) };
-    return importTable(engine, opened, { list, encodings: SEARCHED, isAsked: false, partial: true, ...options });
+    const lists = [{ name: 'texts.tsv', reader: readerOf(encoded(text)) }];
+    return importTable(engine, opened, { lists, encodings: SEARCHED, isAsked: false, partial: true, ...options });
 }
 
 const scriptText = ({ script }) => decoded(Buffer.concat(script.pieces));
@@ -35,11 +35,31 @@ test('a table has the texts of a track in the order of its files, or those of so
     const { text, count } = await exported(opened, {});
     const rows = text.split('\n').filter(row => row.includes(known)).map(row => row.split('\t'));
     assert.deepEqual(rows.map(([block, offset, , , , file]) => [block, offset, file]), [['31', '2043', '/BIG+4091'], ['36', '100', '-']]);
-    const some = await exported(opened, { paths: ['/BIG'], csv: true });
+    const some = await exported(opened, { paths: ['/BIG'], form: 'csv' });
     assert.deepEqual([some.text.startsWith('\uFEFFblock,offset,'), some.text.split(known).length, some.count < count], [true, 2, true]);
     assert.equal((await exported(opened, { least: known.length + 1 })).text.includes(known), false);
     await assert.rejects(exported(opened, { paths: ['/BIG', '/BIGGER'] }), { code: 'no-file', facts: { path: '/BIGGER' } });
     await assert.rejects(exported(opened, {}, { signal: { aborted: true } }), { code: 'cancelled' });
+});
+
+test('other tasks get turns between the new texts of an export, and Cancel ends it', async () => {
+    const { opened } = await openedDisc(undefined, encodeText(encodingOf('CP932'), 'はじめから\0つづきから\0スタート'));
+    for (const form of ['tsv', 'po']) {
+        const [signal, turns] = [{ aborted: false }, { all: 0 }];
+        const timer = setInterval(() => { turns.all += 1; }, 1);
+        const freshOf = () => {
+            for (const end = Date.now() + 60; Date.now() < end;);
+            return '';
+        };
+        const { count } = await exported(opened, { form, freshOf }, { signal });
+        clearInterval(timer);
+        assert.ok(turns.all >= count - 1, `${turns.all} turns for ${count} texts`);
+        const stopping = () => {
+            signal.aborted = true;
+            return '';
+        };
+        await assert.rejects(exported(opened, { form, freshOf: stopping }, { signal }), { code: 'cancelled' });
+    }
 });
 
 test('new texts become a finished script, with a line for each extent', async () => {
@@ -70,5 +90,5 @@ test('rows without a new text that the script writes already have the lines of t
     assert.deepEqual([made.count, made.script, made.left], [0, null, []]);
     assert.deepEqual(linesMade(made.old), ['set 36 100 7072657373207374617274 was 7072657373207374617274']);
     const coded = await imported(opened, [[36, 100, `${TEXT}{00}`, 'PRESS START']]);
-    assert.deepEqual(coded.codes, [{ code: '00', count: 1, rows: 1, first: [2] }]);
+    assert.deepEqual(coded.codes, [{ code: '00', count: 1, rows: 1, first: [{ list: '', unit: 'row', number: 2, place: '' }] }]);
 });

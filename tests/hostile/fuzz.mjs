@@ -15,7 +15,7 @@ const { sheetOf, tracksOf } = await core('disc/cue.js');
 const { KnownDumps } = await core('disc/dat.js');
 const { filesOf } = await core('iso/files.js');
 const { tableOf } = await core('encodings/encodings.js');
-const { listRows } = await core('tasks/list.js');
+const { listRows, rowsOfLists } = await core('tasks/list_rows.js');
 const { readScript } = await core('script/script.js');
 const { checksum, readPatcherText } = await page('player/patcher.js');
 
@@ -96,6 +96,12 @@ export const KINDS = {
             'block,offset,text,new\n2,3,"a,b",c\n'],
         words: ['\t', '"', '""', ',', '\n', '\r\n', '999999999', '-1', '\0', '\u2028'],
         read: async bytes => { for await (const row of listRows(decoded(bytes))) void row; },
+    },
+    po: {
+        seeds: ['# a\nmsgid ""\nmsgstr ""\n"Content-Type: text/plain; charset=UTF-8\\n"\n\n#. room 9 bytes, CP932, fill {20}\n#: /A+4 28+26 -+5:EUC-JP\n#, fuzzy, max-length:9\n' +
+            '#| msgid "x"\nmsgctxt "28+26"\nmsgid "a\\n"\n"b"\nmsgid_plural "c"\nmsgstr[0] "d\\"" "\\303\\251"\nmsgstr[1] ""\n\n#~ msgid "e"\n#~ msgstr "f"\n#: 30+0\nmsgid "g"\nmsgstr "h"\n'],
+        words: ['"', '\\', '\n', '\r', '#', '#:', '#~ ', '#, fuzzy', 'msgid ', 'msgstr[9999999999] ', 'domain "a"', '\\377', '\\x', '\u2068', ' 1+1', 'charset=EUC-KR', '\0'],
+        read: bytes => rowsOfLists([{ name: 'a.po', reader: { size: bytes.length, read: async (at, length) => bytes.subarray(at, at + length) } }], () => true),
     },
     dat: {
         seeds: ['<?xml version="1.0"?><!DOCTYPE datafile><datafile><header><name>a</name></header><!-- c --><game name="&quot;g&#x41;">' +

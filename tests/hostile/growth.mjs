@@ -10,13 +10,14 @@ const { sheetOf } = await core('disc/cue.js');
 const { KnownDumps } = await core('disc/dat.js');
 const { fileOrder } = await core('iso/file_order.js');
 const { filesOf } = await core('iso/files.js');
-const { Crew, localHand } = await core('crew/crew.js');
+const { Crew, localWorker } = await core('crew/crew.js');
 const { JOBS } = await core('jobs/jobs.js');
 const { replaceFile } = await core('tasks/replace_file.js');
 const { readScript } = await core('script/script.js');
 const { codesLeftOut } = await core('texts/codes.js');
 const { encodingOf, tableOf } = await core('encodings/encodings.js');
-const { listRows, replaceList } = await core('tasks/list.js');
+const { replaceList } = await core('tasks/list.js');
+const { listRows, rowsOfLists } = await core('tasks/list_rows.js');
 const { ScriptModel } = await core('script/model.js');
 const { mergedLines } = await core('script/merge_lines.js');
 const { readPatcherText } = await page('player/patcher.js');
@@ -41,6 +42,14 @@ const listed = list => async () => {
     for await (const row of listRows(list)) void row;
 };
 
+const PO_HEAD = 'msgid ""\nmsgstr ""\n"Content-Type: text/plain; charset=UTF-8\\n"\n\n#. room 9 bytes, CP932\n#: 28+0\nmsgid "a"\nmsgstr "b"\n\n';
+
+/** Reads all rows of a PO file with these lines after its first entry. */
+function listedPo(lines) {
+    const bytes = encoded(`${PO_HEAD}${lines}`);
+    return () => rowsOfLists([{ name: 'a.po', reader: { size: bytes.length, read: async (at, length) => bytes.subarray(at, at + length) } }]);
+}
+
 /** Replaces the rows of a list in a small image. */
 function replaced(list) {
     const reader = readerOfUser(encoded('A'.repeat(4 * USER)));
@@ -53,7 +62,7 @@ function replaced(list) {
 
 /** Counts the codes that the new text of a row leaves out. */
 function counted(text, fresh) {
-    const row = { number: 2, block: 0, offset: 0, room: -1, encoding: '', text, fresh };
+    const row = { list: '', unit: 'row', number: 2, place: '', block: 0, offset: 0, room: -1, encoding: '', text, fresh };
     return () => codesLeftOut([row], () => [CP932]);
 }
 
@@ -77,7 +86,7 @@ function replacedParts(count) {
         const names = { entries, files: entries, udf: false, own: new Map(), tables: [] };
         const image = { base: 0, reader, sectors };
         const opened = { image, part: image, contents: async () => ({ volume: names }) };
-        await replaceFile({ calls, crew: new Crew([localHand(calls, JOBS)]) }, opened, { entries, wanted: empty });
+        await replaceFile({ calls, crew: new Crew([localWorker(calls, JOBS)]) }, opened, { entries, newFile: empty });
     };
 }
 
@@ -97,6 +106,15 @@ export const GROWTH = {
     'a long text': size => replaced(`${HEAD}0\t0\t${'A'.repeat(size)}\t${'B'.repeat(size)}\n`),
     'a row of codes': size => counted('{00}'.repeat(size), '{01}'.repeat(size)),
     'a row of codes in one': size => counted(`{${'00'.repeat(size)}}`, `{${'01'.repeat(size)}}`),
+    'a PO file of entries': size => listedPo(times(size, i => `#. room 9 bytes, CP932\n#: /A+1 ${i}+7\nmsgid "a ${i}"\nmsgstr "b"\n\n`)),
+    'a PO file of comments': size => listedPo('# a\n#. b\n#| msgid "c"\n#~ msgid "d"\n'.repeat(size)),
+    'a PO file of references': size => listedPo(`${times(size, i => `#: /A+1 ${i}+7\n`)}msgid "a"\nmsgstr "b"\n`),
+    'a PO file of references on one line': size => listedPo(`#:${times(size, i => ` ${i}+7`)}\nmsgid "a"\nmsgstr "b"\n`),
+    'a PO file of strings': size => listedPo(`msgid "a"\nmsgstr ""\n${'"bc"\n'.repeat(4 * size)}`),
+    'a PO file of strings on one line': size => listedPo(`msgid "a"\nmsgstr ${'"b"'.repeat(4 * size)}\n`),
+    'a PO file of escapes': size => listedPo(`msgid "a"\nmsgstr "${'\\n\\\\\\101'.repeat(size)}"\n`),
+    'a PO file of quotes and backslashes': size => listedPo(`msgid "a"\nmsgstr "${'\\\\'.repeat(4 * size)}\\"${'\\"'.repeat(4 * size)}\n`),
+    'a PO file of spaces and commas': size => listedPo(`#, ${' , '.repeat(4 * size)}\n#, ${' '.repeat(4 * size)}\nmsgid "a"\nmsgstr "b"\n`),
     'a table': size => () => tableOf(encoded(times(size, i => `${(0x8000 + i).toString(16)}=x${i}\n`))).text(new Uint8Array(9)),
     'a table of another tool': size => () => tableOf(encoded(`41=A\n${'@JP\n// a\n   \n'.repeat(size)}`)),
     'a table with spaces': size => () => tableOf(encoded(`41=A\n${' '.repeat(size)}B\n`)),

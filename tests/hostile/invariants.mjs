@@ -12,7 +12,8 @@ const { stretchesOf } = await core('texts/all_texts.js');
 const { rowText } = await core('texts/cells.js');
 const { cellOf, unitsOfCell } = await core('texts/codes.js');
 const { ENCODINGS, SEARCHED, tableOf } = await core('encodings/encodings.js');
-const { listRows, replaceList } = await core('tasks/list.js');
+const { replaceList } = await core('tasks/list.js');
+const { listRows } = await core('tasks/list_rows.js');
 
 const USER = 2048;
 const SECTORS = 40;
@@ -134,8 +135,8 @@ async function readCell(bytes) {
         assert.doesNotMatch(cell, /^[=+\-@\t\r]/, `a spreadsheet runs the cell ${JSON.stringify(cell)} in ${encoding.name}`);
         const back = Buffer.concat(unitsOfCell(encoding, cell).map(([usual]) => usual));
         // A character with two spellings returns in its usual one, and a character of two parts may return as one.
-        const [come, due] = [back, bytes].map(it => encoding.text(it).normalize());
-        assert.equal(come, due, `${JSON.stringify(cell)} in ${encoding.name}`);
+        const [found, due] = [back, bytes].map(it => encoding.text(it).normalize());
+        assert.equal(found, due, `${JSON.stringify(cell)} in ${encoding.name}`);
         for (const mark of ['\t', ',']) {
             const list = rowText(['block', 'offset', 'text', 'new'], mark) + rowText([0, 0, cell, 'x'], mark);
             for await (const { text } of listRows(list)) assert.equal(text, cell, JSON.stringify(list));

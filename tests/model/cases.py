@@ -6,7 +6,7 @@ import sys
 from pathlib import Path
 from typing import NamedTuple
 
-from image import OPTIONS, OPTIONS_OF_CALLS, answer, cut, effect, findings, met, outcome, run
+from image import OPTIONS, OPTIONS_OF_CALLS, answer, cut, effect, findings, blocks_of, outcome, run
 from script import MOST_BYTES, MOST_PATCHES, TOO_MANY, Patch, ScriptFault, ordered, script
 from sector import NO_DEFECT, SIZE, SYNC, WORDS, address_of, consistent, damage, defect, kind, sector_with
 
@@ -123,9 +123,9 @@ def with_was(dice, image, base, carry, patches):
     for patch in ordered(patches):
         if patch.was is not None:
             was = bytearray(dice.randbytes(len(patch.new)))
-            if all(0 <= block - base < len(now) for block in met(patch)):
+            if all(0 <= block - base < len(now) for block in blocks_of(patch)):
                 sectors = dice.choice([now, first])
-                user = b''.join(sectors[block - base][16:2064] for block in met(patch))
+                user = b''.join(sectors[block - base][16:2064] for block in blocks_of(patch))
                 was = bytearray(user[patch.offset:patch.offset + len(patch.new)])
             if dice.random() < .3:
                 border = min(2048 - patch.offset, len(was) - 1)
@@ -293,28 +293,28 @@ def patch_kinds(case, patches):
     for i, (patch, printed) in enumerate(zip(taken[:100], outcomes)):
         label = 'differs' if 'differ' in printed else re.sub(r'block \d+', 'block B', printed)
         yield f'{patch.verb} {label}'
-        yield f'span of {len(met(patch))}' if len(met(patch)) < MOST_BLOCKS else 'longest span'
-        if printed.endswith(('damaged', 'mode 1')) and len(met(patch)) > 1:
+        yield f'span of {len(blocks_of(patch))}' if len(blocks_of(patch)) < MOST_BLOCKS else 'longest span'
+        if printed.endswith(('damaged', 'mode 1')) and len(blocks_of(patch)) > 1:
             place = int(printed.split()[2]) - patch.block + 1
             yield f'refused at block {place} of a span' if place < MOST_BLOCKS else 'refused at the last block of the longest span'
         yield 'length 1, 2048 or most' * (len(patch.new) in (1, 2048, MOST_BYTES))
         yield 'offset 0, 2047' * (patch.verb != 'rebuild' and patch.offset in (0, 2047))
         yield 'below the base' * (patch.block < case.base)
         yield 'past the end' * (patch.block >= case.base + len(sectors))
-        yield 'past the end from within' * (patch.block < case.base + len(sectors) <= met(patch)[-1])
+        yield 'past the end from within' * (patch.block < case.base + len(sectors) <= blocks_of(patch)[-1])
         if printed == 'applied':
-            if any(defect(now[block - case.base]) != NO_DEFECT for block in met(patch)):
+            if any(defect(now[block - case.base]) != NO_DEFECT for block in blocks_of(patch)):
                 yield f'{patch.verb} applied on damage' + ' --carry' * case.carry
             if patch.was and outcome(sectors, case.base, patch, True) != printed:
                 yield 'was right now and not at first'
             now = effect(now, case.base, patch, case.carry)
         elif 'differ' in printed and outcome(sectors, case.base, patch, True) == 'applied':
             yield 'was right at first and not now'
-        yield f'was over a border: {label}' * (patch.was is not None and len(met(patch)) > 1)
+        yield f'was over a border: {label}' * (patch.was is not None and len(blocks_of(patch)) > 1)
         for other in taken[:i]:
             yield 'equal blocks' * (other.block == patch.block)
-            yield 'patch after rebuild' * (other.verb == 'rebuild' and other.block in met(patch))
-            yield 'rebuild after patch' * (patch.verb == 'rebuild' and patch.block in met(other))
+            yield 'patch after rebuild' * (other.verb == 'rebuild' and other.block in blocks_of(patch))
+            yield 'rebuild after patch' * (patch.verb == 'rebuild' and patch.block in blocks_of(other))
 
 
 def kinds_of(case):

@@ -16,7 +16,7 @@ def cut(image):
     return [image[i:i + SIZE] for i in range(0, whole, SIZE)], image[whole:]
 
 
-def met(patch):
+def blocks_of(patch):
     """The blocks that a patch meets: those of its range; for `rebuild` and `address` the one block."""
     reach = patch.offset + len(patch.new) - 1 if patch.verb in ('set', 'fill') else 0
     return range(patch.block, patch.block + reach // 2048 + 1)
@@ -29,14 +29,14 @@ def user_bytes(sectors, base, blocks):
 
 def outcome(sectors, base, patch, carry):
     """The outcome of a patch on an image after the earlier patches: its blocks are checked in ascending order, then its old bytes."""
-    for block in met(patch):
+    for block in blocks_of(patch):
         if not 0 <= block - base < len(sectors):
             return f'refused: no block {block}'
         if kind(sectors[block - base]) != 'mode1':
             return f'refused: block {block} is not mode 1'
         if not (carry or patch.verb == 'rebuild' or consistent(sectors[block - base])):
             return f'refused: block {block} is damaged'
-    now = user_bytes(sectors, base, met(patch))[patch.offset:]
+    now = user_bytes(sectors, base, blocks_of(patch))[patch.offset:]
     for i, byte in enumerate(patch.was or b''):
         if byte != now[i]:
             block, offset = divmod(patch.offset + i, 2048)
@@ -47,10 +47,10 @@ def outcome(sectors, base, patch, carry):
 def effect(sectors, base, patch, carry):
     """The sectors after an applied patch: new content, with the old defect if --carry is given, but without it for `rebuild`."""
     after = list(sectors)
-    user = user_bytes(sectors, base, met(patch))
+    user = user_bytes(sectors, base, blocks_of(patch))
     if patch.verb in ('set', 'fill'):
         user = user[:patch.offset] + patch.new + user[patch.offset + len(patch.new):]
-    for i, block in enumerate(met(patch)):
+    for i, block in enumerate(blocks_of(patch)):
         old = sectors[block - base]
         header = patch.new + old[15:16] if patch.verb == 'address' else old[12:16]
         kept = defect(old) if carry and patch.verb != 'rebuild' else NO_DEFECT

@@ -154,10 +154,10 @@ class Chromium:
         elif event == 'Runtime.consoleAPICalled' and given['type'] in ('error', 'assert'):
             self.noted.append(('console', str(given['args'])))
         elif event == 'Page.javascriptDialogOpening':
-            self.devtools.tell('Page.handleJavaScriptDialog', accept=True)
+            self.devtools.send('Page.handleJavaScriptDialog', accept=True)
 
     def cdp(self, command: str, **given: Any) -> dict[str, Any]:
-        return self.devtools.ask(command, **given)
+        return self.devtools.request(command, **given)
 
     def before_pages(self, source: str) -> None:
         """Runs a script before a page's own scripts, in each page opened from now on. It replaces the previous such script."""

@@ -48,7 +48,7 @@ def await_start(run: Callable[[str], Any]) -> None:
     waited(lambda: run('return document.querySelector("#not-started") === null'), 'the page has not started')
 
 
-def wants(command: str, package: str) -> Callable[[Test], Test]:
+def needs(command: str, package: str) -> Callable[[Test], Test]:
     """Skips a test if a command is not installed."""
     return unittest.skipUnless(shutil.which(command), f"wants {command} (Debian's package {package})")
 
@@ -59,12 +59,20 @@ def folder(name: str) -> Path:
 
 
 @functools.cache
-def text(key: str) -> str:
-    """Returns a text of the page by its key, so that a test that only waits for a text does not repeat it."""
-    english = (TOP / 'web/page/texts/english.js').read_text('utf-8')
-    found = re.search(rf"(?m)^export const {key} =\s+((?:'.*' \+\n *)*'.*');$", english)
+def text(key: str, language: str = 'en') -> str:
+    """Returns a text of the page by its key, so that a test that only waits for a text does not repeat it. Only texts that players see are in
+    other languages."""
+    names = ('english.js', 'player/english.js') if language == 'en' else (f'player/{language.lower().replace("-", "_")}.js',)
+    source = ''.join((TOP / 'web/page/texts' / name).read_text('utf-8') for name in names)
+    piece = r"'(?:[^'\\\n]|\\[\s\S])*'"
+    found = re.search(rf"(?m)^(?:export const {key} =| +'?{key}'?:)\s+((?:{piece} \+\n *)*{piece})[;,]$", source)
     assert found, f'the page has no text {key}'
     return str(ast.literal_eval(re.sub(r'(?m) \+\n *', ' ', found[1])))
+
+
+def keys_for_players() -> list[str]:
+    """The keys of the texts that players see."""
+    return re.findall(r'(?m)^    (\w+):(?! \{)', (TOP / 'web/page/texts/player/english.js').read_text('utf-8'))
 
 
 def encodings() -> list[dict[str, Any]]:

@@ -27,19 +27,19 @@ class DevTools:
         self.answers: dict[int, dict[str, Any]] = {}
         self.begun: list[bytes] = []
         orders, self.orders = os.pipe()
-        self.said, said = os.pipe()
+        self.replies, replies = os.pipe()
 
         def wired() -> None:
             """Connects the pipes to descriptors 3 (read) and 4 (written)."""
-            for kept, wanted in [(fcntl.fcntl(end, fcntl.F_DUPFD, 10), number) for number, end in ((3, orders), (4, said))]:
+            for kept, wanted in [(fcntl.fcntl(end, fcntl.F_DUPFD, 10), number) for number, end in ((3, orders), (4, replies))]:
                 os.dup2(kept, wanted)
 
         self.process = subprocess.Popen([*words, '--remote-debugging-pipe'], stdin=subprocess.DEVNULL, stdout=subprocess.DEVNULL,
                                         stderr=subprocess.DEVNULL, close_fds=False, preexec_fn=wired)
-        for end in (orders, said):
+        for end in (orders, replies):
             os.close(end)
 
-    def tell(self, command: str, **given: Any) -> int:
+    def send(self, command: str, **given: Any) -> int:
         """Sends a command and returns its number."""
         self.number += 1
         message = {'id': self.number, 'method': command, 'params': given}
@@ -53,21 +53,21 @@ class DevTools:
     def answer(self, number: int) -> dict[str, Any]:
         """Waits for the result of the command with this number."""
         while number not in self.answers:
-            self.hear()
+            self.receive()
         found = self.answers.pop(number)
         if 'error' in found:
             raise Refused(found['error']['message'])
         given: dict[str, Any] = found['result']
         return given
 
-    def ask(self, command: str, **given: Any) -> dict[str, Any]:
-        return self.answer(self.tell(command, **given))
+    def request(self, command: str, **given: Any) -> dict[str, Any]:
+        return self.answer(self.send(command, **given))
 
-    def hear(self) -> None:
+    def receive(self) -> None:
         """Waits for data and handles each complete message."""
-        if not select.select([self.said], [], [], SILENCE)[0]:
+        if not select.select([self.replies], [], [], SILENCE)[0]:
             raise TimeoutError(f'Chromium has said nothing for {SILENCE} s')
-        data = os.read(self.said, 1 << 20)
+        data = os.read(self.replies, 1 << 20)
         if not data:
             raise ConnectionError('Chromium has ended')
         *whole, rest = data.split(b'\0')
@@ -85,7 +85,7 @@ class DevTools:
     def end(self) -> None:
         self.session = ''
         try:
-            self.tell('Browser.close')
+            self.send('Browser.close')
             self.process.wait(30)
         except (OSError, subprocess.TimeoutExpired):
             self.process.kill()

@@ -3,7 +3,8 @@
 import functools
 from pathlib import Path
 
-from common import damaged, folder, image_of, iso_of, run_program
+from common import SECTOR_SIZE, damaged, folder, image_of, iso_of, run_program
+from mode2_sectors import form1
 from sector import SYNC, address_of
 
 DATA = 'MODE1/2352'
@@ -21,6 +22,21 @@ def messages() -> bytes:
 def game() -> bytes:
     """An undamaged image of some 180 sectors with files."""
     return image_of(iso_of({'DATA/MSG00.DAT': messages(), 'DATA/STAGE.DAT': bytes(range(256)) * 32, 'README.TXT': b'Start of the game\n' * 20}))
+
+
+@functools.cache
+def mode2(count: int, base: int = 0) -> bytes:
+    """Sound sectors of Mode 2, Form 1, from a block on."""
+    sectors = [form1(bytes([0, 0, 8, block % 250]), b'%d' % block * 300 + bytes(2048 - 300 * len(b'%d' % block))) for block in range(base, base + count)]
+    return b''.join(it[:12] + address_of(base + i) + it[15:] for i, it in enumerate(sectors))
+
+
+def changed(image: bytes, *places: tuple[int, int]) -> bytes:
+    """Changes bytes of an image: each by the number of its sector, and its place in that."""
+    made = bytearray(image)
+    for i, at in places:
+        made[i * SECTOR_SIZE + at] ^= 0x55
+    return bytes(made)
 
 
 @functools.cache

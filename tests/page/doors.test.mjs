@@ -227,6 +227,17 @@ test('a text: replace all', { skip }, async t => {
     }
 });
 
+/** Sectors of Mode 2 from block 0, encoded by tests/lib/mode2_sectors.py; of each eight, the last one has no code. */
+const mode2 = spawnSync('python3', ['-B', join(top, 'tests/lib/mode2_sectors.py'), '40', '5']).stdout;
+for (let i = 0; i < 40; i++) mode2.set(calls.address(i), RAW * i + 12);
+
+/** A disc of Mode 2 with these bytes changed. */
+function changedMode2(...places) {
+    const made = Buffer.from(mode2);
+    for (const [block, at] of places) made[RAW * block + at] ^= 0x55;
+    return made;
+}
+
 const cut = sectors => volumeSize(SIZE).subarray(0, RAW * sectors);
 const hole = (from, to, byte = 0) => raw().fill(byte, RAW * from, RAW * to);
 const SURVEYED = {
@@ -241,15 +252,21 @@ const SURVEYED = {
     'a volume that goes on after the end of the image': { files: { 'd.bin': cut(42) }, due: [42, 0, 0, [], [42, 59]] },
     'by its sheet': { files: { 'd.cue': SHEET, 'd.bin': cut(50) }, due: [50, 0, 0, [], [50, 59]] },
     'an image that is cut within a sector': { files: { 'd.bin': raw().subarray(0, RAW * SIZE - 100) }, due: [59, 0, 0, [], null] },
-    'sectors of Mode 2': { files: { 'd.bin': changed([50, 15]) }, due: [59, 0, 0, [[50, 50]], null] },
+    'damage and addresses of Mode 2': { files: { 'd.bin': changedMode2([3, 500], [4, 14], [5, 100], [7, 100], [11, 2100], [12, 21]) },
+        due: [0, 4, 1, [], null] },
+    'holes in a track of Mode 2': { files: { 'd.bin': changedMode2([3, 5], [20, 0]) }, due: [0, 0, 0, [[3, 3], [20, 20]], null] },
+    'both modes': { files: { 'd.bin': Buffer.concat([changedMode2([3, 500]), Buffer.from(calls.encodeBlocks(40, Buffer.alloc(USER * 9)))]) }, due: [9, 1, 0, [], null] },
+    'Mode 2 without subheaders': { files: { 'd.bin': changedMode2().map((byte, at) => at % RAW >= 16 ? at * at % 251 : byte) }, due: [0, 0, 0, [], null] },
+    'a byte of the mode': { files: { 'd.bin': changed([50, 15]) }, due: [59, 0, 0, [[50, 50]], null] },
 };
 
-/** The counts that `info` prints: Mode 1, damage, wrong addresses, lost blocks, and blocks that the image lacks. */
+/** The counts that `info` prints: Mode 1, damage in both modes, wrong addresses, lost blocks, and blocks that the image lacks. */
 function counted(out) {
     const [, mode1, damaged, elsewhere] = /mode1 (\d+) damaged (\d+) address (\d+)/.exec(out).map(Number);
-    const lost = [...out.matchAll(/^(\d+)-(\d+) not mode1/gm)].map(([, first, last]) => [Number(first), Number(last)]);
+    const [, hurt, moved] = (/mode2 \d+ damaged (\d+) address (\d+)/.exec(out) || [0, 0, 0]).map(Number);
+    const lost = [...out.matchAll(/^(\d+)-(\d+) not mode[12]/gm)].map(([, first, last]) => [Number(first), Number(last)]);
     const lack = /^(\d+)-(\d+) not in the image/m.exec(out);
-    return [mode1, damaged, elsewhere, lost, lack && lack.slice(1, 3).map(Number)];
+    return [mode1, damaged + hurt, elsewhere + moved, lost, lack && lack.slice(1, 3).map(Number)];
 }
 
 test('an image: survey', { skip }, async t => {
@@ -290,7 +307,7 @@ test('a script: undo', { skip }, async t => {
     for (const [name, { script, image = raw(), base, carry = false, isRefused = false }] of Object.entries(UNDONE)) {
         const app = await opened({ 'd.bin': image }, { base });
         app.setScript(script, 'a.txt', true);
-        await makeUndo(app, part(), { bar: part(), said: part() }, app.script, carry);
+        await makeUndo(app, { bar: part(), message: part() }, app.script, carry);
         write({ 'a.txt': ascii(script) });
         const { out, status } = cdscript('undo', ...words({ 'd.bin': image }, { base }), 'a.txt', ...carry ? ['--carry'] : []);
         const made = await downloaded();
@@ -331,6 +348,8 @@ const REPAIRED = {
     'what the other dump has': { image: changed([9, 500], [11, 2100], [50, 17]), fresh: changed([11, 400]), due: [[9, 9], [50, 50]] },
     'an image that begins before block 0': { image: Buffer.concat([Buffer.alloc(RAW * 150), changed([9, 500])]),
         fresh: Buffer.concat([Buffer.alloc(RAW * 150), raw()]), due: [[159, 159]] },
+    'sectors of Mode 2': { image: changedMode2([3, 500], [7, 100], [9, 2], [12, 14], [17, 2200]), fresh: changedMode2([17, 300], [20, 14]),
+        due: [[3, 3], [9, 9], [12, 12]] },
     'another part of a disc': { image: changed([9, 500]), fresh: raw(700), due: null },
     'another disc': { image: changed([9, 500]), fresh: Buffer.from(calls.encodeBlocks(0, Buffer.alloc(USER * SIZE, 9))), due: null },
 };
@@ -372,7 +391,7 @@ test('files: list and extract', { skip }, async t => {
         const given = words({ 'd.bin': raw() }, { base });
         assert.equal(list.text(), cdscript('files', ...given).out, name);
         for (const path of ['/BIG', '/END']) {
-            await list.extract(list.all.find(it => it.path === path));
+            await list.jobs.extract(list.all.find(it => it.path === path), false);
             rmSync(join(room, 'o.bin'), { force: true });
             assert.equal(cdscript('extract', ...given, path, 'o.bin').status, 0);
             assert.equal(sumOf(await downloaded()), sumOf(read('o.bin')), `${path} ${name}`);
@@ -389,18 +408,23 @@ const NEW_FILES = {
     'over a damaged sector': { path: '/END', fresh: Buffer.alloc(3 * USER, 0x44), image: changed([41, 500]), isRefused: true },
 };
 
-test('a file: replace', { skip }, async t => {
+test('a file: replace, extract as patched, and take back', { skip }, async t => {
     withDocument(t);
     for (const [name, { path, fresh, base, image = raw(), isRefused = false }] of Object.entries(NEW_FILES)) {
         const app = await opened({ 'd.bin': image }, { base });
         const list = await listOf(app, path);
-        list.input.files = [fileOf('fresh', fresh)];
-        await list.replace();
+        list.jobs.input.files = [fileOf('fresh', fresh)];
+        await list.jobs.replace();
         write({ fresh });
         const { out, status } = cdscript('replace-file', ...words({ 'd.bin': image }, { base }), path, 'fresh');
         const made = app.script.text();
         assert.deepEqual(linesOf(made).slice(1), linesOf(out).slice(1), name);
         assert.deepEqual([linesOf(made).length === 1, status === 2], [isRefused, isRefused], name);
+        if (isRefused) continue;
+        await list.jobs.extract(list.chosen, true);
+        assert.equal(sumOf(await downloaded()), sumOf(fresh), `as patched: ${name}`);
+        await list.jobs.takeBack(list.chosen);
+        assert.equal(linesOf(app.script.text()).filter(line => line.startsWith('set ')).length, 0, name);
     }
 });
 
@@ -433,7 +457,7 @@ test('a table of texts: export and import', { skip }, async t => {
     for (const [name, { texts, base, due }] of Object.entries(TABLES)) {
         const app = await opened({ 'd.bin': japanese() }, { base });
         const table = new TextsTable(app);
-        await table.save();
+        await table.save('csv');
         const given = words({ 'd.bin': japanese() }, { base });
         const printed = cdscript('texts', ...given, '--csv').out;
         assert.equal((await downloaded()).toString(), printed, name);

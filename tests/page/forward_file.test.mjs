@@ -7,7 +7,7 @@ import { core, page, summing } from './page.mjs';
 
 const { forwardOf } = await core('bytes.js');
 const { sumsOf } = await page('app/hashing.js');
-const { fileReader, readByHands } = await page('open/file_reader.js');
+const { fileReader, readByWorkers } = await page('open/file_reader.js');
 
 const MiB = 2 ** 20;
 const bytes = Buffer.alloc(72 * MiB + 7, Uint8Array.from({ length: 65537 }, (_, i) => i ^ i >> 9));
@@ -88,7 +88,7 @@ test('hands that are free read whole slices ahead, and the page all else', async
             return asked.length === 2 ? null : new Uint8Array(bytes.subarray(from, from + size));
         },
     };
-    const reader = forwardOf(readByHands(fileReader(file), crew, { aborted: false }));
+    const reader = forwardOf(readByWorkers(fileReader(file), crew, { aborted: false }));
     for (const [at, length] of rowOf(73)) assert.ok(Buffer.from(await reader.read(at, length)).equals(bytes.subarray(at, at + length)), `${at}`);
     assert.deepEqual(asked, [1, 17, 33, 49].map(at => ['game.bin', at * MiB, 16 * MiB]));
     assert.deepEqual(file.cuts, [MiB, 16 * MiB, 7 * MiB + 7]);
@@ -103,7 +103,7 @@ test('Cancel ends a read that no hand answers', async () => {
         },
     };
     for (const when of ['while it waits', 'before it']) {
-        const reader = forwardOf(readByHands(fileReader(fileOf()), crew, cancelling.signal));
+        const reader = forwardOf(readByWorkers(fileReader(fileOf()), crew, cancelling.signal));
         await reader.read(0, MiB);
         await assert.rejects(reader.read(MiB, MiB), { code: 'cancelled' }, when);
     }

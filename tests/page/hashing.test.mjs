@@ -22,14 +22,14 @@ function readerOf(bytes) {
 test('an image is read once for its survey and its hashes, with what comes after its last sector', async () => {
     for (const tail of [[], [7, 8, 9]]) {
         const bytes = Buffer.from([...sectors, ...tail]);
-        const [reader, records, told] = [readerOf(bytes), [], []];
-        const sums = new Summing(summing, reader, done => told.push(done));
+        const [reader, records, reported] = [readerOf(bytes), [], []];
+        const sums = new Summing(summing, reader, done => reported.push(done));
         await sums.read({ base: 0, step: 2 }, answer => records.push([answer.block, ...answer.records]));
         const { sha1, crc32 } = await sums.end();
         assert.equal(sha1, createHash('sha1').update(bytes).digest('hex'));
         assert.equal(crc32, gzipSync(bytes).subarray(-8, -4).reverse().toString('hex'));
         assert.deepEqual(reader.reads, [[0, 4704], [4704, 4704], [9408, 2352], ...tail.length ? [[11760, 3]] : []]);
-        assert.equal(told.at(-1), bytes.length);
+        assert.equal(reported.at(-1), bytes.length);
         const due = [0, 2, 4].map(block => [block, ...calls.survey(sectors.subarray(2352 * block, 2352 * Math.min(block + 2, 5)), block)]);
         assert.deepEqual(records, due);
     }

@@ -170,7 +170,7 @@ class Walk:
             self.wrong.append(f'{name}: {said}')
         path.unlink()
         self.browser.run('''for (const it of document.querySelectorAll('#player button')) if (it.innerText.includes('full cdpatch')) it.click();
-            for (const it of document.querySelectorAll('#messages button, #start-message button')) if (it.innerText === 'Close') it.click();''')
+            for (const it of document.querySelectorAll('#messages .cross, #start-message .cross')) it.click();''')
         self.given += 1
 
 

@@ -9,13 +9,13 @@ const { OWN } = await page('app/bundle.js');
 const { pageSource, publishedSource } = await page('player/own_text.js');
 
 const style = 'p { color: black }';
-const policy = `script-src 'sha256-${'A'.repeat(43)}='; style-src 'none'`;
-const whole = `<a>${policy}<b>${style}<c>code<d>`;
+const policy = `script-src 'sha256-${'A'.repeat(43)}=' 'sha256-${'B'.repeat(43)}='; style-src 'none'`;
+const whole = `<a>${policy}<b>${style}<c>load<d>`;
 Object.assign(OWN, {
     html: ['<a>', '<b>', '<c>', '<d>'], policy: ["script-src '", "'; style-src 'none'"],
     style: { size: style.length, sha1: createHash('sha1').update(style).digest('hex') },
 });
-globalThis.JOINED = { script: 'code' };
+globalThis.JOINED = { script: 'code', loader: 'load' };
 
 /** A document with these styles and policies. */
 function has(styles, policies) {
@@ -41,8 +41,9 @@ test('a style is its own by its length and its hash', () => {
     }
 });
 
-test('a policy is its own by all of its text, with a hash of a script', () => {
-    const others = ['', policy.replace('none', 'self'), policy.replace('AA', 'AAA'), policy.replace('AA', 'A'), policy.replace('sha256', 'sha512')];
+test('a policy is its own by all of its text, with the hashes of two scripts', () => {
+    const others = ['', policy.replace('none', 'self'), policy.replace('AA', 'AAA'), policy.replace('AA', 'A'), policy.replace('sha256', 'sha512'),
+        policy.replace(/ 'sha256-B+='/, '')];
     for (const other of others) {
         has([style], [other]);
         assert.throws(() => pageSource(calls), /has changed this page/, other);

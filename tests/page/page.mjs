@@ -47,11 +47,11 @@ class HashWorker {
 /** The parts of a page with workers that hash. */
 export const parts = { module: true, newWorker: () => new HashWorker() };
 
-const { Crew, localHand } = await core('crew/crew.js');
+const { Crew, localWorker } = await core('crew/crew.js');
 const { JOBS } = await core('jobs/jobs.js');
 
 /** Parts that hash and survey images in this process, with a worker only for the SHA-1. */
-export const summing = { crew: new Crew([localHand(calls, JOBS)]), parts };
+export const summing = { crew: new Crew([localWorker(calls, JOBS)]), parts };
 
 /** An image of undamaged sectors with this user data, padded with zeros. */
 export function imageOf(users) {

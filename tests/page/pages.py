@@ -170,8 +170,8 @@ class PageTest(unittest.TestCase):
 
     def is_gone(self, css: str) -> None:
         """Waits until no matching element is visible."""
-        gone = '[...document.querySelectorAll(given[0])].every(it => !it.checkVisibility())'
-        self.assertTrue(self.browser.awaited(gone, css), f'{css} stays')
+        hidden = '[...document.querySelectorAll(given[0])].every(it => !it.checkVisibility())'
+        self.assertTrue(self.browser.awaited(hidden, css), f'{css} stays')
 
     def wait_for_focus(self, css: str) -> None:
         self.assertTrue(self.browser.awaited('document.activeElement.matches(given[0])', css), f'{css} has no focus')
@@ -213,12 +213,19 @@ class PageTest(unittest.TestCase):
 
     def script_text(self) -> str:
         """The script as the page saves it."""
-        self.press('Save script')
+        self.press('Save…')
+        if self.browser.run('return document.querySelector("#sheet[open]") !== null'):
+            self.browser.answer(common.text('scriptSaveScript'))
         name = self.browser.text('#panel-script header h2')
         path = self.browser.downloaded('script.txt' if name == 'New script' else name)
         text = path.read_text()
         path.unlink()
         return text
+
+    def save_undo(self) -> None:
+        """Saves the undo script."""
+        self.press('Save…')
+        self.browser.answer(common.text('scriptUndoScript'))
 
     def chosen_bytes(self) -> bytes:
         """The bytes written to the chosen file."""

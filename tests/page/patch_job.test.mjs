@@ -60,10 +60,10 @@ test('a check counts blocks from the base of the image', async () => {
 });
 
 test('a check of a file says how far it has come, and can be cancelled', async () => {
-    const told = [];
-    const ask = signal => checkWork(app, work({ reader: fileReader(file) }), { signal, progress: (...given) => told.push(given) });
+    const reported = [];
+    const ask = signal => checkWork(app, work({ reader: fileReader(file) }), { signal, progress: (...given) => reported.push(given) });
     assert.equal((await ask({ aborted: false })).status, 0);
-    assert.deepEqual(told[0], [0, game.sectors]);
+    assert.deepEqual(reported[0], [0, game.sectors]);
     await assert.rejects(ask({ aborted: true }), { name: 'Fault', code: 'cancelled' });
 });
 

@@ -37,6 +37,16 @@ test('what is written is read, and another program reads it as it is described',
     assert.deepEqual(await readPatcherText(calls, packed(plain)), data);
 });
 
+test('a language is read and written if it is one of those of the page, and may be missing', async () => {
+    const chosen = { ...data, language: 'pt-BR' };
+    assert.deepEqual(await readPatcherText(calls, `\n${await patcherText(calls, chosen)}`), chosen);
+    assert.equal('language' in await readPatcherText(calls, `\n${text}`), false);
+    for (const language of ['', 'xx', 'pt', 'DE', 'toString', null, ['de'], 1, undefined]) {
+        assert.equal(headFault({ ...head, language }), 'the data have a wrong language', String(language));
+    }
+    assert.equal(headFault({ ...head, languages: 'de' }), 'the data do not have the expected fields');
+});
+
 test('a patcher that came over plain http is read, where a browser has no digest', async () => {
     const known = Object.getOwnPropertyDescriptor(globalThis, 'crypto');
     Object.defineProperty(globalThis, 'crypto', { value: undefined, configurable: true });

@@ -11,10 +11,10 @@ const { applyPatches } = await page('../core/script/patches.js');
 const { bytesOfPieces } = await page('../core/bytes.js');
 const { validScript } = await page('../core/tasks/index.js');
 const { isPatched } = await page('save/patch_job.js');
-const { Crew, localHand } = await page('../core/crew/crew.js');
+const { Crew, localWorker } = await page('../core/crew/crew.js');
 const { JOBS } = await page('../core/jobs/jobs.js');
 
-const app = { calls, parts, crew: new Crew([localHand(calls, JOBS)]) };
+const app = { calls, parts, crew: new Crew([localWorker(calls, JOBS)]) };
 const ascii = text => new TextEncoder().encode(text);
 const game = imageOf([ascii('hello'), ascii('world'), ascii('again')]);
 

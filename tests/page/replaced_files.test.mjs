@@ -4,7 +4,7 @@ import assert from 'node:assert/strict';
 import { test } from 'node:test';
 import { calls, imageOf, page } from './page.mjs';
 
-const { ReplacedFiles, linesIn, linesReplacing } = await page('app/replaced_files.js');
+const { ReplacedFiles, linesIn, linesReplacing, writesOf } = await page('app/replaced_files.js');
 const { ScriptLines } = await page('app/script_lines.js');
 
 const image = imageOf(Array.from({ length: 9 }, () => []));
@@ -26,6 +26,20 @@ test('the lines of a file are those that write in it alone and find their old by
     for (const script of scripts()) {
         assert.deepEqual((await linesReplacing(script, image, PLACES)).sort(), [...OWN, ...LATER].sort());
         assert.deepEqual(linesIn(script, PLACES).map(({ text }) => text), [...OWN, ...LATER, ...OTHERS]);
+    }
+});
+
+test('a script writes in a range if one of its lines does', () => {
+    const inside = new ScriptLines(calls, 'cdpatch 1\nfill 4 100 30 00\nset 4 105 41\n');
+    assert.deepEqual([99, 100, 104, 106, 129, 130].map(offset => writesOf(inside)({ block: 4, offset, size: 1 })), [false, true, true, true, true, false]);
+    for (const script of scripts()) {
+        const writes = writesOf(script);
+        for (const block of [0, 1, 4, 5, 6, 7]) {
+            for (const [offset, size] of [[0, 1], [0, 2048], [1, 9], [10, 8], [18, 4], [20, 1], [22, 8], [34, 2000], [2040, 7], [2047, 2]]) {
+                const range = { block, offset, size };
+                assert.equal(writes(range), linesIn(script, [range]).length > 0, JSON.stringify(range));
+            }
+        }
     }
 });
 

@@ -5,7 +5,7 @@ import { test } from 'node:test';
 import { MESSAGES } from '../lib/messages.mjs';
 import { calls, core, page } from './page.mjs';
 
-const { linesGivingWay } = await core('script/merge_lines.js');
+const { replacedLines } = await core('script/merge_lines.js');
 const { modelInParts } = await core('script/model.js');
 const { mergeOf } = await page('app/merging.js');
 const { ReplacedFiles } = await page('app/replaced_files.js');
@@ -144,7 +144,7 @@ test('a script is in no file from its first edit until it is saved, and again af
 test('outcomes stand at their lines as what fits and what does not, until an edit', () => {
     const lines = linesOf('cdpatch 1\nrebuild 1\n# note\nset 4713 608 41 was 42');
     lines.setOutcomes([{ number: 2, result: 0, block: 1, offset: 0 }, { number: 4, result: 5, block: 4713, offset: 608 }]);
-    assert.deepEqual(words(lines), ['', 'fits', '', 'does not fit: old bytes differ at block 4713 offset 608']);
+    assert.deepEqual(words(lines), ['', 'matches', '', 'refused: old bytes differ at block 4713 offset 608']);
     assert.deepEqual([lines.nextWrong(0, 1), lines.nextWrong(3, 1), lines.nextWrong(0, -1)], [3, 3, 3]);
     lines.edit(1, 1, ['rebuild 2']);
     assert.deepEqual(words(lines), ['', '', '', '']);
@@ -189,17 +189,17 @@ test('line ends of Windows are line ends, and a text ends as it did', () => {
     assert.equal(lines.text(), 'cdpatch 1\nrebuild 2\n');
 });
 
-const merged = async (lines, come) => (await mergeOf(lines, come))();
+const merged = async (lines, incoming) => (await mergeOf(lines, incoming))();
 
 test('lines that come a second time take the place of those that set the same bytes, and nothing else gives way', async () => {
     const lines = linesOf('cdpatch 1\n# mine\nset 9 4 41 was 20\n');
-    const come = ['set 5 0 414141 was 202020', 'set 5 10 4242 was 2020', 'set 7 2047 4343 was 2020'];
-    assert.deepEqual(await merged(lines, come), { added: 3, replaced: 0, same: 0 });
+    const incoming = ['set 5 0 414141 was 202020', 'set 5 10 4242 was 2020', 'set 7 2047 4343 was 2020'];
+    assert.deepEqual(await merged(lines, incoming), { added: 3, replaced: 0, same: 0 });
     lines.add(['set 5 11 5A was 42'], 'bytes');
     lines.add(['fill 7 2040 20 00', 'set 5 2 5A5A was 4120'], 'bytes');
     const before = lines.text();
-    assert.deepEqual(await merged(lines, ['set 5 0 4445 was 2020', 'set 5 10 4646 was 2020', come[2], 'set 8 5 47 was 20']), { added: 1, replaced: 2, same: 1 });
-    assert.equal(lines.text(), ['cdpatch 1', '# mine', 'set 9 4 41 was 20', 'set 5 0 4445 was 2020', 'set 5 10 4646 was 2020', come[2],
+    assert.deepEqual(await merged(lines, ['set 5 0 4445 was 2020', 'set 5 10 4646 was 2020', incoming[2], 'set 8 5 47 was 20']), { added: 1, replaced: 2, same: 1 });
+    assert.equal(lines.text(), ['cdpatch 1', '# mine', 'set 9 4 41 was 20', 'set 5 0 4445 was 2020', 'set 5 10 4646 was 2020', incoming[2],
         'fill 7 2040 20 00', 'set 5 2 5A5A was 4120', 'set 8 5 47 was 20', ''].join('\n'));
     lines.undo();
     assert.equal(lines.text(), before);
@@ -254,7 +254,7 @@ test('lines that give way to others are found in their order, and taken out by o
     const lines = linesOf('cdpatch 1\n# mine\nfill 5 0 3 00\n');
     lines.add(['set 6 1 4141 was 2020'], '');
     lines.add(['set 5 0 41 was 20', 'set 6 3 42 was 20', 'set 7 0 43 was 20'], 'bytes');
-    const found = await linesGivingWay(lines, ['set 6 2 2020 was 2020', 'set 5 0 202020 was 202020'], ({ text }) => lines.made.has(text));
+    const found = await replacedLines(lines, ['set 6 2 2020 was 2020', 'set 5 0 202020 was 202020'], ({ text }) => lines.made.has(text));
     assert.deepEqual(found.map(({ number }) => number), [4, 5, 6]);
     const before = lines.text();
     assert.equal(lines.remove(new Set(found.map(({ text }) => text))), 3);

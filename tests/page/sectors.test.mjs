@@ -4,15 +4,38 @@ import assert from 'node:assert/strict';
 import { test } from 'node:test';
 import { calls, imageOf, page } from './page.mjs';
 
-const { crossingsOf } = await page('disc/crossings.js');
+const { byteOfCodes, crossingsOf } = await page('disc/crossings.js');
 const { isAllOver, otherBase, placeGuess, placesOf } = await page('disc/places.js');
-const { MARK, SurveyMarks } = await page('app/marks.js');
+const { MARK, SurveyMarks, shadesOf } = await page('app/marks.js');
 
 test('bytes are named at which broken columns and diagonals cross', () => {
     const { bytes } = imageOf([new Uint8Array(8)]);
     bytes[500] ^= 3;
     const { crossings, columns, diagonals } = crossingsOf(calls, bytes);
     assert.deepEqual([crossings.filter(at => at < 2076), columns, diagonals], [[500], 1, 1]);
+});
+
+test('the byte that P and Q give is named only if the module finds the sector sound with it', () => {
+    const sound = imageOf([new Uint8Array(8)]).bytes;
+    const wrong = (...places) => {
+        const bytes = sound.slice();
+        for (const [at, change] of places) bytes[at] ^= change;
+        return bytes;
+    };
+    for (const [at, change] of [[500, 3], [16, 255], [2063, 1], [13, 128], [2066, 77]]) {
+        const bytes = wrong([at, change]);
+        assert.deepEqual(byteOfCodes(calls, bytes, crossingsOf(calls, bytes)), { at, fresh: sound[at] }, `byte ${at}`);
+    }
+    for (const places of [[[500, 3], [501, 3]], [[500, 3], [2070, 1]], [[500, 3], [0, 1]], []]) {
+        const bytes = wrong(...places);
+        assert.equal(byteOfCodes(calls, bytes, crossingsOf(calls, bytes)), null, `${places}`);
+    }
+});
+
+test('the shade of the map changes where a file begins or ends', () => {
+    const files = [{ block: 3, size: 1 }, { block: 4, size: 4096 }, { block: 5, size: 0 }, { block: 8, size: 2049 }];
+    const shades = shadesOf(files, { base: 1, marks: new Uint8Array(11).fill(MARK.MODE1) });
+    assert.deepEqual([...shades], [0, 0, 1, 0, 0, 1, 1, 0, 0, 1, 1]);
 });
 
 test('a place ends if 700 sectors follow without a finding', () => {

@@ -15,14 +15,18 @@ test('blocks of runs in words', () => {
 
 test('a code that new texts leave out is named with the first rows', () => {
     const said = facts => sentenceOf({ code: 'list/code-left', facts });
-    assert.equal(said({ code: '0D', count: 1, rows: 1, first: [2] }), 'new texts leave out {0D} once: row 2');
-    assert.equal(said({ code: '0A', count: 8, rows: 8, first: [2, 3, 4, 5, 6] }), 'new texts leave out {0A} 8 times: rows 2, 3, 4, 5, 6, and 3 more');
+    const first = numbers => numbers.map(number => ({ list: '', unit: 'row', number, place: '' }));
+    assert.equal(said({ code: '0D', count: 1, rows: 1, first: first([2]) }), 'translations leave out {0D} once: row 2');
+    assert.equal(said({ code: '0A', count: 8, rows: 8, first: first([2, 3, 4, 5, 6]) }), 'translations leave out {0A} 8 times: rows 2, 3, 4, 5, 6, and 3 more');
+    const lines = [{ list: '', unit: 'line', number: 2, place: '28+26' }, { list: 'a.po', unit: 'line', number: 9, place: '30+0' }];
+    assert.equal(said({ code: '0A', count: 2, rows: 2, first: lines }), 'translations leave out {0A} 2 times: line 2 (28+26), a.po: line 9 (30+0)');
 });
 
 test('a remark among the facts of another is said in the same language', () => {
-    const row = { code: 'list/row-left', facts: { text: { number: 3 }, why: { code: 'list/overlaps', facts: { row: 2 } } } };
+    const other = { list: '', unit: 'row', number: 2, place: '' };
+    const row = { code: 'list/row-left', facts: { text: { ...other, number: 3 }, why: { code: 'list/overlaps', facts: { row: other } } } };
     assert.equal(sentenceOf(row), 'row 3: it overlaps the text of row 2');
-    const others = { 'list/row-left': ({ why }, said) => `<${said(why)}>`, 'list/overlaps': ({ row: number }) => String(number) };
+    const others = { 'list/row-left': ({ why }, said) => `<${said(why)}>`, 'list/overlaps': ({ row: { number } }) => String(number) };
     assert.equal(sentenceOf(row, others), '<2>');
 });
 

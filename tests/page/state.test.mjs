@@ -25,12 +25,12 @@ test('a byte that is typed twice keeps what was there first', () => {
 
 test('bytes that are pasted are one line, which grows with what is typed after them', () => {
     const app = new App(calls, null, null);
-    const told = [];
-    app.on('script', () => { told.push(app.script.text()); });
+    const reported = [];
+    app.on('script', () => { reported.push(app.script.text()); });
     const typing = new Typing(app);
     typing.type(9, 5, Uint8Array.of(0x41, 0x42, 0x43), Uint8Array.of(1, 2, 3));
     typing.type(9, 7, Uint8Array.of(0x44, 0x45), Uint8Array.of(0x43, 4));
-    assert.deepEqual(told, ['cdpatch 1\nset 9 5 414243 was 010203\n', 'cdpatch 1\nset 9 5 41424445 was 01020304\n']);
+    assert.deepEqual(reported, ['cdpatch 1\nset 9 5 414243 was 010203\n', 'cdpatch 1\nset 9 5 41424445 was 01020304\n']);
 });
 
 test('who takes another script is given back the one that was in no file', () => {
@@ -82,20 +82,20 @@ test('saves are counted until they end, and nothing but their Cancel ends them',
 
 test('each change is told to who listens, after it', () => {
     const app = new App(calls, null, null);
-    const told = [];
+    const reported = [];
     const names = ['image', 'second', 'survey', 'surveyed', 'hash', 'files', 'place', 'script', 'line', 'encoding', 'panel', 'patcher'];
-    for (const name of names) app.on(name, detail => told.push([name, detail, app.image, app.second, app.files, app.encoding, app.panel]));
+    for (const name of names) app.on(name, detail => reported.push([name, detail, app.image, app.second, app.files, app.encoding, app.panel]));
     const after = change => {
-        told.length = 0;
+        reported.length = 0;
         change();
-        return told.map(([name]) => name).join(' ');
+        return reported.map(([name]) => name).join(' ');
     };
     const [image, second] = [imageOf([Uint8Array.of(1)]), imageOf([Uint8Array.of(2)])];
     const signal = app.setImage(image);
     assert.equal(after(() => app.setImage(image)), 'image second');
-    assert.deepEqual([told[0][2], signal.aborted, app.reading.signal.aborted], [image, true, false]);
+    assert.deepEqual([reported[0][2], signal.aborted, app.reading.signal.aborted], [image, true, false]);
     assert.equal(after(() => app.setSecond(second)), 'second');
-    assert.equal(told[0][3], second);
+    assert.equal(reported[0][3], second);
     let survey = null;
     assert.equal(after(() => { survey = app.beginSurvey(0, 1); }), 'survey');
     app.addToSurvey(survey, { block: 0, records: calls.survey(image.bytes, 0) });
@@ -103,15 +103,15 @@ test('each change is told to who listens, after it', () => {
     assert.equal(after(() => app.endSurvey(survey, true)), 'survey surveyed');
     assert.ok(survey.over && survey.ended > 0);
     assert.equal(after(() => app.setFiles({ files: [] })), 'files');
-    assert.deepEqual(told[0][4], { files: [] });
+    assert.deepEqual(reported[0][4], { files: [] });
     assert.equal(after(() => app.setSums(image, { sha1: 'ab', crc32: 'cd' })), 'hash');
-    assert.deepEqual([told[0][1], image.sha1, image.crc32], [2352, 'ab', 'cd']);
+    assert.deepEqual([reported[0][1], image.sha1, image.crc32], [2352, 'ab', 'cd']);
     assert.equal(after(() => app.addTable('game.tbl', {})), 'encoding');
-    assert.deepEqual([told[0][5], app.tables.has('game.tbl')], ['game.tbl', true]);
+    assert.deepEqual([reported[0][5], app.tables.has('game.tbl')], ['game.tbl', true]);
     assert.equal(after(() => app.goToLine(4)), 'panel line');
-    assert.deepEqual([told[0][6], told[1][1]], ['script', 4]);
+    assert.deepEqual([reported[0][6], reported[1][1]], ['script', 4]);
     assert.equal(after(() => app.goTo(5, 6, true)), 'panel place');
-    assert.deepEqual([told[1][1], app.place], [{ show: true, comes: true }, { block: 5, offset: 6 }]);
+    assert.deepEqual([reported[1][1], app.place], [{ show: true, comes: true }, { block: 5, offset: 6 }]);
     app.setImage(null);
     assert.deepEqual([app.image, app.second, app.survey, app.files, app.place], [null, null, null, null, { block: -1, offset: -1 }]);
 });

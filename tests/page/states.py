@@ -29,7 +29,7 @@ Blob.prototype.arrayBuffer = async function () {
 };'''
 
 
-def told(times: int = 6) -> bytes:
+def spoken_texts(times: int = 6) -> bytes:
     """An image of a volume with `times` times four sentences, each followed by a zero byte, which are recognised as texts."""
     data = b'\0'.join(text.encode('cp932') for text in SENTENCES * times) + b'\0'
     return common.image_of(common.iso_of({'DATA/MSG00.DAT': data, 'README.TXT': b'Start of the game\n' * 20}))
@@ -55,8 +55,13 @@ def another() -> bytes:
 
 
 class States(PageTest):
-    """Each method `to_NAME` brings the page, as it is opened, into the state NAME."""
+    """Each method `to_NAME` brings the page, as it is opened, into the state NAME. Those of a patcher are in the language of the class."""
     stub = PICKER
+    language = 'en'
+
+    def says(self, key: str) -> str:
+        """The beginning of a text that players see."""
+        return common.text(key, self.language).split('{')[0].rstrip('…')
 
     def place(self, **files: bytes | str) -> dict[str, Path]:
         """Writes files to a new directory. The image `game` gets the name of a dump."""
@@ -107,6 +112,12 @@ class States(PageTest):
         path = common.folder('dat') / 'Hoshizora.dat'
         path.write_text(dat_of((NAME, discs.game(), '')))
         return path
+
+    def to_list(self) -> None:
+        """Several images at once: what was found in each."""
+        files = self.place(game=discs.game(), scratched=discs.scratched(), video=discs.mode2(60), music=bytes(range(7, 249)) * 2352, gone=b'no image')
+        self.open_files(self.dumps(), *files.values())
+        self.browser.wait('#announced', 'were examined')
 
     # ---- a disc
 
@@ -239,15 +250,15 @@ class States(PageTest):
         """An image and its script were dropped together: all changes fit, and the button that saves."""
         files = self.place(game=discs.game(), english=discs.script())
         self.open_files(files['game'], files['english'])
-        self.browser.wait('#panel-script .say.good', 'all fit')
+        self.browser.wait('#panel-script .say.good', 'all match')
         self.wait_for_hash()
 
     def to_script_refused(self) -> None:
         """Some changes do not fit: which ones, why, and where to go."""
         self.begin(discs.scratched(), discs.refused())
-        self.browser.wait('.tally', 'not fit')
+        self.browser.wait('#panel-script .verdict', 'do not')
         self.press('Go to line')
-        self.browser.wait('.explain', 'It does not fit')
+        self.browser.wait('.explain', 'It is refused')
 
     def to_script_saving(self) -> None:
         """The patched image is being saved."""
@@ -266,7 +277,7 @@ class States(PageTest):
         """The patched image of a cue sheet has been saved: the cue sheet for the emulator is next."""
         files = self.place(game=discs.game(), english=discs.script())
         self.open_files(self.sheet(files), files['game'], files['english'])
-        self.browser.wait('#panel-script .say.good', 'all fit')
+        self.browser.wait('#panel-script .say.good', 'all match')
         self.wait_for_hash()
         self.press_save()
         self.browser.wait('#panel-script .side', 'Your emulator opens a cue sheet')
@@ -275,7 +286,7 @@ class States(PageTest):
     def to_script_undo(self) -> None:
         """The undo script has been saved, as the card of the script says."""
         self.begin(discs.game(), discs.script())
-        self.press(common.text('scriptUndoScript'))
+        self.save_undo()
         self.browser.wait('[aria-label=Script] .say.good', 'Saved: ')
 
     def to_script_faults(self) -> None:
@@ -342,7 +353,7 @@ class States(PageTest):
 
     def table(self, fresh: dict[int, str]) -> Path:
         """Opens an image and imports the table of its texts, with new texts in the rows of these numbers."""
-        image = self.begin(told())['game']
+        image = self.begin(spoken_texts())['game']
         self.browser.click('#tab-text')
         self.import_table(image, fresh)
         return image
@@ -354,15 +365,15 @@ class States(PageTest):
 
     def to_texts_saved(self) -> None:
         """The texts of the disc have been saved as a table."""
-        self.begin(told())
+        self.begin(spoken_texts())
         self.browser.click('#tab-text')
-        self.press('Export texts')
+        self.press('Export a table')
         self.browser.wait('#panel-text .say.good', 'Saved: ')
 
     def to_texts_taken(self) -> None:
         """A table was imported, and all of its texts fit."""
         self.table({2: 'The game starts.', 3: 'Save?', 5: 'The end.'})
-        self.browser.wait('#panel-text .say.good', 'All 3 new texts fit.')
+        self.browser.wait('#panel-text .say.good', 'All 3 translations fit.')
 
     def to_texts_left(self) -> None:
         """A table with rows that do not fit: each with its place and the reason."""
@@ -374,7 +385,7 @@ class States(PageTest):
     def to_texts_withdrawn(self) -> None:
         """A table that lacks the new texts of lines from an earlier table."""
         image = self.table({2: 'The game starts.', 3: 'Save?'})
-        self.browser.wait('#panel-text .say.good', 'All 2 new texts fit.')
+        self.browser.wait('#panel-text .say.good', 'All 2 translations fit.')
         self.import_table(image, {2: 'The game starts.'})
         self.browser.wait('#panel-text .say.warn', 'The table has no new text for line 3 of the script.')
 
@@ -387,15 +398,16 @@ class States(PageTest):
         self.browser.type('#patcher-title', 'Starlit Detective in English')
         self.browser.type('#patcher-author', 'Team Comet, version 1.2')
         self.browser.type('#patcher-note', 'All menus and chapters 1 to 3 are in English.\nWorks with the Japanese first print (two rings on the label).')
-        self.browser.wait('#panel-publish', 'all fit')
+        self.browser.wait('#panel-publish', 'all match')
 
-    def play(self, image: bytes | None, words: str = '', script: str = '', with_sheet: bool = True) -> None:
-        """Opens a patcher for the game, and gives it an image, with or without its cue sheet."""
+    def play(self, image: bytes | None, verdict: str = '', script: str = '', with_sheet: bool = True) -> None:
+        """Opens a patcher for the game, gives it an image, with or without its cue sheet, and waits for the text of this key."""
         files = self.place(game=discs.game(), english=script or discs.script())
         made = applied(files['game'], files['english'])[2]
         cue = self.sheet(files)
         path = files['game'].with_name('starlit.html')
-        path.write_bytes(patcher(discs.game(), made, script or discs.script(), author='Team Comet · version 1.2',
+        chosen = {} if self.language == 'en' else {'language': self.language}
+        path.write_bytes(patcher(discs.game(), made, script or discs.script(), **chosen, author='Team Comet · version 1.2',
                                  note='All menus and chapters 1 to 3 are in English. Chapter 4 follows in spring.\n\nYou need the Japanese first '
                                       'print (two rings on the label). Start the game as usual; your saved games keep working.'))
         self.browser.open(path)
@@ -404,7 +416,7 @@ class States(PageTest):
             return
         files['game'].write_bytes(image)
         self.browser.give('#player-files', [*[cue] * with_sheet, files['game']])
-        self.browser.wait('#verdict', words)
+        self.browser.wait('#verdict', self.says(verdict))
 
     def to_player(self) -> None:
         """A patcher as its player finds it."""
@@ -412,42 +424,42 @@ class States(PageTest):
 
     def to_player_right(self) -> None:
         """The right disc."""
-        self.play(discs.game(), 'right disc')
+        self.play(discs.game(), 'playerRightDisc')
 
     def to_player_fits(self) -> None:
         """A different dump, which the patch fits."""
-        self.play(common.damaged(discs.game(), 150), 'but the patch fits', discs.named())
+        self.play(common.damaged(discs.game(), 150), 'playerOtherDumpFits', discs.named())
 
     def to_player_unknown(self) -> None:
         """A different dump, for which nothing shows whether the patch fits."""
-        self.play(common.damaged(discs.game(), 150), 'not the author’s disc')
+        self.play(common.damaged(discs.game(), 150), 'playerNotAuthorsDisc')
 
     def to_player_other(self) -> None:
         """A different disc, which the patch does not fit."""
-        self.play(another(), 'does not fit')
+        self.play(another(), 'playerOtherDumpFitsNot')
 
     def to_player_patched(self) -> None:
         """A disc that is already patched."""
         files = self.place(game=discs.game(), english=discs.script())
-        self.play(applied(files['game'], files['english'])[2], 'already')
+        self.play(applied(files['game'], files['english'])[2], 'playerImageIsPatched')
 
     def to_player_saving(self) -> None:
         """The patched image is being saved."""
         self.to_player_right()
-        self.begins('Patch and save')
+        self.begins(self.says('playerPatchAndSave'))
         self.browser.wait('#player .progress')
 
     def to_player_done(self) -> None:
         """The patched disc has been saved, and the cue sheet is the last step."""
         self.to_player_right()
-        self.press('Patch and save')
-        self.browser.wait('#saved', 'Saved:')
+        self.press(self.says('playerPatchAndSave'))
+        self.browser.wait('#saved', self.says('saveSaved'))
 
     def to_player_sheet(self) -> None:
         """The patched disc has been saved without a cue sheet: one can be created, or chosen now."""
-        self.play(discs.game(), 'right disc', with_sheet=False)
-        self.press('Patch and save')
-        self.browser.wait('#saved', 'Saved:')
+        self.play(discs.game(), 'playerRightDisc', with_sheet=False)
+        self.press(self.says('playerPatchAndSave'))
+        self.browser.wait('#saved', self.says('saveSaved'))
 
     # ---- notes
 

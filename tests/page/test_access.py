@@ -1,4 +1,5 @@
-"""Accessibility: where the focus goes after a redraw and after a dialog or a note closes. tests/page/test_states.py tests the rest."""
+"""Accessibility: where the focus goes after a redraw and after a dialog or a note closes, and jobs by keyboard alone. tests/page/test_states.py
+tests the rest."""
 
 from collections.abc import Callable
 
@@ -28,6 +29,56 @@ class Access(States):
         self.browser.run(f'const it = (() => {{ {BUTTON} }})(); it.focus()', label)
         self.browser.press(Keys.ENTER)
 
+    def reach(self, label: str, *keys: str) -> None:
+        """Presses Tab until a control has the focus whose id or label begins with this text, and then other keys."""
+        for _ in range(60):
+            self.browser.press(Keys.TAB)
+            names = self.browser.run("return document.activeElement.matches('body') ? [] : [document.activeElement.id, document.activeElement.innerText.trim()]")
+            if any(name.startswith(label) for name in names):
+                return self.browser.press(*keys)
+        raise AssertionError(f'Tab does not reach {label}')
+
+    def test_a_text_is_translated_by_the_keyboard_alone(self) -> None:
+        self.begin(discs.game())
+        self.reach('tab-disc', Keys.ARROW_RIGHT)
+        self.browser.wait('#panel-text')
+        self.reach('find-text', 'スタート', Keys.ENTER)
+        self.wait_for_focus('#new-text')
+        self.browser.press('Start', Keys.ENTER)
+        self.browser.wait('.hits', 'in the script, line 2')
+        self.reach('tab-text', Keys.ARROW_RIGHT)
+        self.browser.wait('#panel-script')
+        self.reach('Check', Keys.ENTER)
+        self.browser.wait('#panel-script .side', 'match')
+        self.reach('Apply and save', Keys.ENTER)
+        self.browser.wait('#panel-script .side', 'Saved: ')
+        self.assertIn(b'Start', self.chosen_bytes()[discs.first_block() * 2352:][:2352])
+
+    def test_dumps_are_compared_and_repaired_by_the_keyboard_alone(self) -> None:
+        self.to_second_asked()
+        self.reach('Compare', Keys.ENTER)
+        self.browser.wait('#second-body .tally', 'differs')
+        self.reach('▾ /DATA/MSG00.DAT', Keys.ENTER)
+        waited(lambda: self.has_focus().startswith('▸ /DATA/MSG00.DAT'), 'the file is not closed, or has lost the focus')
+        self.reach('Compare', Keys.ARROW_LEFT)
+        self.browser.wait('.tally', 'can be repaired')
+        self.reach('Save repaired image', Keys.ENTER)
+        self.browser.wait('#second-body .say.good', 'Saved: ')
+        self.assertEqual(self.chosen_bytes(), discs.game())
+
+    def test_a_file_is_extracted_by_the_keyboard_alone(self) -> None:
+        self.begin(discs.game())
+        self.reach('▾ /', Keys.ARROW_DOWN, Keys.ENTER)
+        self.browser.wait('#findings .row b', '/README.TXT')
+        self.reach('Extract', Keys.ENTER)
+        self.browser.wait('#findings .say.good', 'Saved: README.TXT')
+        self.browser.downloaded('README.TXT').unlink()
+
+    def test_a_patcher_is_used_by_the_keyboard_alone(self) -> None:
+        self.to_player_right()
+        self.reach('Patch and save', Keys.ENTER)
+        self.browser.wait('#saved', 'Saved:')
+
     def test_the_focus_stays_on_what_is_shown(self) -> None:
         self.begin(discs.game())
         self.search('スタート')
@@ -50,7 +101,7 @@ class Access(States):
 
     def test_the_focus_stays_in_a_sheet_while_it_asks(self) -> None:
         self.to_second_asked()
-        main, swap = 'Repair Hoshizora Tantei (Japan).bin from it', 'Repair Hoshizora Tantei (Japan) (Alt).bin from Hoshizora Tantei (Japan).bin'
+        main, swap = 'Repair the open Hoshizora Tantei (Japan).bin with this file', 'Repair Hoshizora Tantei (Japan) (Alt).bin from Hoshizora Tantei (Japan).bin'
         self.assertEqual(self.has_focus(), main)
         self.assertEqual(self.browser.tab_stops(8), [swap, 'Compare', 'Open it instead', 'Cancel', main])
 

@@ -84,7 +84,7 @@ class Actions(PageTest):
     def test_an_image_with_its_script_takes_three(self) -> None:
         files = self.written()
         self.chooses('Apply a patch', files['cue'], files['game'], files['english'])
-        self.browser.wait('#panel-script .say.good', 'all fit game.bin')
+        self.browser.wait('#panel-script .say.good', 'all match game.bin')
         self.presses('Apply and save')
         self.assertEqual(self.browser.downloaded('game (patched).bin').read_bytes(), changed())
         self.presses('Save a cue sheet')
@@ -150,15 +150,15 @@ class Actions(PageTest):
         image = discs.written(game=common.image_of(common.iso_of({'DATA/MSG00.DAT': data})))['game']
         self.chooses('Translate a disc', image)
         self.wait_for_hash()
-        self.presses('Export texts')
+        self.presses('Export a table')
         table = self.browser.downloaded('game (texts).csv')
         self.browser.wait('#panel-text .say.good', 'Saved: game (texts).csv')
         head, *rows = common.waited(table.read_text, 'the table is empty').splitlines()
-        told = [row for row in rows if '章' in row]
-        self.assertEqual(len(told), 300)
+        spoken = [row for row in rows if '章' in row]
+        self.assertEqual(len(spoken), 300)
         mine = common.folder('table') / 'mine.csv'
-        mine.write_text('\n'.join([head, *(f'{row}text {number}' for number, row in enumerate(told)), '']))
-        self.chooses('Import a table', mine, field='#panel-text input[accept^=".tsv"]')
-        self.browser.wait('#panel-text .say.good', 'All 300 new texts fit.')
+        mine.write_text('\n'.join([head, *(f'{row}text {number}' for number, row in enumerate(spoken)), '']))
+        self.chooses('Import a list', mine, field='#panel-text input[accept^=".tsv"]')
+        self.browser.wait('#panel-text .say.good', 'All 300 translations fit.')
         self.assertEqual(self.publishes(), common.cdscript_prints('replace', image, '--list', mine))
         self.assertLessEqual(self.actions, 8)

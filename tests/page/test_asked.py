@@ -42,7 +42,7 @@ class Asked(PageTest):
         files = self.begin(discs.game() * 60, discs.game() * 60)
         self.browser.run(WATCHED)
         self.browser.drop('#main', [files['other']])
-        self.assertEqual(self.buttons(), ['Repair game.bin from it', 'Repair other.bin from game.bin', 'Compare', 'Open it instead', 'Cancel'])
+        self.assertEqual(self.buttons(), ['Repair the open game.bin with this file', 'Repair other.bin from game.bin', 'Compare', 'Open it instead', 'Cancel'])
         self.assertEqual(self.browser.text('#sheet h2'), 'What do you want to do with other.bin?')
         self.assertLess(self.browser.run('return bytes'), 2_000_000)
         self.assertEqual(self.browser.run('return pieces'), 0)
@@ -72,7 +72,7 @@ class Asked(PageTest):
         files = discs.written(first=discs.game(), second=discs.scratched(), third=discs.game())
         self.browser.drop('#drop', [files['first'], files['second']])
         self.browser.wait('#disc-line .name', 'first.bin')
-        self.assertEqual(self.buttons()[0], 'Repair first.bin from it')
+        self.assertEqual(self.buttons()[0], 'Repair the open first.bin with this file')
         self.browser.drop('#main', [files['third']])
         self.browser.wait('#sheet', 'What do you want to do with third.bin?')
         self.browser.answer('Cancel')
@@ -93,7 +93,7 @@ class Asked(PageTest):
         self.press('Repair from another dump')
         self.browser.run('document.querySelector("#files").dispatchEvent(new Event("cancel"))')
         self.browser.drop('#main', [files['other']])
-        self.assertEqual(self.buttons()[0], 'Repair game.bin from it')
+        self.assertEqual(self.buttons()[0], 'Repair the open game.bin with this file')
 
     # ---- closing
 
@@ -103,7 +103,7 @@ class Asked(PageTest):
     def test_a_closed_image_leads_back_to_the_start(self) -> None:
         files = self.begin(discs.game(), discs.game())
         self.open_script(files['english'])
-        self.browser.wait('#panel-script .say.good', 'all fit')
+        self.browser.wait('#panel-script .say.good', 'all match')
         self.close()
         self.browser.wait('#start h1')
         self.assertFalse(self.is_asked())

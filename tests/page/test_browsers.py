@@ -33,7 +33,7 @@ class Browsers(unittest.TestCase):
         _, audit = common.run_program('audit', files['game'])
         common.waited(lambda: audit.strip() in str(browser.run('return document.querySelector("#panel-disc").innerText')), audit)
         browser.give('#files', [files['english']])
-        browser.wait('#panel-script .say', 'english.txt: 5 of 8 patches fit game.bin, 3 do not.')
+        browser.wait('#panel-script .say', 'english.txt: 5 of 8 patches match game.bin, 3 do not.')
         browser.give('#files', [files['other']])
         browser.wait('#sheet h2', 'other.bin')
         self.press(browser, 'Cancel')
@@ -56,11 +56,11 @@ class Browsers(unittest.TestCase):
         self.press(browser, 'Patch and save')
         self.assertEqual(browser.downloaded('Starlit (English).bin').read_bytes(), out)
 
-    @common.wants('firefox-esr', 'firefox-esr')
+    @common.needs('firefox-esr', 'firefox-esr')
     def test_firefox_opens_audits_applies_and_plays(self) -> None:
         self.whole(marionette.Firefox())
 
-    @common.wants('firefox-esr', 'firefox-esr')
+    @common.needs('firefox-esr', 'firefox-esr')
     def test_firefox_does_not_hold_the_images_in_memory_that_it_saves(self) -> None:
         browser = marionette.Firefox()
         self.addCleanup(browser.quit)
@@ -70,7 +70,7 @@ class Browsers(unittest.TestCase):
         browser.give('#files', [files['long']])
         browser.wait('#disc-line .sha1')
         browser.give('#files', [files['script']])
-        browser.wait('#panel-script .tally')
+        browser.wait('#panel-script .verdict')
         before = browser.memory()
         for _ in range(2):
             self.press(browser, 'Save with the other')
@@ -78,6 +78,6 @@ class Browsers(unittest.TestCase):
             self.press(browser, 'Back to Check')
         self.assertLess(browser.memory() - before, 100e6)
 
-    @webkit.wanted
+    @webkit.needs_webkit
     def test_webkit_opens_audits_applies_and_plays(self) -> None:
         self.whole(webkit.WebKit())

@@ -7,7 +7,7 @@ from pathlib import Path
 import common
 from pages import PageTest
 
-MARKS = ['k-mode1', 'k-nosync', 'k-mode2', 'k-mode0', 'k-other']
+MARKS = ['k-mode1', 'k-shade', 'k-nosync', 'k-mode2', 'k-mode0', 'k-other']
 FIELDS = ['h-sync', 'h-header', 'h-edc', 'h-zeros', 'h-p', 'h-q']
 GROUNDS = ['panel', 'bg', 'sunk', 'soft', 'good-soft', 'bad-soft', 'warn-soft']
 FINDINGS = ['f-edc', 'f-parity', 'f-address', 'f-lost']
@@ -28,6 +28,7 @@ COLOURS: list[tuple[str, str, list[str], float]] = [
     ('A, wrong address', 'f-address', MARKS, 3),
     ('S, sync or mode lost', 'f-lost', MARKS, 3),
     ('a letter on these', 'panel', FINDINGS, 4.5),
+    ('a file beside another one', 'k-shade', ['k-mode1'], 1.2),
     ('a byte in a field, and the name of the field', 'ink', FIELDS, 4.5),
     ('a zero byte in a field', 'ink2', FIELDS, 4.5),
     ('the ring of a byte that may be wrong', 'f-edc', ['panel', *FIELDS], 3),

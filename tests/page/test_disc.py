@@ -12,7 +12,7 @@ import common
 import discs
 from common import SECTOR_SIZE, TOP, Server, damaged, folder, image_of, run_program, sector, sha1, waited
 from keys import Keys
-from pages import CLIPBOARD, HELD, PageTest
+from pages import CLIPBOARD, HELD, UNSEEN, PageTest
 from sector import SYNC
 
 VERDICT = '#disc-line .lead'
@@ -188,6 +188,18 @@ class Disc(PageTest):
                 browser.send('#map', Keys.END)
                 waited(lambda: self.place() == 'Block 499, no sync field: audio, or an unknown format', self.place())
 
+    def test_damage_in_sectors_of_mode_2_is_shown(self) -> None:
+        image = discs.changed(discs.mode2(40), (7, 500), (9, 2200), (11, 14))
+        image = image[:20 * SECTOR_SIZE + 16] + bytes(SECTOR_SIZE - 16) + image[21 * SECTOR_SIZE:]
+        browser = self.browser
+        browser.give('#files', [file_of(image)])
+        browser.wait(VERDICT, '2 of 39 data sectors are damaged, in 1 place; 1 has a wrong address.')
+        self.assertIn('1 Mode 2 sector could not be tested. You can view and repair Mode 2 sectors, but not patch them.', browser.text(VERDICT))
+        for block, words in ((7, 'damaged: the EDC does not match, the parity does not match'), (9, 'damaged: the parity does not match'),
+                             (11, 'The address in its header is not that of its block'), (12, 'This sector is sound'), (20, 'was not tested')):
+            self.go_to(block)
+            browser.wait('.say.thin', words)
+
     def test_more_images_than_one_beside_the_open_one_are_refused(self) -> None:
         browser = self.opened(file_of(discs.game()))
         browser.give('#files', [file_of(scratched(), 'a.bin'), file_of(discs.game(), 'b.bin')])
@@ -228,7 +240,7 @@ class Disc(PageTest):
                 labels.push(label);
                 return new TextDecoder(label, ...given);
             }''')
-        self.open_image(file_of(discs.game()))
+        self.open_image(file_of(scratched()))
         self.assertNotIn('shift_jis', self.browser.run('return labels'))
 
     def test_the_style_is_that_of_the_sources(self) -> None:
@@ -335,7 +347,7 @@ class Disc(PageTest):
                             (Keys.PAGE_UP, 0), ('r', SECTORS), (Keys.ARROW_LEFT, SECTORS - 1), (Keys.PAGE_DOWN, last), ('p', 101)):
             browser.press(keys)
             self.assertEqual(self.at(), block, keys)
-        self.assertEqual(self.place(), 'Block 101, no sync field: audio, or an unknown format, in a Mode 1 track: sync field or mode byte lost')
+        self.assertEqual(self.place(), 'Block 101, no sync field: audio, or an unknown format, in a data track: sync field or mode byte lost')
         browser.press('R')
         self.assertEqual(self.at(), 0)
         browser.press('n')
@@ -372,7 +384,7 @@ class Disc(PageTest):
     def test_one_bad_sector_among_many_is_seen_and_met_by_a_click(self) -> None:
         block = 17000
         self.browser.size(360)
-        other = SYNC + bytes([0, 2, 0, 2]) + bytes(SECTOR_SIZE - 16)
+        other = SYNC + bytes([0, 2, 0, 0]) + bytes(SECTOR_SIZE - 16)
         image = other * block + damaged(sector(block, b'bad'), 0) + other * 8000
         browser = self.opened(file_of(image))
         browser.wait('#map')
@@ -400,11 +412,56 @@ class Disc(PageTest):
         self.assertEqual(browser.run(f"{entry} return it.getAttribute('aria-pressed')"), 'true')
         browser.run(f'{entry} it.click()')
         waited(lambda: self.pixels('--k-mode1'), 'Mode 1 does not come back')
+        browser.run(f'{entry} it.click()')
+        self.press('only data damaged shown')
+        waited(lambda: self.pixels('--k-mode1'), 'Mode 1 does not come back')
+        self.assertIn('data damaged', browser.run('return document.activeElement.innerText'))
+        self.assertNotIn('shown', browser.text('#panel-disc header'))
+
+    def test_files_have_two_shades_by_turns(self) -> None:
+        for shown in (False, True):
+            browser = self.opened(file_of(discs.game() if shown else image_of([b'no volume'] * 30)))
+            browser.wait('.sha1')
+            waited(lambda: bool(self.pixels('--k-shade')) == shown and self.pixels('--k-mode1'), f'another shade: {not shown}')
+            self.assertEqual('two shades' in browser.text('#panel-disc header'), shown)
+            self.setUp()
+
+    def test_a_sound_disc_begins_with_the_sector_of_its_first_file(self) -> None:
+        image = file_of(discs.game())
+        first = int(common.cdscript_prints('files', image).split()[0])
+        browser = self.opened(image)
+        browser.wait('#sector-title', f'block {first}')
+        browser.wait('.hex .line')
+        self.assertEqual(self.at(), first)
+        self.assertFalse(browser.run("return document.activeElement.matches('.hex')"))
+        self.setUp()
+        self.opened(file_of(scratched())).wait('.sha1')
+        browser.wait('#sector-title', common.text('sectorNoSectorOpen'))
+
+    def test_a_button_under_the_map_leads_to_the_sector_where_it_is_below(self) -> None:
+        browser = self.opened(file_of(discs.game()))
+        browser.wait('.hex .line')
+        for width, height in ((360, 740), (900, 900)):
+            browser.size(width, height)
+            browser.run('scrollTo(0, 0)')
+            self.press('Open the sector')
+            self.wait_for_focus('.hex')
+            self.assertLessEqual(browser.run(UNSEEN, '#sector-title'), 0)
+        browser.size(1280)
+        waited(lambda: not browser.run("return document.querySelector('.below').checkVisibility()"), 'the button stays')
+
+    def test_the_byte_that_p_and_q_give_is_named(self) -> None:
+        block = discs.first_block()
+        old, fresh = discs.game()[block * SECTOR_SIZE + 16 + 74], discs.changed(discs.game(), (block, 16 + 74))[block * SECTOR_SIZE + 16 + 74]
+        browser = self.opened(file_of(discs.changed(discs.game(), (block, 16 + 74))))
+        self.go_to(block)
+        browser.wait('#panel-disc .say.bad', f'P and Q give {old:02X} in place of {fresh:02X} at offset 74. The EDC then matches.')
+        self.assertTrue(browser.run('return document.querySelector("#count-script").hidden'))
 
     # ---- findings and texts
 
     def test_findings_are_grouped_into_places_that_open(self) -> None:
-        image = bytearray(SYNC + bytes([0, 2, 0, 2]) + bytes(SECTOR_SIZE - 16)) * 2000
+        image = bytearray(SYNC + bytes([0, 2, 0, 0]) + bytes(SECTOR_SIZE - 16)) * 2000
         for block in (10, 400, 1090, 1800):
             image[block * SECTOR_SIZE:(block + 1) * SECTOR_SIZE] = sector(block, b'')
             image[block * SECTOR_SIZE + 2100] ^= 1

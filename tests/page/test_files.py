@@ -28,6 +28,13 @@ class Files(PageTest):
     def shown(self) -> list[str]:
         return list(self.browser.run(SHOWN))
 
+    def sort(self, column: str) -> None:
+        """Presses the heading of a column."""
+        self.browser.click_found('[...document.querySelectorAll(".files th button")].find(it => it.innerText.startsWith(given[0]))', column)
+
+    def names(self) -> list[str]:
+        return [row.split(' ')[0] for row in self.shown()]
+
     def choose(self, name: str) -> None:
         """Selects a file by its row."""
         self.press(name)
@@ -48,6 +55,7 @@ class Files(PageTest):
         image = self.begin(discs.game())
         printed = common.cdscript_prints('files', image)
         rows = [line.split('\t') for line in printed.splitlines()]
+        self.sort('Block')
         self.assertEqual(self.shown(), [f'{path} {int(size):,} {block}' for block, size, path in rows])
         self.assertEqual(self.browser.text('#findings [data-tab=files]'), f'Files {len(rows)}')
         self.press('Save…')
@@ -64,6 +72,7 @@ class Files(PageTest):
         image = self.begin(many())
         printed = common.cdscript_prints('files', image)
         names = [line.split('\t')[2] for line in printed.splitlines()]
+        self.sort('Block')
         self.assertEqual(self.browser.text('#findings [data-tab=files]'), 'Files 420')
         self.assertEqual(len(self.shown()), 200)
         self.assertEqual(self.browser.run(STOPS), 1)
@@ -77,6 +86,71 @@ class Files(PageTest):
         self.assertEqual([row.split(' ')[0] for row in self.shown()], [name for name in names if '/DIR4/FILE41' in name])
         self.browser.type('#files-filter', 'nothing')
         self.assertEqual(self.shown(), ['No matching files.'])
+
+    def test_a_press_on_a_heading_sorts_the_files_and_another_one_turns_them_round(self) -> None:
+        image = self.begin(discs.game())
+        rows = [line.split('\t') for line in common.cdscript_prints('files', image).splitlines()]
+        for column, key in (('Bytes', lambda row: int(row[1])), ('Block', lambda row: int(row[0]))):
+            for is_down, order in ((False, 'ascending'), (True, 'descending')):
+                self.sort(column)
+                self.assertEqual(self.names(), [row[2] for row in sorted(rows, key=key, reverse=is_down)])
+                self.assertEqual(self.browser.run('return document.querySelector(".files [aria-sort]").ariaSort'), order)
+        self.assertTrue(self.browser.run('return document.activeElement.innerText.startsWith("Block")'))
+
+    def test_folders_are_listed_by_name_and_a_press_opens_or_closes_one(self) -> None:
+        folders = [f'DIR{i}' for i in range(5)]
+        self.begin(many())
+        self.assertEqual(self.shown(), [f'▸ /{name}/ {100 if name != "DIR4" else 20} files' for name in folders])
+        self.press('▸ /DIR4/')
+        files = [f'/DIR4/FILE{i}.DAT' for i in range(400, 420)]
+        self.assertEqual(self.names()[5:], files)
+        self.assertEqual(self.focused(), 'Findings, files and runs: ▾ /DIR4/')
+        self.sort('Name')
+        self.assertEqual(self.names()[1:21], files[::-1])
+        self.press('▾ /DIR4/')
+        self.assertEqual(len(self.shown()), 5)
+        self.browser.type('#files-filter', 'file015')
+        self.assertEqual([row.rsplit(' ', 2)[0] for row in self.shown()], ['▾ /DIR0/', '/DIR0/FILE015.DAT'])
+        self.setUp()
+        self.begin(discs.game())
+        self.assertEqual(self.names(), ['▾', '/README.TXT', '▾', MESSAGES, '/DATA/STAGE.DAT'])
+
+    def test_a_file_that_the_script_writes_in_is_marked_until_it_is_taken_back(self) -> None:
+        self.begin(discs.game())
+        self.choose(MESSAGES)
+        self.give(discs.messages()[:1500])
+        self.browser.wait('#findings .say.good', 'bytes, now 1,500')
+        before = f'{len(discs.messages()):,}'
+        self.browser.wait('.files [aria-selected=true]', f'{before} → 1,500')
+        marked = "return [...document.querySelectorAll('.files .tag')].map(it => `${it.closest('tr').querySelector('bdi').innerText} ${it.innerText}`)"
+        self.assertEqual(self.browser.run(marked), [f'{MESSAGES} in the script'])
+        self.press('Extract as patched')
+        self.browser.wait('#findings .say.good', 'Saved: MSG00.DAT')
+        saved = self.browser.downloaded('MSG00.DAT')
+        self.assertEqual(common.waited(saved.read_bytes, 'the file is empty'), discs.messages()[:1500])
+        saved.unlink()
+        self.press('Take back')
+        self.browser.wait('#findings .say.good', 'earlier lines for this file were removed.')
+        self.assertEqual(self.browser.run(marked), [])
+        self.assertNotIn('→', self.browser.text('.files [aria-selected=true]'))
+        self.assertEqual(self.browser.run('return document.activeElement.innerText'), 'Extract…')
+        self.assertTrue(self.browser.run('return document.querySelector("#count-script").hidden'))
+
+    def test_lines_that_do_more_than_replace_a_file_stay_when_it_is_taken_back(self) -> None:
+        block = discs.first_block()
+        self.begin(discs.game())
+        self.open_script(discs.written(mine=f'cdpatch 1\nset {block} 0 41 was {discs.START[:1].hex()}\nfill {block} 9 2 00\nset {block} 4 41 was FF\n')['mine'])
+        self.browser.click('#tab-disc')
+        self.choose(MESSAGES)
+        self.press('Extract as patched')
+        self.browser.wait('#findings .say.warn', '1 line that does not match is left out.')
+        expected = b'A' + discs.messages()[1:9] + bytes(2) + discs.messages()[11:]
+        self.assertEqual(common.waited(self.browser.downloaded('MSG00.DAT').read_bytes, 'the file is empty'), expected)
+        self.press('Take back')
+        self.browser.wait('#findings .say.warn', '1 earlier line for this file was removed.')
+        self.assertIn('2 lines still write in this file. The first is line 2.', self.browser.text('#findings .say.warn'))
+        self.press('Go to line 2')
+        self.browser.wait('#panel-script')
 
     def test_a_file_is_saved_as_it_is_on_the_disc(self) -> None:
         self.begin(discs.game())
@@ -123,7 +197,7 @@ class Files(PageTest):
         saved = discs.written(session=self.script_of(image, first))['session']
         self.setUp()
         self.open_files(image, saved)
-        self.browser.wait('#panel-script .say.good', 'all fit')
+        self.browser.wait('#panel-script .say.good', 'all match')
         self.browser.click('#tab-disc')
         self.browser.click('#findings [data-tab=files]')
         self.choose(MESSAGES)

@@ -106,13 +106,13 @@ class Harness(unittest.TestCase):
         self.assertEqual(browser.run('return isSecureContext'), True)
         self.assertIn('GET /harness.html HTTP/1.1', server.requests)
 
-    @common.wants('firefox-esr', 'firefox-esr')
+    @common.needs('firefox-esr', 'firefox-esr')
     def test_firefox_takes_chosen_files_and_saves(self) -> None:
         browser = marionette.Firefox()
         self.addCleanup(browser.quit)
         self.choose_and_save(browser, *files())
 
-    @webkit.wanted
+    @webkit.needs_webkit
     def test_webkit_takes_chosen_files_and_saves(self) -> None:
         browser = webkit.WebKit()
         self.addCleanup(browser.quit)

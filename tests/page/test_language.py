@@ -1,4 +1,4 @@
-"""Packs the page with another english.js, in which each letter has a mark, and visits its states (tests/page/states.py): a translation is
+"""Packs the page with other English texts, in which each letter has a mark, and visits its states (tests/page/states.py): a translation is
 one file. A word without marks is a text in the code, unless it is one of those that no translation changes."""
 
 import functools
@@ -23,8 +23,9 @@ STEP = int(os.environ.get('LANGUAGE_STEP', '1'))
 # Code, lines of a script, commands, tables of bytes, the program's output, and names of files.
 SKIPPED = 'script, style, #data, .src, .line-out, .hex, .log, .report, .notices, bdi'
 
-# Complete texts without marks: names, words of a script, and commands.
-WHOLE = {'cdpatch', 'carry', 'rebuild', 'was', 'cdpatch check', 'cdpatch apply', 'cdpatch audit', 'cdpatch list', 'Big5', 'Shift-JIS (CP932)'}
+# Complete texts without marks: names, words of a script, commands, and the languages, each by its own name.
+WHOLE = {'cdpatch', 'carry', 'rebuild', 'was', 'cdpatch check', 'cdpatch apply', 'cdpatch audit', 'cdpatch list', 'Big5', 'Shift-JIS (CP932)',
+         'English', 'Español', 'Português (Brasil)', 'Français', 'Deutsch', 'Italiano'}
 
 # Parts of texts without marks: names, hashes, lines of a script, the browser's own words, and input from the tests.
 WITHIN = [
@@ -40,6 +41,7 @@ CORE = {
     'Calls.outcomeLine': r'(refused: )?old bytes differ at block \d+ offset \d+|no block \d+|block \d+ is damaged',
     'SectorCalls.auditLine': r'edc p=\d+ q=\d+',
     'script/left of sentences/english.js, with blocksText of sentences/blocks.js': r'is damaged in blocks [\d, ]+ and \d+ more',
+    'kind/what of sentences/kinds.js': '^not recognised$',
     'replace/no-room of sentences/english.js': r'the new text has \d+ bytes in CP932, and there is room for \d+: \d+ too many',
 }
 
@@ -68,7 +70,7 @@ return [...found]'''
 
 
 def marked(english: str) -> str:
-    """Adds a mark to each letter in the texts of english.js, but not in LANGUAGE or in names in braces."""
+    """Adds a mark to each letter in the texts of a file, but not in LANGUAGE or in names in braces."""
     def with_marks(found: re.Match[str]) -> str:
         return found[0] if found[1] is None else re.sub(r'\{\w+\}|\\(?:u\w{4}|x\w\w|.)|([A-Za-z])', lambda it: it[0] + (MARK if it[1] else ''), found[0], flags=re.DOTALL)
 
@@ -80,8 +82,9 @@ def in_another_language(page: Path) -> Path:
     """The page in another language, packed from the sources beside this page, or else from this tree."""
     web, room = page.with_name('web'), common.folder('language')
     shutil.copytree(web if web.is_dir() else common.TOP / 'web', room / 'web')
-    english = room / 'web/page/texts/english.js'
-    english.write_text(marked(english.read_text('utf-8')), 'utf-8')
+    for name in ('english.js', 'player/english.js'):
+        english = room / 'web/page/texts' / name
+        english.write_text(marked(english.read_text('utf-8')), 'utf-8')
     made, most = room / 'cdpatch.html', pack.LARGEST_PAGE
     pack.LARGEST_PAGE = 2 * most
     made.write_text(pack.packed_door('page', room / 'web', common.TOP / 'library/cdpatch.wasm', Path('/dev/null')), 'utf-8')

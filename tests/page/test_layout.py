@@ -83,10 +83,10 @@ class Layout(PageTest):
         script = discs.written(english='\n'.join(['cdpatch 1', *lines, 'set 0 0 41 was 42', '']))['english']
         self.open_script(script)
         self.press('Check')
-        self.browser.wait('.tally', '400')
+        self.browser.wait('#panel-script .verdict', '400')
         self.judge('script')
         self.browser.click('#tab-publish')
-        self.browser.wait('#panel-publish', '400 of 401 patches fit')
+        self.browser.wait('#panel-publish', '400 of 401 patches match')
         self.assertNotIn('The name of the patched image has to', self.browser.text('#panel-publish'))
         self.judge('publish')
 

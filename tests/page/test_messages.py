@@ -53,7 +53,7 @@ class Messages(PageTest):
         self.browser.size(360)
         self.open_image(files['game'])
         self.open_script(files['english'])
-        self.press(common.text('scriptUndoScript'))
+        self.save_undo()
         self.is_seen('[aria-label=Script] .say.good', 'Saved: english (undo).txt')
         self.browser.click('#tab-disc')
         self.browser.click('#tab-script')
@@ -124,7 +124,7 @@ class Messages(PageTest):
 
     def test_a_note_opens_beside_its_word(self) -> None:
         self.open_both(discs.scratched(), discs.refused())
-        self.browser.wait('.tally')
+        self.browser.wait('#panel-script .verdict')
         self.browser.click('#tab-disc')
         self.press('Next finding')
         self.browser.wait('#sector-title .term')
@@ -155,14 +155,37 @@ class Messages(PageTest):
         self.browser.press(Keys.ENTER)
         self.assertEqual(self.browser.run(focused), 'map')
 
+    def test_a_notice_over_the_panel_is_closed_at_its_right_end(self) -> None:
+        self.open_image(discs.written(game=discs.game())['game'])
+        for width in WIDTHS:
+            self.browser.size(width)
+            self.open_files(discs.written(junk=b'PK\3\4' + bytes(99))['junk'])
+            self.is_seen('#messages .say', 'Not opened.')
+            self.assertEqual(self.browser.run('return document.querySelectorAll("#messages .say").length'), 1)
+            beside = '''const [say, cross] = ['.say', '.cross'].map(it => document.querySelector(`#messages ${it}`).getBoundingClientRect());
+                return say.right - cross.right + Math.abs(cross.top - say.top)'''
+            self.assertLess(self.browser.run(beside), 24)
+            self.browser.click('#messages .cross')
+            self.is_gone('#messages .say')
+
+    def test_a_long_job_is_shown_in_the_bar_on_every_panel(self) -> None:
+        self.browser.run(f'{GATE} globalThis.least = 400000;')
+        self.open_files(discs.written(game=discs.game())['game'])
+        for panel in ('text', 'script', 'publish', 'disc'):
+            self.browser.click(f'#tab-{panel}')
+            self.browser.wait('#long-job [aria-label="Reading the disc"]', 'Reading the disc 0 %')
+        self.browser.run('openGate()')
+        self.wait_for_hash()
+        self.is_gone('#long-job')
+
     def test_a_job_that_is_asked_for_while_another_one_runs_is_refused_with_words(self) -> None:
         self.open_image(discs.written(game=discs.game())['game'])
         self.browser.click('#tab-text')
         self.browser.run(GATE)
         self.browser.run('Worker.prototype.postMessage = () => {}')
-        self.press('Export texts')
+        self.press('Export a table')
         self.browser.wait('#panel-text .progress')
-        self.press('Export texts')
+        self.press('Export a table')
         self.browser.wait('#panel-text .is-busy', 'Another job is running here. Wait until it has finished, or cancel it first.')
         self.press('Cancel')
         self.browser.run('openGate()')

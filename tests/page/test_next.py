@@ -10,10 +10,18 @@ from sector import SYNC
 from states import another
 
 SAID = '#panel-script .say'
-ALL_FIT = 'english.txt: 6 patches, all fit game.bin.'
+ALL_FIT = 'english.txt: 6 patches, which all match game.bin.'
+
+
+# The labels of the main buttons beside the editor.
+MAIN = 'return [...document.querySelectorAll("#panel-script .side .main")].map(it => it.innerText)'
 
 
 class Next(PageTest):
+    def sign(self) -> str:
+        """The picture of the verdict that Check gives."""
+        return str(self.browser.run('return document.querySelector("#panel-script .verdict use").getAttribute("href")'))
+
     def files(self) -> dict[str, Path]:
         return discs.written(game=discs.game(), scratched=discs.scratched(), english=discs.script(), refused=discs.refused())
 
@@ -34,7 +42,7 @@ class Next(PageTest):
         self.browser.wait(f'{SAID}.good', ALL_FIT)
         self.browser.click('#tab-disc')
         self.browser.drop('#main', [files['refused']])
-        self.browser.wait(f'{SAID}.warn', 'refused.txt: 6 of 8 patches fit game.bin, 2 do not.')
+        self.browser.wait(f'{SAID}.warn', 'refused.txt: 6 of 8 patches match game.bin, 2 do not.')
 
     def test_a_script_that_is_opened_is_read_drawn_and_checked_in_turns_of_their_own(self) -> None:
         files = self.files()
@@ -76,8 +84,8 @@ class Next(PageTest):
     def test_how_many_changes_fit_is_said(self) -> None:
         files = {**self.files(), **discs.written(one='cdpatch 1\nrebuild 1\n', none='cdpatch 1\nset 9999 0 41\n')}
         self.open_image(files['scratched'])
-        for name, said in (('refused', 'refused.txt: 5 of 8 patches fit scratched.bin, 3 do not.'), ('one', 'Nothing shows whether the patch of one.txt fits scratched.bin.'),
-                           ('none', 'none.txt: 1 patch, which does not fit scratched.bin.')):
+        for name, said in (('refused', 'refused.txt: 5 of 8 patches match scratched.bin, 3 do not.'), ('one', 'Nothing shows whether the patch of one.txt fits scratched.bin.'),
+                           ('none', 'none.txt: 1 patch, which does not match scratched.bin.')):
             self.open_files(files[name])
             self.browser.wait(SAID, said)
             self.assertIn(said, self.browser.text('#announced'))
@@ -108,7 +116,7 @@ class Next(PageTest):
         cases = [('other', 'english', 'bad', 'None of the 4 patches of english.txt that name old bytes fits other.bin.', 'Save with the other 2 patches…', 'Go to line 4'),
                  ('other', 'unnamed', 'warn', 'Nothing shows whether the 2 patches of unnamed.txt fit other.bin.', 'Apply and save…', 'Check again'),
                  ('other', 'few', 'warn', 'Nothing shows whether the 2 patches of few.txt fit other.bin.', 'Save with the other patch…', 'Go to line 3'),
-                 ('game', 'refused', 'warn', 'refused.txt: 6 of 8 patches fit game.bin, 2 do not.', 'Save with the 6 patches that fit…', 'Go to line 11')]
+                 ('game', 'refused', 'warn', 'refused.txt: 6 of 8 patches match game.bin, 2 do not.', 'Save with the 6 patches that fit…', 'Go to line 11')]
         for image, script, tone, words, save, focused in cases:
             with self.subTest(script):
                 self.setUp()
@@ -116,7 +124,8 @@ class Next(PageTest):
                 self.browser.wait(f'{SAID}.{tone}', words)
                 self.browser.wait(f'{SAID}.{tone} .btn:not(.main)', save)
                 self.assertEqual(self.focused(), f'Check: {focused}')
-                self.assertFalse(self.browser.run("return document.querySelector('#panel-script .side .main') !== null"))
+                self.assertEqual(self.browser.run(MAIN), [it for it in [focused] if it.startswith('Go to line')])
+                self.assertEqual(self.sign(), {'warn': '#icon-warn', 'bad': '#icon-cross'}[tone])
                 if image == 'other':
                     self.assertNotIn('good-ink', self.browser.run("return document.querySelector('#panel-script .side').innerHTML"))
 
@@ -127,6 +136,7 @@ class Next(PageTest):
         self.browser.wait(f'{SAID}.good', 'patched.bin is patched already.')
         self.assertIn('It holds what all 6 patches of english.txt write.', self.browser.text(f'{SAID}.good'))
         self.assertNotIn('Apply and save', self.browser.text('#panel-script .side'))
+        self.assertEqual((self.browser.run(MAIN), self.sign()), ([], '#icon-tick'))
         self.assertIn('is patched already', self.browser.text('#announced'))
 
     def test_what_was_found_and_its_button_are_seen_at_every_width(self) -> None:
@@ -163,10 +173,11 @@ class Next(PageTest):
                 self.assertIn('Your emulator opens a cue sheet', side)
                 self.assertEqual('It is for a disc of one track.' in side, sheet not in names)
                 self.assertEqual('Copy there too, since the cue sheet names it: song.bin.' in side, more != {})
-                self.assertEqual(self.browser.run("return document.querySelector('#panel-script .side .row .btn').innerText"), 'Save a cue sheet…')
+                self.assertEqual(self.browser.run("return document.querySelector('#panel-script .side .stack > .row .btn').innerText"), 'Save a cue sheet…')
                 self.press('Save a cue sheet')
                 saved = self.browser.downloaded('game (patched).cue')
                 common.waited(lambda: saved.read_text() == discs.sheet_of(**{'game (patched)': discs.DATA, **more}), 'another cue sheet')
+                self.browser.wait('#panel-script .side', 'Saved. Now open game (patched).cue in your emulator.')
                 self.assertEqual(self.focused(), 'Check: Save a cue sheet…')
 
     def test_after_a_disc_that_may_have_more_tracks_was_saved_no_cue_sheet_is_made_up(self) -> None:
@@ -177,9 +188,9 @@ class Next(PageTest):
         self.press('Apply and save')
         self.wait_for_saved()
         side = self.browser.text('#panel-script .side')
-        self.assertIn('A .cue of the old image starts the old game.', side)
+        self.assertIn('it still starts the old game.', side)
         self.assertNotIn('cue sheet', side)
-        self.assertEqual(self.browser.run("return document.querySelector('#panel-script .side .row .btn').innerText"), 'Open the new image')
+        self.assertEqual(self.browser.run("return document.querySelector('#panel-script .side .stack > .row .btn').innerText"), 'Open the new image')
         self.assertEqual(self.focused(), 'Check: Back to Check')
 
     def test_a_script_is_checked_after_the_check_of_another(self) -> None:
@@ -187,7 +198,7 @@ class Next(PageTest):
         self.open_image(files['game'])
         self.browser.run(f'{GATE} held = 0')
         self.open_script(files['refused'])
-        self.browser.wait(SAID, 'refused.txt: 6 of 8 patches fit game.bin')
+        self.browser.wait(SAID, 'refused.txt: 6 of 8 patches match game.bin')
         self.browser.run('Object.assign(globalThis, { reads: 0, held: Infinity, least: 0 })')
         self.press('Check again')
         self.browser.wait('#panel-script .side .progress')

@@ -2,6 +2,7 @@
 
 import base64
 import json
+import re
 import zlib
 from typing import Any
 
@@ -41,7 +42,7 @@ class Publish(PageTest):
         self.wait_for_hash()
         self.open_script(paths['english'])
         self.browser.click('#tab-publish')
-        self.browser.wait('#panel-publish', 'english.txt: 6 patches, all fit game.bin.')
+        self.browser.wait('#panel-publish', 'english.txt: 6 patches, which all match game.bin.')
         self.browser.type('#patcher-title', HOSTILE)
 
     def test_a_patcher_is_the_page_byte_for_byte_and_data_after_it(self) -> None:
@@ -75,6 +76,69 @@ class Publish(PageTest):
         self.assertEqual(self.browser.run('return document.images.length'), 0)
         self.assertEqual(self.browser.attempts(), [])
 
+    def test_the_language_is_in_the_patcher_only_if_the_author_chose_one(self) -> None:
+        self.publish()
+        name = 'img src=x onerror=alert(1).html'
+        self.press('Save as a patcher')
+        self.assertNotIn('language', data_of(self.browser.downloaded(name).read_bytes()))
+        self.browser.run('const it = document.querySelector("#patcher-language"); it.value = "fr"; it.dispatchEvent(new Event("change"))')
+        self.press('Preview as a player')
+        self.browser.wait('#player .step.now', common.text('playerYourDisc', 'fr'))
+        self.assertEqual(self.browser.run('return document.activeElement.innerText'), common.text('playerChooseTheImage', 'fr'))
+        self.press(common.text('playerBackToPublish', 'fr'))
+        self.browser.wait('#panel-publish h2', 'A patcher for your players')
+        self.assertEqual(self.browser.run('return document.activeElement.innerText'), 'Preview as a player')
+        (self.browser.downloads / name).unlink()
+        self.press('Save as a patcher')
+        saved = self.browser.downloaded(name)
+        self.assertEqual(data_of(saved.read_bytes())['language'], 'fr')
+        self.browser.open(saved)
+        self.press(common.text('playerOpenInFullCdpatch', 'fr'))
+        self.assertEqual(self.browser.run('return document.querySelector("#patcher-language").value'), 'fr')
+
+    def fields(self) -> list[str]:
+        """What is in the fields of the title, the author, and the note."""
+        return [str(self.browser.run(f"return document.querySelector('#patcher-{name}').value")) for name in ('title', 'author', 'note')]
+
+    def test_the_title_the_author_and_the_note_are_kept_in_the_script(self) -> None:
+        paths = discs.written(game=discs.game(), english=discs.script(), other=discs.named())
+        typed = ['Starlit', 'Team Comet, é', 'All menus.\n\n  Chapter 1: 星空']
+        self.open_image(paths['game'])
+        self.open_script(paths['english'])
+        self.browser.click('#tab-publish')
+        for name, text in zip(('title', 'author', 'note'), typed):
+            self.browser.type(f'#patcher-{name}', text)
+        self.press('Keep these in the script')
+        self.browser.wait('#panel-publish .say.good', 'are comments of the script now')
+        self.browser.click('#tab-script')
+        kept = self.script_text()
+        head, *lines = discs.script().splitlines(keepends=True)
+        comments = ['title: Starlit', 'by: Team Comet, é', 'note: All menus.', 'note:', 'note:   Chapter 1: 星空']
+        self.assertEqual(kept, head + ''.join(f'# patcher {it}\n' for it in comments) + ''.join(lines))
+        self.press('Check')
+        self.browser.wait('#panel-script .verdict', '6 patches, which all match')
+        self.setUp()
+        self.open_image(paths['game'])
+        paths['english'].write_text(kept)
+        self.open_script(paths['english'])
+        self.browser.click('#tab-publish')
+        self.assertEqual(self.fields(), typed)
+        # The entries of a script end with it, and what was typed stays.
+        self.open_script(paths['other'])
+        self.assertEqual(self.fields(), ['', '', ''])
+        self.browser.click('#tab-publish')
+        self.browser.type('#patcher-title', 'Mine')
+        self.open_script(paths['english'])
+        self.assertEqual(self.fields(), ['Mine', '', ''])
+
+    def test_the_size_of_the_patcher_is_shown_before_it_is_saved(self) -> None:
+        self.publish()
+        self.browser.wait('#panel-publish', ' KB.')
+        [said] = re.findall('About ([0-9,]+) KB', self.browser.text('#panel-publish'))
+        self.press('Save as a patcher')
+        saved = self.browser.downloaded('img src=x onerror=alert(1).html').read_bytes()
+        self.assertAlmostEqual(int(said.replace(',', '')), len(saved) / 1000, delta=1)
+
     def test_publishing_makes_no_slice_for_each_patch(self) -> None:
         script = 'cdpatch 1\n' + ''.join(f'fill {block} 0 1 41\n' for block in range(200, 19000, 12))
         files = discs.written(long=discs.long_disc(), script=script)
@@ -84,7 +148,7 @@ class Publish(PageTest):
             const { slice } = Blob.prototype;
             Blob.prototype.slice = function (...given) { globalThis.slices += 1; return slice.apply(this, given); }''')
         self.browser.click('#tab-publish')
-        self.browser.wait('#panel-publish', '1,567 patches, all fit')
+        self.browser.wait('#panel-publish', '1,567 patches, which all match')
         self.browser.type('#patcher-title', 'Title')
         self.press('Save as a patcher')
         saved = self.browser.downloaded('Title.html').read_bytes()
@@ -132,7 +196,7 @@ class Publish(PageTest):
     def test_it_is_refused_while_a_patch_is_refused(self) -> None:
         self.open_both(discs.game(), discs.refused())
         self.browser.click('#tab-publish')
-        self.browser.wait('#panel-publish', 'english.txt: 6 of 8 patches fit game.bin, 2 do not.')
+        self.browser.wait('#panel-publish', 'english.txt: 6 of 8 patches match game.bin, 2 do not.')
         self.browser.type('#patcher-title', 'Title')
         self.assertTrue(self.is_off('Save as a patcher') and self.is_off('Preview as a player'))
         self.press('Go to line 11')
@@ -394,7 +458,7 @@ class Player(PageTest):
         self.press('Open this in the full cdpatch')
         self.browser.wait('#disc-line .name', 'mine.bin')
         self.browser.click('#tab-script')
-        self.browser.wait('#panel-script header .tag', '6 patches, version 1')
+        self.browser.wait('#panel-script header .tag', '6 patches, script version 1')
         self.browser.click('#tab-publish')
         fields = 'return ["title", "author", "note", "name"].map(it => document.querySelector(`#patcher-${it}`).value)'
         self.assertEqual(self.browser.run(fields), ['Starlit Detective in English', 'Team Comet', 'All menus.\nChapter 1.', 'Starlit (English).bin'])

@@ -256,7 +256,7 @@ class Random(PageTest):
             return
         self.back_to_check()
         self.press('Check')
-        self.browser.wait('#panel-script .side :is(.tally, .say.good, .say.warn)', 'fit')
+        self.browser.wait('#panel-script .side .verdict')
 
     def script_file(self) -> Path:
         return discs.written(script=self.model.text())['script']
@@ -264,7 +264,7 @@ class Random(PageTest):
     def undo_script(self) -> None:
         if self.model.name() == '' or 'rebuild' in self.model.text() and self.model.patches() == self.model.text().count('rebuild'):
             return
-        self.press(common.text('scriptUndoScript'))
+        self.save_undo()
         path = self.browser.downloaded(f'{self.model.name()[:-4]} (undo).txt')
         out = applied(self.paths[self.model.image], self.script_file())[2]
         again = applied(discs.written(patched=out)['patched'], path)[2]

@@ -28,14 +28,14 @@ class Script(PageTest):
     def test_check_says_what_the_program_prints(self) -> None:
         files = self.open_both(discs.scratched(), discs.refused())
         self.press('Check')
-        self.browser.wait('.tally', 'not fit')
+        self.browser.wait('#panel-script .verdict', 'do not')
         _, text = common.run_program('check', files['game'], files['english'])
         self.assertEqual(self.browser.run('return document.querySelector("pre.log").textContent'), text)
         self.assertNotIn('status', self.browser.text('#panel-script .side'))
-        said = {line.split(': ', 1)[0]: line.split(': ', 1)[1].replace('applied', 'fits').replace('refused', 'does not fit') for line in text.split('\n')[:-2]}
+        said = {line.split(': ', 1)[0]: line.split(': ', 1)[1].replace('applied', 'matches') for line in text.split('\n')[:-2]}
         shown = {f"line {row.split('|')[0]}": row.split('|')[2] for row in self.rows() if row.split('|')[2]}
         self.assertEqual(shown, said)
-        self.assertIn('english.txt: 5 of 8 patches fit game.bin, 3 do not.', self.browser.text('#panel-script .side'))
+        self.assertIn('english.txt: 5 of 8 patches match game.bin, 3 do not.', self.browser.text('#panel-script .side'))
 
     def texts(self) -> list[str]:
         """The texts that the drawn lines of the editor set."""
@@ -61,9 +61,9 @@ class Script(PageTest):
     def test_a_line_fits_or_does_not_before_it_is_saved(self) -> None:
         self.open_both(discs.game(), discs.refused())
         self.press('Check')
-        self.browser.wait('.tally', '6\nfit\n2\ndo not fit')
+        self.browser.wait('#panel-script .verdict', '6 of 8 patches match game.bin, 2 do not.')
         words = [row.split('|')[2] for row in self.rows() if row.split('|')[2]]
-        self.assertEqual([it.split(':')[0] for it in words], ['fits'] * 6 + ['does not fit'] * 2)
+        self.assertEqual([it.split(':')[0] for it in words], ['matches'] * 6 + ['refused'] * 2)
         shown = self.browser.text('#panel-script .two')
         for word in ('applied', 'status'):
             self.assertNotIn(word, shown)
@@ -72,7 +72,7 @@ class Script(PageTest):
         self.press('Check again')
         self.browser.wait('pre.log', 'refused 2')
         self.press('Go to line')
-        self.browser.wait('.explain', f'It does not fit: old bytes differ at block {discs.first_block()} offset 600.')
+        self.browser.wait('.explain', f'It is refused: old bytes differ at block {discs.first_block()} offset 600.')
 
     def test_apply_saves_what_the_program_writes(self) -> None:
         files = self.open_both(discs.scratched() + b'tail', discs.refused())
@@ -115,7 +115,7 @@ class Script(PageTest):
     def test_carry_patches_damaged_sectors_too(self) -> None:
         files = self.open_both(discs.scratched(), discs.script())
         self.press('Check')
-        self.browser.wait('.tally', '1\ndoes not fit')
+        self.browser.wait('#panel-script .verdict', ', 1 does not.')
         self.browser.click('#panel-script input[type=checkbox]')
         self.press_save()
         saved = self.browser.downloaded('game (patched).bin')
@@ -138,6 +138,16 @@ class Script(PageTest):
         self.press('Open it')
         self.browser.answer('Compare')
         self.browser.wait('#second-title', 'game (patched).bin')
+
+    def test_a_download_that_is_complete_is_not_asked_about(self) -> None:
+        self.open_both(discs.game(), discs.script())
+        self.press_save()
+        self.browser.downloaded('game (patched).bin').unlink()
+        self.browser.wait('#panel-script .side h2', 'Saving by your browser')
+        self.assertTrue(self.browser.asks_before_leaving())
+        self.press(common.text('saveIsComplete'))
+        self.browser.wait('#panel-script .say.good', 'Saved: game (patched).bin')
+        self.assertFalse(self.browser.asks_before_leaving())
 
     def test_what_was_saved_makes_way_for_check_if_the_script_changes(self) -> None:
         files = discs.written(game=discs.game(), english=discs.script(), other='cdpatch 1\nrebuild 1\n')
@@ -183,7 +193,7 @@ class Script(PageTest):
     def test_a_line_that_needs_version_2_mends_the_head_line(self) -> None:
         self.open_script(discs.written(old='# mine\ncdpatch 1\nrebuild 1\naddress 7 00:02:07\n')['old'])
         self.press('Change it to “cdpatch 2”')
-        self.browser.wait('#panel-script header .tag:not(.bad)', '2 patches, version 2')
+        self.browser.wait('#panel-script header .tag:not(.bad)', '2 patches, script version 2')
         self.assertEqual(self.script_text(), '# mine\ncdpatch 2\nrebuild 1\naddress 7 00:02:07\n')
 
     def test_keys_edit_lines_and_undo_takes_back(self) -> None:
@@ -234,8 +244,8 @@ class Script(PageTest):
 
     def test_the_focus_stays_in_the_card_that_works(self) -> None:
         self.open_both(discs.scratched(), discs.script())
-        self.browser.wait('.tally')
-        for name, shown, then in (('Check', '.tally', 'Check: Go to line'), ('Save with the', '#saved-sha1', 'Check: Save a cue sheet')):
+        self.browser.wait('#panel-script .verdict')
+        for name, shown, then in (('Check', '#panel-script .verdict', 'Check: Go to line'), ('Save with the', '#saved-sha1', 'Check: Save a cue sheet')):
             self.browser.run(f'{BUTTON}.focus()', name)
             self.browser.press(Keys.ENTER)
             self.browser.wait(shown)
@@ -282,7 +292,7 @@ class Script(PageTest):
         self.open_script(files['large'])
         self.browser.wait('#panel-script header .tag', '65,535 patches')
         self.press('Check')
-        self.browser.wait('.tally', 'not fit')
+        self.browser.wait('#panel-script .verdict', 'do not')
         self.browser.click('.editor textarea')
         self.browser.press(Keys.HOME, Keys.ARROW_DOWN)
         self.browser.run(COUNTED)
@@ -305,7 +315,7 @@ class Script(PageTest):
         self.open_image(files['game'])
         self.go_to(block)
         self.open_script(files['english'])
-        self.browser.wait('#panel-script .say.good', 'all fit')
+        self.browser.wait('#panel-script .say.good', 'all match')
         self.browser.run(f'{GATE} globalThis.held = 0')
         self.browser.click('.editor textarea')
         self.browser.press(Keys.END, held=Keys.CONTROL)
@@ -342,7 +352,7 @@ class Script(PageTest):
     def test_the_undo_script_of_carried_damage_says_that_it_wants_carry(self) -> None:
         files = self.open_both(discs.scratched(), discs.script())
         self.browser.click('#panel-script input[type=checkbox]')
-        self.press(common.text('scriptUndoScript'))
+        self.save_undo()
         self.browser.wait('#panel-script .said .say', 'Apply it with carry, like this script.')
         undo = self.browser.downloaded('english (undo).txt')
         _, _, patched = applied(files['game'], files['english'], '--carry')
@@ -352,7 +362,7 @@ class Script(PageTest):
     def test_an_undo_script_can_be_cancelled(self) -> None:
         self.open_both(discs.game(), discs.script())
         self.browser.run(GATE)
-        self.press(common.text('scriptUndoScript'))
+        self.save_undo()
         self.browser.wait('#panel-script .progress')
         self.press('Cancel')
         self.browser.run('openGate()')
@@ -362,10 +372,25 @@ class Script(PageTest):
     def test_the_undo_script_can_be_made_of_an_image_that_is_opened_later(self) -> None:
         files = discs.written(game=discs.game(), english=discs.script())
         self.open_script(files['english'])
-        self.assertTrue(self.is_off(common.text('scriptUndoScript')))
+        self.press('Save…')
+        self.browser.downloaded('english.txt').unlink()
         self.open_image(files['game'])
         self.browser.click('#tab-script')
-        self.assertFalse(self.is_off(common.text('scriptUndoScript')))
+        self.save_undo()
+        self.browser.downloaded('english (undo).txt')
+        self.assertEqual(self.focused(), 'Script: Save…')
+
+    def test_the_head_of_the_script_is_one_row(self) -> None:
+        files = discs.written(game=discs.game(), english=discs.script())
+        path = files['english'].rename(files['english'].with_name('Starlit Detective (English).txt'))
+        self.open_image(files['game'])
+        self.open_script(path)
+        self.edit(Keys.END, ' ')
+        self.browser.wait('#panel-script header .tag', 'not saved')
+        middles = self.browser.run('''return [...document.querySelectorAll('[aria-label=Script] > header > *')].map(it => {
+            const { top, bottom } = it.getBoundingClientRect();
+            return (top + bottom) / 2 })''')
+        self.assertLess(max(middles) - min(middles), 8)
 
     def test_a_file_that_shrinks_saves_nothing(self) -> None:
         files = self.open_both(discs.game(), discs.script())
@@ -381,7 +406,7 @@ class Script(PageTest):
         self.open_image(files['track'])
         self.open_script(files['later'])
         self.press('Check')
-        self.browser.wait('.tally', '1\ndoes not fit')
+        self.browser.wait('#panel-script .verdict', ', 1 does not.')
         _, text = common.run_program('check', '--base', '1000', files['track'], files['later'])
         self.assertEqual(self.browser.run('return document.querySelector("pre.log").textContent'), text)
 
@@ -410,7 +435,7 @@ class Streaming(PageTest):
 
     def test_the_file_is_asked_for_at_the_click(self) -> None:
         self.begin()
-        self.browser.wait('#panel-script .say.good', 'all fit')
+        self.browser.wait('#panel-script .say.good', 'all match')
         script = f'{BUTTON.replace("return", "const it =", 1)}; it.click(); return chosen.asked'
         self.assertEqual(self.browser.run(script, 'Apply and save'), 1)
 

@@ -28,7 +28,7 @@ def audited(path: Path) -> set[int]:
 
 
 class Second(PageTest):
-    def asked(self, first: bytes, second: bytes) -> dict[str, Path]:
+    def open_two(self, first: bytes, second: bytes) -> dict[str, Path]:
         """Writes two files, game.bin and other.bin, and opens one after the other."""
         files = discs.written(game=first, other=second)
         self.open_files(files['game'])
@@ -38,7 +38,7 @@ class Second(PageTest):
 
     def pair(self, first: bytes, second: bytes, shown: tuple[str, str] = ('#second-title', 'other.bin')) -> Path:
         """Opens two files, and presses the main button of the dialog. Returns the first file."""
-        files = self.asked(first, second)
+        files = self.open_two(first, second)
         self.browser.answer()
         self.browser.wait(*shown)
         return files['game']
@@ -62,7 +62,7 @@ class Second(PageTest):
 
     def test_an_entry_of_the_legend_is_pressed_only_as_long_as_its_map_is_shown(self) -> None:
         files = discs.written(game=with_faults((40, 9)), other=with_faults((60, 9)), plain=image_of([b'%d' % block for block in range(40)]))
-        for entry, answer in (('data damaged', 'Compare'), ('Mode 1', 'Repair game.bin'), ('no sync', 'Open it instead')):
+        for entry, answer in (('data damaged', 'Compare'), ('Mode 1', 'Repair the open game.bin'), ('no sync', 'Open it instead')):
             with self.subTest(answer):
                 self.setUp()
                 self.open_image(files['game'])
@@ -97,6 +97,9 @@ class Second(PageTest):
         self.assertEqual(saved.read_bytes(), bytes(due))
         self.assertEqual(audited(saved), {60})
         self.browser.wait('#repaired-sha1', sha1(bytes(due)))
+        self.press(text('saveIsComplete'))
+        self.browser.wait('#second-body .say.good', 'Saved: game (repaired).bin')
+        self.assertFalse(self.browser.asks_before_leaving())
         saved.unlink()
         self.browser.wait('[aria-label="Cannot be repaired: 1"]', '60')
         self.press('Open the new image')
@@ -133,6 +136,23 @@ class Second(PageTest):
         out = path.parent / 'repaired.bin'
         self.assertEqual(run_program('apply', '--carry', path, script, out)[0], 0)
         self.assertEqual(out.read_bytes(), second)
+        script.unlink()
+
+    def test_a_repair_takes_sectors_of_mode_2_and_a_script_leaves_them_out(self) -> None:
+        second = image_of([b'%d' % block for block in range(60)]) + discs.mode2(40, 60)
+        first = discs.changed(second, (40, 500), (70, 500), (71, 5))
+        files = discs.written(game=first, other=second)
+        self.open_image(files['game'])
+        self.open_files(files['other'])
+        self.browser.answer()
+        self.assertEqual(self.tally(), [3, 0, 0])
+        self.press('Write it as a script')
+        self.browser.wait('#second-body .say.warn', '2 Mode 2 sectors are left out: a script changes only Mode 1.')
+        self.press('Save the script')
+        script = self.browser.downloaded('game (repair).txt')
+        out = files['game'].parent / 'repaired.bin'
+        self.assertEqual(run_program('apply', files['game'], script, out)[0], 0)
+        self.assertEqual(out.read_bytes(), discs.changed(second, (70, 500), (71, 5)))
         script.unlink()
 
     def test_another_disc_is_not_taken_for_a_dump_of_the_same(self) -> None:
@@ -181,7 +201,7 @@ class Second(PageTest):
         self.assertEqual(run_program('apply', path, script, out)[0], 0)
         self.assertEqual(out.read_bytes(), bytes(second))
         self.press('Open in Script')
-        self.browser.wait('#panel-script .say.good', 'other (changes).txt: 3 patches, all fit game.bin.')
+        self.browser.wait('#panel-script .say.good', 'other (changes).txt: 3 patches, which all match game.bin.')
         self.assertNotIn('not saved', self.browser.text('#panel-script'))
         script.unlink()
 
@@ -192,7 +212,7 @@ class Second(PageTest):
         script = self.browser.downloaded('other (changes).txt')
         self.assertRegex(script.read_text(), '^cdpatch 1\n# base 1000\nset 1000 0 ')
         self.press('Open in Script')
-        self.browser.wait('#panel-script .say.good', 'other (changes).txt: 1 patch, which fits game.bin.')
+        self.browser.wait('#panel-script .say.good', 'other (changes).txt: 1 patch, which matches game.bin.')
         script.unlink()
 
     def test_a_base_that_is_set_by_hand_is_that_of_the_second_image_too(self) -> None:
@@ -224,19 +244,43 @@ class Second(PageTest):
         for block in due:
             second[block * SECTOR_SIZE + 2000] ^= 1
         self.pair(first, bytes(second))
-        named = """return [...document.querySelectorAll('[aria-label="Bytes that differ, by field"] tbody tr')].map(it => it.lastChild.innerText)"""
-        waited(lambda: self.browser.run(named) == list(due.values())[:400], f'other files are named: {self.browser.run(named)[:9]}')
+        rows = """return [...document.querySelectorAll('[aria-label="Bytes that differ, by field"] tbody tr')].map(it => it.lastChild.innerText.trim())"""
+        files = ['volume descriptor 1 sector', 'in a directory 1 sector', '/DATA/MSG00.DAT 1 sector', 'in no file 420 sectors']
+        waited(lambda: self.browser.run(rows) == [f'▸ {name}' for name in files], f'other files are named: {self.browser.run(rows)[:9]}')
         self.press('Save the list')
         saved = self.browser.downloaded('other (differences).txt')
         self.assertEqual(saved.read_text(), ''.join(f'{block}\t0\t1\t0\t0\t{file}\n' for block, file in due.items()))
         saved.unlink()
+        self.press('▸ in no file')
+        self.assertEqual(self.browser.run(rows)[3:], ['▾ in no file 420 sectors', *['in no file'] * 400])
+        self.browser.wait('[aria-label="Bytes that differ, by field"] .foot', 'and 20 more blocks.')
+        self.press('▾ in no file')
+        self.assertEqual(len(self.browser.run(rows)), 4)
+        self.press('▸ in a directory')
         self.press(str(root))
         self.browser.wait('#sector-title', f'block {root}')
+
+    def test_findings_and_files_stay_beside_the_second_image(self) -> None:
+        self.pair(with_faults((40, 9)), with_faults())
+        self.browser.wait('.tally', 'can be repaired')
+        self.browser.click('#findings .fold')
+        self.browser.wait('#findings tr.sub', '40')
+        self.press('Compare')
+        self.browser.wait('.tally', 'sector differs')
+        self.browser.click('#findings [data-tab=files]')
+        self.browser.wait('#findings .files', '/DATA/MSG00.DAT')
+        self.browser.size(360)
+        tops = "return ['#map', '#second-title', '#findings', '#sector-title'].map(css => document.querySelector(css).getBoundingClientRect().top)"
+        self.press('40')
+        self.browser.wait('#sector-title', 'block 40')
+        self.assertEqual(self.browser.run(tops), sorted(self.browser.run(tops)))
 
     def test_damage_of_the_second_is_named_and_left_out_only_if_asked(self) -> None:
         first = with_faults()
         path = self.pair(first, with_faults((33, 5), (44, 5)))
         self.assertEqual(self.tally(), [2, 0, 2])
+        tagged = "return [...document.querySelectorAll('[aria-label^=Bytes] .tag')].map(it => [it.parentElement.matches(':last-child'), it.innerText])"
+        waited(lambda: self.browser.run(tagged) == [[True, 'damaged in the second']] * 2, 'the tag is not in the column of files')
         self.press('Save the script')
         self.browser.wait('#second-body .say.bad', 'the second image is damaged in blocks 33 and 44')
         self.assertEqual([*self.browser.downloads.iterdir()], [])
@@ -271,7 +315,7 @@ class Second(PageTest):
             self.open_files(files[name])
             self.browser.wait('#sheet', f'{words}. A repair uses the blocks that both images have.')
             buttons = self.browser.run('return [...document.querySelectorAll("#sheet button")].map(it => it.innerText)')
-            self.assertEqual(buttons, ['Repair game.bin from it', f'Repair {name}.bin from game.bin', 'Open it instead', 'Cancel'])
+            self.assertEqual(buttons, ['Repair the open game.bin with this file', f'Repair {name}.bin from game.bin', 'Open it instead', 'Cancel'])
             self.browser.answer('Cancel')
         self.open_files(files['more'])
         self.browser.answer('Open it instead')
@@ -309,7 +353,7 @@ class Second(PageTest):
             self.assertEqual(shown, block == 60, block)
 
     def test_a_damaged_sector_leads_to_the_repair_if_the_second_image_is_compared(self) -> None:
-        self.asked(with_faults((40, 9)), with_faults())
+        self.open_two(with_faults((40, 9)), with_faults())
         self.browser.answer('Compare')
         self.browser.wait('.tally', 'sector differs')
         self.press('40')
@@ -326,7 +370,7 @@ class Second(PageTest):
 
     def test_an_image_of_another_part_of_the_disc_can_only_be_opened_instead(self) -> None:
         users = [b'%d' % block for block in range(40)]
-        self.asked(image_of(users), image_of(users, 1000))
+        self.open_two(image_of(users), image_of(users, 1000))
         self.browser.wait('#sheet', 'It is a different part of the disc from game.bin.')
         self.assertEqual(self.browser.run('return [...document.querySelectorAll("#sheet button")].map(it => it.innerText)'), ['Open it instead', 'Cancel'])
         self.assertEqual(self.browser.run('return document.querySelector("#sheet .main").innerText'), 'Open it instead')

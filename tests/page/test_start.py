@@ -64,7 +64,7 @@ class Start(PageTest):
         cards = '''return [...document.querySelectorAll('.job')].map(it =>
             [it.querySelector('span').innerText, getComputedStyle(it.querySelector('b'), '::after').content])'''
         said = self.browser.run(cards)
-        for (text, sign), words in zip(said, ('Choose your disc image and a patch', 'Choose the disc image:', 'Choose one dump or two:'), strict=True):
+        for (text, sign), words in zip(said, ('Choose your disc image, and a cdpatch script', 'Choose the disc image:', 'Choose one dump or two:'), strict=True):
             self.assertTrue(text.startswith(words), text)
             self.assertEqual(sign, '"…"')
         self.assertIn('compare', self.browser.text('[data-aim=repair]'))

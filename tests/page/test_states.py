@@ -1,6 +1,6 @@
-"""Each state of the page (tests/page/states.py) is usable by everyone: at three widths it ends with its footer and nothing is cut off; each
-control has a name in the accessibility tree; a list is one Tab stop; the focused element is visible and has a ring; no text is too faint
-in either scheme.
+"""Each state of the page (tests/page/states.py) is usable by everyone: at three widths, and at a zoom of 200 %, it ends with its footer and
+nothing is cut off; a finger meets each control; each control has a name in the accessibility tree; a list is one Tab stop; the focused
+element is visible and has a ring; no text is too faint in either scheme; in forced colours, chosen controls and signs differ from others.
 
 If PICTURES is set to a directory, each state is drawn there at three widths in both schemes.
 """
@@ -16,6 +16,9 @@ from states import States, all_states, each_state
 # The maximum number of Tab stops of a state, including the bar and the footer, by the first word of the state's name.
 MOST_STOPS = {'start': 13, 'publish': 28, 'player': 14}
 MOST_OF_OTHERS = 34
+
+# The width of a window of 1280 pixels at a zoom of 200 %.
+ZOOMED = 640
 
 # The visible lists that have more than one Tab stop.
 LISTS = '''return [...document.querySelectorAll('tbody, [role=tablist], .legend, .fields, .hex')].filter(it => it.checkVisibility()).flatMap(list => {
@@ -56,6 +59,33 @@ FAINT = '''const part = value => value <= 0.04045 ? value / 12.92 : ((value + 0.
         if (contrast < (isLarge ? 3 : 4.5)) found.push(`${node.nodeValue.trim().slice(0, 30)}: ${contrast.toFixed(2)}`);
     }
     return found'''
+
+# Controls narrower or lower than 24 pixels, unless they are words in a line, or a circle of 24 pixels around each meets no other control.
+SMALL = '''const within = document.querySelector('dialog[open], :popover-open') || document.body;
+    const seen = it => it.checkVisibility({ visibilityProperty: true }) && !it.closest('.hide') && it.getBoundingClientRect().width > 1;
+    const all = [...within.querySelectorAll('button, a[href], input, select, textarea, summary')].filter(seen);
+    const boxes = all.map(it => it.getBoundingClientRect()), middle = (from, to) => (from + to) / 2;
+    const isSmall = ({ width, height }) => width < 23.9 || height < 23.9;
+    const meets = (a, b) => {
+        const [x, y] = [middle(a.left, a.right), middle(a.top, a.bottom)];
+        if (isSmall(b) && Math.hypot(x - middle(b.left, b.right), y - middle(b.top, b.bottom)) < 24) return true;
+        return Math.hypot(x - Math.min(Math.max(x, b.left), b.right), y - Math.min(Math.max(y, b.top), b.bottom)) < 12;
+    };
+    const isWord = it => getComputedStyle(it).display.startsWith('inline') && it.matches('.term, .plain-link, .link') && it.parentElement.innerText.trim() !== it.innerText.trim();
+    const isApart = (one, i) => all.every((other, k) => k === i || other.contains(one) || one.contains(other) || !meets(boxes[i], boxes[k]));
+    return all.flatMap((it, i) => !isSmall(boxes[i]) || isWord(it) || isApart(it, i) ? []
+        : `${it.innerText.trim() || it.id}: ${boxes[i].width} x ${boxes[i].height}`)'''
+
+# In forced colours, the chosen controls and rows that look like one beside them, and the signs without a colour of their own.
+ALIKE = '''const seen = it => it.checkVisibility();
+    const looks = it => { const { backgroundColor, outlineStyle } = getComputedStyle(it); return `${backgroundColor} ${outlineStyle}`; };
+    const chosen = [...document.querySelectorAll('[role=tab][aria-selected=true], [aria-pressed=true], tr[aria-selected=true], tr.on')].filter(seen);
+    const beside = it => [...it.parentElement.children].find(other => other.nodeName === it.nodeName && seen(other) && !chosen.includes(other));
+    const alike = chosen.filter(it => beside(it) && looks(it) === looks(beside(it)));
+    const ground = getComputedStyle(document.body).backgroundColor;
+    const bare = [...document.querySelectorAll('.dot, .loupe li, .gauge i:not(.pad-byte), .progress i')].filter(it =>
+        seen(it) && getComputedStyle(it).backgroundColor === ground);
+    return [...alike, ...bare].map(it => `${it.className} ${it.innerText.trim()}`)'''
 
 # Roles that need a name: controls, and elements that a screen reader lists by name.
 NAMED = {'button', 'link', 'tab', 'textbox', 'searchbox', 'combobox', 'checkbox', 'radio', 'slider', 'spinbutton', 'listbox', 'option', 'dialog',
@@ -98,12 +128,20 @@ class State(States):
         for scheme in ('light', 'dark'):
             self.browser.size(1280, scheme=scheme)
             self.assertEqual(self.browser.run(FAINT), [], scheme)
+        self.browser.emulate('setEmulatedMedia', features=[{'name': 'forced-colors', 'value': 'active'}])
+        self.assertEqual(self.browser.run(ALIKE), [], 'in forced colours')
         self.browser.size(1280)
+
+    def judge_targets(self) -> None:
+        for width in WIDTHS:
+            self.browser.size(width)
+            self.assertEqual(self.browser.run(SMALL), [], f'too small for a finger at {width}')
 
     def judge(self, name: str) -> None:
         all_states()[name](self)
         self.assertEqual(self.browser.attempts(), [])
-        self.assertEqual(self.browser.misfits(*WIDTHS), {})
+        self.assertEqual(self.browser.misfits(*WIDTHS, ZOOMED), {})
+        self.judge_targets()
         if 'PICTURES' in os.environ:
             self.browser.pictures(Path(os.environ['PICTURES']), name)
         self.judge_colours()

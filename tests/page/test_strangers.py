@@ -129,7 +129,7 @@ class Names(Stranger):
     def test_publish_refuses_a_name_that_is_none_of_an_image(self) -> None:
         self.open_both(discs.game(), discs.named())
         self.browser.click('#tab-publish')
-        self.browser.wait('#panel-publish', ' fit')
+        self.browser.wait('#panel-publish', ' match')
         self.browser.type('#patcher-title', 'Title')
         for name in ('Play.html', 'nul.bin', 'a/b.bin'):
             self.browser.type('#patcher-name', name)
@@ -256,8 +256,8 @@ class Coming(Stranger):
         self.addCleanup(server.close)
         self.browser.open(f'{server.url}/index.html')
         inside = 'document.querySelector("iframe").contentDocument'
-        said = f'(it => it?.checkVisibility() && it.innerText)({inside}.querySelector("#not-started"))'
-        self.assertIn('cdpatch does not run inside another page.', self.browser.awaited(said))
+        said = f'({inside}.querySelector("#not-started")?.innerText || "").includes(given[0])'
+        self.assertTrue(self.browser.awaited(said, 'cdpatch does not run inside another page.'))
         self.assertEqual(self.browser.run(f'return {inside}.querySelector("#start").hidden'), True)
 
 
@@ -328,11 +328,11 @@ class Long(Stranger):
         self.browser.wait('#panel-script .say', 'This script is too long: its lines are not shown.')
         self.assertEqual(self.browser.run('return document.querySelector(".editor").checkVisibility()'), False)
         self.press('Check')
-        self.browser.wait('#panel-script .say.good', '6 patches, all fit')
+        self.browser.wait('#panel-script .say.good', '6 patches, which all match')
         self.press('Apply and save')
         self.assertEqual(self.browser.downloaded('game (patched).bin').read_bytes(), applied(files['game'], files['short'])[2])
         self.open_script(files['short'])
-        self.browser.wait('#panel-script header .tag', '6 patches, version 1')
+        self.browser.wait('#panel-script header .tag', '6 patches, script version 1')
         self.assertEqual(self.browser.run('return document.querySelector(".editor").checkVisibility()'), True)
 
     def test_a_script_in_no_file_comes_back_from_under_a_long_one(self) -> None:
@@ -343,6 +343,6 @@ class Long(Stranger):
         self.open_script(files['long'])
         self.browser.wait('#messages .say.warn', common.text('scriptReplacedYours'))
         self.press('Bring it back')
-        self.browser.wait('#panel-script header .tag', '1 patch, version 1')
+        self.browser.wait('#panel-script header .tag', '1 patch, script version 1')
         self.assertIn('rebuild 7', ' '.join(self.rows()))
 

@@ -46,6 +46,36 @@ class Text(PageTest):
     def row(self, number: int) -> str:
         return self.browser.text(f'.hits tbody tr:nth-child({number})')
 
+    def test_ctrl_f_goes_to_the_field_of_the_panel_that_is_shown(self) -> None:
+        self.open_image(discs.written(game=discs.game())['game'])
+        for panel, focused in (('text', True), ('script', False), ('text', True)):
+            self.browser.click(f'#tab-{panel}')
+            self.browser.run("""globalThis.kept = null; document.addEventListener('keydown', event => setTimeout(() => { kept = event.defaultPrevented; }), { once: true });
+                document.activeElement.dispatchEvent(new KeyboardEvent('keydown', { key: 'f', ctrlKey: true, bubbles: true, cancelable: true }))""")
+            self.assertTrue(self.browser.awaited('kept === given[0]', focused), panel)
+            self.assertEqual(self.browser.run('return document.activeElement.id'), 'find-text' if focused else f'tab-{panel}')
+        # In the field, the key is the browser's.
+        self.browser.run("""document.activeElement.dispatchEvent(new KeyboardEvent('keydown', { key: 'f', ctrlKey: true, bubbles: true, cancelable: true }));
+            document.addEventListener('keydown', event => { kept = event.defaultPrevented; }, { once: true });
+            document.activeElement.dispatchEvent(new KeyboardEvent('keydown', { key: 'f', ctrlKey: true, bubbles: true, cancelable: true }))""")
+        self.assertFalse(self.browser.run('return kept'))
+
+    def test_the_field_has_an_example_and_the_last_searches(self) -> None:
+        self.open_image(discs.written(game=discs.game())['game'])
+        self.browser.click('#tab-text')
+        boxes = """return [...document.querySelectorAll('.ask :is(input, select, .btn)')].filter(it => it.checkVisibility()).map(it => {
+            const { top, height } = it.getBoundingClientRect();
+            return [Math.round(top), Math.round(height)] })"""
+        self.assertEqual(len({tuple(it) for it in self.browser.run(boxes)}), 1)
+        self.assertIn('スタート', self.browser.run("return document.querySelector('#find-text').placeholder"))
+        self.browser.choose('#find-encoding', 'hex')
+        self.assertNotIn('スタート', self.browser.run("return document.querySelector('#find-text').placeholder"))
+        self.browser.choose('#find-encoding', 'CP932')
+        for text in ('スタート', 'つづき', 'スタート'):
+            self.browser.type('#find-text', f'{text}\n')
+            self.browser.wait('#panel-text .hits tbody mark', text)
+        self.assertEqual(self.browser.run("return [...document.querySelector('#find-text').list.options].map(it => it.value)"), ['スタート', 'つづき'])
+
     def test_each_hit_is_found_with_its_file_and_what_stands_round_it(self) -> None:
         self.find_in_game()
         self.assertEqual(self.hits(), places(discs.START))
@@ -74,14 +104,14 @@ class Text(PageTest):
     def test_find_replace_check_and_apply_give_what_the_program_writes(self) -> None:
         self.find_in_game()
         self.replace_first()
-        self.press('Replace all 4')
+        self.press('Replace the other 4')
         self.browser.wait('#panel-text .say.good', '4 lines added to the script.')
         self.browser.click('#tab-script')
         script = self.script_text()
         new = 'Start'.encode().ljust(8).hex().upper()
         self.assertEqual(script, 'cdpatch 1\n' + ''.join(f'set {place} {new} was {discs.START.hex().upper()}\n' for place in places(discs.START)))
         self.press('Check')
-        self.browser.wait('#panel-script .say.good', '5 patches, all fit')
+        self.browser.wait('#panel-script .say.good', '5 patches, which all match')
         self.press('Apply and save')
         saved = self.browser.downloaded('game (patched).bin').read_bytes()
         self.assertEqual(saved, applied(self.files['game'], discs.written(script=script)['script'])[2])
@@ -119,7 +149,7 @@ class Text(PageTest):
     def test_hits_are_counted_anew_after_the_script_has_changed(self) -> None:
         self.find_in_game()
         self.replace_first()
-        self.assertFalse(self.is_off('Replace all 4'))
+        self.assertFalse(self.is_off('Replace the other 4'))
         self.edit('z', held=Keys.CONTROL)
         self.browser.click('#tab-text')
         self.assertFalse(self.is_off('Replace all 5'))

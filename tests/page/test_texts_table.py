@@ -1,5 +1,6 @@
 """The table of a disc's texts, compared with cdscript, and the lists of known dumps that name a disc."""
 
+import csv
 import zlib
 from pathlib import Path
 
@@ -7,7 +8,7 @@ import common
 import discs
 from keys import Keys
 from pages import GATE, PageTest, applied
-from states import SENTENCES, dat_of, told, with_new
+from states import SENTENCES, dat_of, spoken_texts, with_new
 
 
 class TextsTable(PageTest):
@@ -31,32 +32,54 @@ class TextsTable(PageTest):
         self.browser.give('#panel-text input[accept^=".tsv"]', [table])
 
     def test_the_table_is_what_cdscript_prints(self) -> None:
-        image = self.begin(told())
-        self.press('Export texts')
+        image = self.begin(spoken_texts())
+        self.press('Export a table')
         self.browser.wait('#panel-text .say.good', 'Saved: game (texts).csv')
         saved = common.waited(self.browser.downloaded('game (texts).csv').read_bytes, 'the table is empty').decode()
         self.assertEqual(saved, common.cdscript_prints('texts', '--csv', image))
-        self.assertIn(f"It has {len(saved.splitlines()) - 1} texts.", self.browser.text('#panel-text .say.good'))
+        self.assertIn(f"It has {len(saved.splitlines()) - 1} strings.", self.browser.text('#panel-text .say.good'))
         self.assertGreater(len(saved.splitlines()), len(SENTENCES))
         self.assertEqual(self.browser.attempts(), [])
 
     def test_new_texts_become_the_lines_that_cdscript_writes(self) -> None:
-        image = self.begin(told())
+        image = self.begin(spoken_texts())
         table = self.table(image, {2: 'The game starts.', 3: 'Save?', 5: 'The end.'})
         self.give(table)
         self.browser.wait('#panel-text .say.good', '3 lines added to the script.')
-        self.browser.wait('#panel-text .say.good', 'All 3 new texts fit.')
+        self.browser.wait('#panel-text .say.good', 'All 3 translations fit.')
         written = common.cdscript_prints('replace', image, '--list', table)
         self.press('Open Script')
         self.assertEqual(self.script_text(), written)
         self.press('Apply and save')
         self.assertEqual(self.browser.downloaded('game (patched).bin').read_bytes(), applied(image, discs.written(script=written)['script'])[2])
 
+    def test_a_po_file_has_the_new_texts_of_the_script_and_gives_them_again(self) -> None:
+        image = self.begin(spoken_texts(1))
+        table = self.table(image, {2: 'The game starts.', 3: 'Save?'})
+        self.give(table)
+        self.browser.wait('#panel-text .say.good', '2 lines added to the script.')
+        self.press('Open Script')
+        script = self.script_text()
+        self.browser.click('#tab-text')
+        self.press('Export PO')
+        self.browser.wait('#panel-text .say.good', 'Saved: game (texts).po')
+        self.assertIn('It has 2 translations from the script.', self.browser.text('#panel-text .say.good'))
+        saved = common.waited(self.browser.downloaded('game (texts).po').read_bytes, 'the PO file is empty').decode()
+        self.assertEqual(saved, common.cdscript_prints('texts', '--po', '--list', table, image))
+        self.setUp()
+        self.begin(spoken_texts(1))
+        mine = common.folder('po') / 'mine.po'
+        mine.write_text(saved)
+        self.give(mine)
+        self.browser.wait('#panel-text .say.good', '2 lines added to the script.')
+        self.press('Open Script')
+        self.assertEqual(self.script_text(), script)
+
     def test_a_table_that_is_opened_before_its_image_waits_for_it(self) -> None:
-        image = discs.written(game=told())['game']
+        image = discs.written(game=spoken_texts())['game']
         table, tbl, dat = self.table(image, {2: 'The game starts.', 3: 'Save?'}), image.with_name('game.tbl'), image.with_name('redump.dat')
         tbl.write_text('10=あ\n11=い\n')
-        dat.write_text(dat_of(('Game.bin', told(), '')))
+        dat.write_text(dat_of(('Game.bin', spoken_texts(), '')))
         self.browser.drop('#drop', [table, dat, image])
         self.browser.wait('#panel-text .say.good', '2 lines added to the script.')
         self.setUp()
@@ -82,9 +105,9 @@ class TextsTable(PageTest):
         table = image.with_name('mine.tsv')
         table.write_text('\n'.join(['block\toffset\ttext\tnew', *rows, '']))
         self.give(table)
-        self.browser.wait('#panel-text .say.warn', 'All 3 new texts fit.')
+        self.browser.wait('#panel-text .say.warn', 'All 3 translations fit.')
         said = self.browser.text('#panel-text .say.warn')
-        for words in ('New texts leave out {0D} 3 times: rows 2, 3, 4.', 'New texts leave out {0A} 6 times: rows 2, 3, 4.'):
+        for words in ('Translations leave out {0D} 3 times: rows 2, 3, 4.', 'Translations leave out {0A} 6 times: rows 2, 3, 4.'):
             self.assertIn(words, said)
 
     def test_many_rows_leave_the_page_free(self) -> None:
@@ -106,7 +129,7 @@ class TextsTable(PageTest):
         self.assertLess(self.browser.run('return longest / (performance.now() - begun)'), 0.4)
 
     def test_a_corrected_table_takes_the_place_of_the_first_one(self) -> None:
-        image = self.begin(told())
+        image = self.begin(spoken_texts())
         self.give(self.table(image, {2: 'The game starts.', 3: 'Save?'}))
         self.browser.wait('#panel-text .say.good', '2 lines added to the script.')
         self.press('Open Script')
@@ -121,15 +144,15 @@ class TextsTable(PageTest):
         head, *lines = common.cdscript_prints('replace', image, '--list', corrected).splitlines()
         self.assertEqual(self.script_text().splitlines(), ['# mine', head, *lines])
         self.press('Check')
-        self.browser.wait('#panel-script .say.good', '3 patches, all fit')
+        self.browser.wait('#panel-script .say.good', '3 patches, which all match')
 
     def test_lines_whose_new_texts_are_gone_are_named_and_removed(self) -> None:
-        image = self.begin(told())
+        image = self.begin(spoken_texts())
         self.give(self.table(image, {2: 'The game starts.', 3: 'Save?', 5: 'The end.', 6: 'Start!'}))
         self.browser.wait('#panel-text .say.good', '4 lines added to the script.')
         corrected = self.table(image, {2: 'The game begins.', 5: 'The end.'})
         self.give(corrected)
-        self.browser.wait('#panel-text .say.warn', 'All 2 new texts fit.')
+        self.browser.wait('#panel-text .say.warn', 'All 2 translations fit.')
         self.browser.wait('#panel-text .say.warn', 'The table has no new text for the lines 3, 5 of the script.')
         self.press('Remove from the script')
         self.browser.wait('#panel-text .say.good', 'Lines removed: 2. Ctrl+Z in the script brings them back.')
@@ -145,15 +168,15 @@ class TextsTable(PageTest):
         mine = self.table(image, {2: 'The game begins.', 3: 'much too long ' * 9})
         mine.write_text(mine.read_text() + self.printed(image).splitlines()[1] + '\n')
         self.give(mine)
-        self.browser.wait('#panel-text .say.warn', '1 new text fits, 1 does not.')
+        self.browser.wait('#panel-text .say.warn', '1 translation fits, 1 does not: 1 too long.')
         self.browser.wait('#panel-text .say.warn', 'The table has no new text for the lines 4, 5 of the script.')
 
     def test_rows_that_do_not_fit_are_a_list_to_walk(self) -> None:
-        image = self.begin(told())
+        image = self.begin(spoken_texts())
         rows = self.printed(image).splitlines()
         self.give(self.table(image, {2: 'The game starts.', 3: 'much too long ' * 9, 4: 'also too long ' * 9}))
         self.browser.wait('#panel-text .say.warn', '1 line added to the script.')
-        self.browser.wait('#panel-text .say.warn', '1 new text fits, 2 do not.')
+        self.browser.wait('#panel-text .say.warn', '1 translation fits, 2 do not: 2 too long.')
         self.browser.wait('#panel-text h2', '2 rows do not fit')
         cells = "return [...document.querySelectorAll('[aria-label=\"2 rows do not fit\"] tbody tr')].map(row => [...row.cells].map(it => it.innerText))"
         (number, place, _, why), other = self.browser.run(cells)
@@ -162,16 +185,83 @@ class TextsTable(PageTest):
         self.assertIn('and there is room for', why)
         stops = "return document.querySelectorAll('[aria-label=\"2 rows do not fit\"] tbody [tabindex=\"0\"]').length"
         self.assertEqual(self.browser.run(stops), 1)
-        self.press('3')
+        # The first row is selected from the beginning.
         self.browser.wait(f'[aria-label="The bytes around block {block} offset {offset}"]')
         block, offset = rows[3].split('\t')[:2]
         self.browser.click('[aria-label="2 rows do not fit"] tbody tr:nth-child(2) td:nth-child(4)')
         self.browser.wait(f'[aria-label="The bytes around block {block} offset {offset}"]')
+        self.press('3')
+        self.browser.wait('#panel-text h2', 'Correct row 3')
+
+    def test_a_row_that_does_not_fit_is_corrected_where_it_is_listed(self) -> None:
+        image = self.begin(spoken_texts())
+        self.give(self.table(image, {2: 'The game starts.', 3: 'much too long ' * 9, 4: 'with a sign: é', 5: 'much too long ' * 9}))
+        self.browser.wait('#panel-text .say.warn', '1 translation fits, 3 do not: 2 too long, 1 with a character that the encoding lacks.')
+        self.browser.wait('#row-length', 'too many: there is room for')
+        self.assertTrue(self.is_off('Add to the script'))
+        self.browser.type('#row-text', 'Save?')
+        self.browser.wait('#row-length', '5 bytes: there is room for')
+        self.browser.press(Keys.ENTER)
+        self.browser.wait('#panel-text h2', 'Correct row 4')
+        self.browser.wait('#panel-text .say.good', '1 line added to the script.')
+        self.wait_for_focus('#row-text')
+        self.browser.wait('#row-length', 'é')
+        self.press('Skip')
+        self.browser.wait('#panel-text h2', 'Correct row 5')
+        self.browser.type('#row-text', 'Too long.')
+        self.press('Add to the script')
+        self.browser.wait('#panel-text h2', '1 row does not fit')
+        self.browser.wait('#panel-text h2', 'Correct row 4')
+        self.browser.type('#row-text', 'No sign.')
+        self.press('Add to the script')
+        self.browser.wait('#panel-text .say.good', 'All translations are in the script now.')
+        self.assertEqual(self.focused(), 'Find: Open Script')
+        self.press('Open Script')
+        corrected = self.table(image, {2: 'The game starts.', 3: 'Save?', 4: 'No sign.', 5: 'Too long.'})
+        self.assertEqual(sorted(self.script_text().splitlines()), sorted(common.cdscript_prints('replace', image, '--list', corrected).splitlines()))
+
+    def test_a_corrected_row_never_writes_over_the_text_of_another_row(self) -> None:
+        image = self.begin(common.image_of([b'', 'はじめからスタート'.encode('cp932') + b'\0' * 20]))
+        table = image.with_name('mine.tsv')
+        table.write_text('block\toffset\ttext\tnew\n1\t0\tはじめからスタート\tmuch too long for it\n1\t10\tスタート\tStart\n')
+        self.give(table)
+        self.browser.wait('#panel-text .say.warn', '1 translation fits, 1 does not: 1 too long.')
+        self.browser.wait('#panel-text h2', 'Correct row 2')
+        self.browser.type('#row-text', 'From the start')
+        self.press('Add to the script')
+        self.browser.wait('#panel-text .say.bad', 'Line 2 of the script already writes here.')
+        self.press('Open Script')
+        self.assertEqual(self.script_text().splitlines(), ['cdpatch 1', f"set 1 10 {b'Start   '.hex().upper()} was {discs.START.hex().upper()}"])
+
+    def test_the_rows_that_do_not_fit_are_saved_as_a_table_that_can_be_imported(self) -> None:
+        image = self.begin(spoken_texts())
+        self.give(self.table(image, {2: 'The game starts.', 3: 'much too "long", ' * 9, 5: 'also too long ' * 9}))
+        self.browser.wait('#panel-text h2', '2 rows do not fit')
+        self.press('Save…')
+        saved = self.browser.downloaded('mine (do not fit).csv')
+        rows = list(csv.DictReader(common.waited(lambda: saved.read_bytes().decode('utf-8-sig'), 'the table is empty').splitlines()))
+        printed = self.printed(image).splitlines()
+        names = printed[0].split('\t')
+        for row, line in zip(rows, (printed[2], printed[4])):
+            cells = dict(zip(names, line.split('\t')))
+            self.assertEqual([row[it] for it in ('block', 'offset', 'room', 'encoding', 'text')], [cells[it] for it in ('block', 'offset', 'room', 'encoding', 'text')])
+            self.assertIn('and there is room for', row['why'])
+        self.assertEqual([row['new'] for row in rows], ['much too "long", ' * 9, 'also too long ' * 9])
+        fresh = common.folder('corrected') / 'mine.csv'
+        with fresh.open('w', newline='') as out:
+            writer = csv.DictWriter(out, rows[0].keys())
+            writer.writeheader()
+            writer.writerows({**row, 'new': new} for row, new in zip(rows, ('Save?', 'The end.')))
+        self.give(fresh)
+        self.browser.wait('#panel-text .say.good', 'All 2 translations fit.')
+        self.press('Open Script')
+        corrected = self.table(image, {2: 'The game starts.', 3: 'Save?', 5: 'The end.'})
+        self.assertEqual(self.script_text(), common.cdscript_prints('replace', image, '--list', corrected))
 
     def test_a_table_that_is_none_adds_nothing(self) -> None:
-        image = self.begin(told())
+        image = self.begin(spoken_texts())
         wrong = common.folder('wrong') / 'mine.csv'
-        for text, why in (('a,b\n1,2\n', 'lacks the columns block, offset, text, new'), (self.printed(image).replace('\t', ','), 'o row of the list has a new text')):
+        for text, why in (('a,b\n1,2\n', 'lacks the columns block, offset, text, new'), (self.printed(image).replace('\t', ','), 'o row of the list has a translation')):
             wrong.write_text(text)
             self.browser.drop('#panel-text', [wrong])
             self.browser.wait('#panel-text .say.bad', why)
@@ -179,7 +269,7 @@ class TextsTable(PageTest):
         self.assertTrue(self.browser.run('return document.querySelector("#count-script").hidden'))
 
     def test_cancel_ends_the_making_of_lines(self) -> None:
-        image = self.begin(told())
+        image = self.begin(spoken_texts())
         table = self.table(image, {2: 'The game starts.'})
         self.browser.run(GATE)
         self.give(table)
@@ -190,12 +280,12 @@ class TextsTable(PageTest):
         self.assertTrue(self.browser.run('return document.querySelector("#count-script").hidden'))
 
     def test_cancel_ends_the_looking_for_texts(self) -> None:
-        self.begin(told())
+        self.begin(spoken_texts())
         self.browser.run('Worker.prototype.postMessage = () => {}')
-        self.press('Export texts')
+        self.press('Export a table')
         self.browser.wait('#panel-text .progress')
         self.press('Cancel')
-        self.browser.wait('#panel-text .say', 'No table was saved.')
+        self.browser.wait('#panel-text .say', 'No list was saved.')
         self.assertEqual(list(self.browser.downloads.iterdir()), [])
 
     # ---- known dumps
@@ -211,7 +301,7 @@ class TextsTable(PageTest):
         self.open_list(dat_of(('Starlit Detective (Japan).bin', game, ''), ('Hurt.bin', hurt, 'status="baddump"')))
         self.browser.wait('#start-message .say.good', 'It lists 2 known dumps.')
         for name, said in (('game', 'known dump: Starlit Detective (Japan).bin'), ('hurt', 'known as a bad dump: Hurt.bin'),
-                           ('same', 'but one of this size is'), ('other', 'in none of the lists')):
+                           ('same', 'but other bytes: damaged or patched?'), ('other', 'in none of the lists')):
             self.open_image(files[name])
             self.browser.wait('#disc-line .tag', said)
             for panel in ('text', 'disc'):
@@ -221,7 +311,7 @@ class TextsTable(PageTest):
                 self.setUp()
                 self.open_list(dat_of(('Starlit Detective (Japan).bin', game, ''), ('Hurt.bin', hurt, 'status="baddump"')))
                 self.browser.wait('#start-message .say.good')
-        self.assertNotIn('of this size', self.browser.run("return document.querySelector('#disc-line .tag').innerText"))
+        self.assertNotIn('the size of', self.browser.run("return document.querySelector('#disc-line .tag').innerText"))
 
     def test_a_list_in_UTF_16_without_sha1_names_the_disc_by_its_crc32(self) -> None:
         game = discs.game()

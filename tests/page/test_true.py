@@ -84,9 +84,9 @@ class Sayings(PageTest):
         files = discs.written(first=discs.game() + audio, second=discs.game() + audio[:2352 * 9] + bytes(7) + audio[2352 * 9 + 7:])
         self.open_image(files['first'])
         self.open_files(files['second'])
-        self.browser.answer('Repair first.bin from it')
+        self.browser.answer('Repair the open first.bin with this file')
         self.assertEqual(self.tally(), ['0', '0', '0'])
-        self.browser.wait('#second-body .say.warn', '1 sector is not Mode 1, and differs.')
+        self.browser.wait('#second-body .say.warn', '1 sector was not tested, and differs.')
 
     def test_the_open_image_is_known_as_its_own_second_one(self) -> None:
         file = discs.written(game=common.damaged(discs.game(), 40))['game']
@@ -99,7 +99,7 @@ class Sayings(PageTest):
         files = discs.written(first=image, second=image)
         self.browser.run(LATE_FILES)
         self.open_files(files['first'], files['second'])
-        self.browser.answer('Repair first.bin from it')
+        self.browser.answer('Repair the open first.bin with this file')
         self.browser.wait('[aria-label="Cannot be repaired: 1"] td', str(discs.first_block()))
         self.assertNotIn('in no file', self.browser.text('[aria-label="Cannot be repaired: 1"]'))
         self.browser.run('openFiles()')
@@ -152,7 +152,8 @@ class Sayings(PageTest):
     # ---- a disc
 
     def test_g_asks_for_a_block_while_a_second_image_is_open(self) -> None:
-        files = discs.written(first=discs.game(), second=discs.game())
+        game = common.damaged(discs.game(), 30)  # a sound disc opens a sector
+        files = discs.written(first=game, second=game)
         self.open_image(files['first'])
         self.browser.run(HELD)
         self.open_files(files['second'])
@@ -225,7 +226,7 @@ class Sayings(PageTest):
                 else:
                     self.browser.wait('.editor', 'A script begins with the line')
                 self.press(mends[name])
-                self.browser.wait('#panel-script header .tag:not(.bad)', '1 patch, version')
+                self.browser.wait('#panel-script header .tag:not(.bad)', '1 patch, script version')
                 if name in ('mark', 'utf16'):
                     saved = self.browser.downloaded(path.name)
                     self.assertEqual(common.waited(saved.read_bytes, 'the script is empty'), whole.encode())
@@ -245,7 +246,7 @@ class Sayings(PageTest):
         self.open_script(discs.written(english=discs.named())['english'])
         self.browser.click('#tab-publish')
         self.browser.type('#patcher-title', 'Long Ago: English')
-        self.browser.wait('#panel-publish', 'all fit')
+        self.browser.wait('#panel-publish', 'all match')
         self.wait_for_hash()
         self.press('Save as a patcher')
         self.browser.wait('#panel-publish .say.good', 'Saved: Long Ago English.html')

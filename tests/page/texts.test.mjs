@@ -7,11 +7,11 @@ import { join } from 'node:path';
 import { test } from 'node:test';
 import { page, pageFile } from './page.mjs';
 
-const { say, told } = await page('texts/say.js');
+const { say, format } = await page('texts/say.js');
 
 test('names take their places in any order, and numbers are written as counts', () => {
-    assert.equal(told('{b} before {a}', { a: 'x', b: 1329 }), '1,329 before x');
-    assert.equal(told('nothing'), 'nothing');
+    assert.equal(format('{b} before {a}', { a: 'x', b: 1329 }), '1,329 before x');
+    assert.equal(format('nothing'), 'nothing');
     const part = { a: 'part' };
     assert.deepEqual(say('It is {part}, {n} times.', { part, n: 2000 }), ['It is ', part, ', ', '2,000', ' times.']);
     assert.deepEqual(say('{parts}', { parts: [part, null] }), ['', part, null, '']);
@@ -19,9 +19,9 @@ test('names take their places in any order, and numbers are written as counts', 
 
 test('the form of a text follows from its number', () => {
     const forms = '{n} sector is damaged|{n} sectors are damaged';
-    assert.deepEqual([0, 1, 2, 1000].map(n => told(forms, { n })),
+    assert.deepEqual([0, 1, 2, 1000].map(n => format(forms, { n })),
         ['0 sectors are damaged', '1 sector is damaged', '2 sectors are damaged', '1,000 sectors are damaged']);
-    assert.equal(told('a b|c', { n: 'x' }), 'a b');
+    assert.equal(format('a b|c', { n: 'x' }), 'a b');
 });
 
 test('each form of another language stands at its place, whatever the engine names first', async context => {
@@ -33,6 +33,6 @@ test('each form of another language stands at its place, whatever the engine nam
     const english = readFileSync(join(texts, 'english.js'), 'utf8');
     writeFileSync(join(texts, 'english.js'), english.replace("LANGUAGE = 'en-GB'", "LANGUAGE = 'ru'"));
     const russian = await import(join(texts, 'say.js'));
-    const forms = [1, 3, 5, 21, 1.5].map(n => russian.told('{n} one|{n} few|{n} many|{n} other', { n }));
+    const forms = [1, 3, 5, 21, 1.5].map(n => russian.format('{n} one|{n} few|{n} many|{n} other', { n }));
     assert.deepEqual(forms, ['1 one', '3 few', '5 many', '21 one', '1,5 other']);
 });

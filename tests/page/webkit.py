@@ -7,15 +7,15 @@ from collections.abc import Sequence
 from pathlib import Path
 from typing import Any
 
-from common import PATIENCE, Test, await_start, folder, waited, wants
+from common import PATIENCE, Test, await_start, folder, needs, waited
 
 BROWSERS = sorted(Path('/usr/lib').glob('*/webkit2gtk-4.1/MiniBrowser'))
 
 
-def wanted(test: Test) -> Test:
+def needs_webkit(test: Test) -> Test:
     """Skips a test where WebKit cannot be driven."""
     driven = unittest.skipUnless(importlib.util.find_spec('selenium'), "wants Debian's package python3-selenium")
-    return wants('WebKitWebDriver', 'webkit2gtk-driver')(wants('Xvfb', 'xvfb')(driven(test)))
+    return needs('WebKitWebDriver', 'webkit2gtk-driver')(needs('Xvfb', 'xvfb')(driven(test)))
 
 
 class WebKit:

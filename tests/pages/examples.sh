@@ -157,8 +157,8 @@ if ! missing make make 'the pages of the tarball'; then
     path=$PATH
     # The tools that the pages need, those that every system has, and the shell.
     mkdir "$scratch/named"
-    for name in awk bash cat cmp cp cut dash date dd diff dirname find grep gunzip gzip head iconv ls ln mkdir mktemp mv od rm sed sh \
-        seq sha256sum sort tail test touch tr uniq wc yes genisoimage node perl; do
+    for name in awk base64 bash cat cmp cp cut dash date dd diff dirname find grep gunzip gzip head iconv ls ln mkdir mktemp mv od rm sed sh \
+        seq sha256sum sort tail test touch tr uniq wc yes genisoimage node git perl; do
         ! command -v "$name" > /dev/null || ln -s "$(command -v "$name")" "$scratch/named/$name"
     done
     PATH=$installed/bin:$scratch/named

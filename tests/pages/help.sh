@@ -58,7 +58,7 @@ fi
 if [ -e "$scratch/bin/cdscript" ]; then
     while read -r name; do
         judge "the man page of cdscript explains $name" grep -qE "^\\.Cm $name( |\$)" "$top/man/cdscript.1"
-    done < <(help_of find | sed -n '/--encoding/,/--table/p' | paste -sd ' ' | sed 's/.*written: //; s/ *--table.*//' |
+    done < <(help_of find | sed -n '/--encoding/,/--table/p' | paste -sd ' ' | sed 's/.*the encoding of text: //; s/ *--table.*//' |
         tr -s ', ' '\n')
     for job in $(jobs_of_cdscript) help; do
         judge "help of cdscript $job is at most 80 columns wide" test -z "$(help_of "$job" | awk 'length > 80')"

@@ -206,11 +206,14 @@ rm -f out
 status=$?
 judge 'a listing to a full device' ended 2 ''
 
+# ends_a_line: whether the last byte of `log` is a line feed.
+ends_a_line() { [ "$(tail -c 1 log | od -An -tx1)" = ' 0a' ]; }
+
 run --help
 judge 'help has status 0' test "$status" = 0
-judge 'help has a text, only on standard output' eval 'grep -q Usage log && [ ! -s errors ]'
+judge 'help has a text, only on standard output' eval 'grep -q Usage log && ends_a_line && [ ! -s errors ]'
 run apply --help
-judge 'help of a command' eval '[ "$status" = 0 ] && grep -q "Usage: cdpatch" log && [ ! -s errors ]'
+judge 'help of a command' eval '[ "$status" = 0 ] && grep -q "Usage: cdpatch" log && ends_a_line && [ ! -s errors ]'
 "$program" --help > /dev/full 2> errors
 judge 'help to a full device has status 2' test $? = 2
 
@@ -220,7 +223,7 @@ refused() {
     judge "refused: $*" told_by_parser
 }
 told_by_parser() {
-    [ "$status" = 2 ] && grep -q '^error: ' log && [ ! -s errors ] && [ ! -e out ]
+    [ "$status" = 2 ] && grep -q '^error: ' log && ends_a_line && [ ! -s errors ] && [ ! -e out ]
 }
 # explains PART WORD..: the same, and the text contains this part.
 explains() {

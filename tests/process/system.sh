@@ -467,7 +467,7 @@ closed_streams_without_a_root() {
         for given in image -; do
             with_closed $closed apply $given large.script out
             [ $status = 2 ] && [ ! -e out ] || return
-            [[ $closed == *1* ]] || [ "$(cat log)" = "$no_root" ] || return
+            [[ $closed == *1* ]] || cmp -s log <(echo "$no_root") || return
         done
     done
     with_closed none apply image large.script out

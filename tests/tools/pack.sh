@@ -10,7 +10,7 @@ tree=${TREE-$top}
 # wanted NAME COMMAND..: judges a command under this name, unless CASE is a different one.
 wanted() { [ "${CASE-$1}" != "$1" ] || judge "$@"; }
 
-# A small `web`: a core of two modules, a command, and a page whose script joins the mark before the data of a patcher from two texts.
+# A small `web`: a core of two modules, a command, and a page.
 mkdir -p small/{core,command,page/texts}
 printf '%s\n' '// What both doors use.' '' '/** @typedef {number} Size */' '' 'const step = 3;' '' '/**' ' * Adds.' ' * @param {number} n' ' */' \
     'export function more(n) {' '    return n + step; // stays' '}' > small/core/count.js
@@ -23,8 +23,7 @@ printf '%s\n' "import { basename } from 'node:path';" "import { gunzipSync } fro
     'export function start() {' '    main(process.argv.slice(2));' '}' > small/command/main.js
 printf '%s\n' "import { Twice } from '../core/twice.js';" "import { draw } from './draw.js';" "import './worker.js';" \
     'globalThis.joined = JOINED;' "if (JOINED.script !== '') draw(new Twice().of(1));" > small/page/main.js
-printf '%s\n' 'export function draw(...values) {' "    document.title = ['', '<plaintext hidden id=\"data\">', ...values].join('\\n');" '}' \
-    > small/page/draw.js
+printf '%s\n' 'export function draw(...values) {' "    document.title = ['', '</script>', ...values].join('\\n');" '}' > small/page/draw.js
 printf '%s\n' "import { more } from '../core/count.js';" \
     "if (typeof document === 'undefined') self.onmessage = event => self.postMessage([more(event.data)]);" > small/page/worker.js
 printf '%s\n' '<!doctype html>' '<meta charset="utf-8">' '<title>small</title>' '<link rel="icon" href="icon.svg">' \
@@ -84,23 +83,25 @@ test_command() {
     judge 'and where there is none, that is' test "$? $(cat log errors)" = '2 cdscript needs node 18 or later'
 }
 
-# has_its_hashes PAGE: whether a page has one script and one style with their hashes in its policy, and nothing else that may run.
+# has_its_hashes PAGE: whether a page has one script, the loader, with another one gzipped in it, and one style, with their hashes in its policy,
+# and nothing else that may run.
 has_its_hashes() {
     python3 - "$1" << 'EOF_HASHES'
-import base64, hashlib, re, sys
+import base64, gzip, hashlib, re, sys
 page = open(sys.argv[1], encoding='utf-8').read()
 assert page.count('<script') == page.count('<style') == 1
-for name, more in ('script', " 'wasm-unsafe-eval'"), ('style', ''):
-    text, = re.findall(f'<{name}>(.*?)</{name}>', page, re.DOTALL)
-    value = base64.b64encode(hashlib.sha256(text.encode()).digest()).decode()
-    assert f"; {name}-src 'sha256-{value}'{more};" in page, name
+hashed = lambda text: 'sha256-' + base64.b64encode(hashlib.sha256(text).digest()).decode()
+loader, = re.findall('<script>(.*?)</script>', page, re.DOTALL)
+style, = re.findall('<style>(.*?)</style>', page, re.DOTALL)
+script = gzip.decompress(base64.b64decode(re.search('"([A-Za-z0-9+/=]{200,})"', loader)[1]))
+assert script.startswith(b"'use strict';")
+assert f"; script-src '{hashed(loader.encode())}' '{hashed(script)}' 'wasm-unsafe-eval'; style-src '{hashed(style.encode())}';" in page
 EOF_HASHES
 }
 
 test_page() {
     judge 'a page is joined' join page page.html
-    judge 'its policy has the hashes of its script and its style' has_its_hashes page.html
-    judge 'spaces stay only in texts' grep -qF 'document.title=' page.html
+    judge 'its policy has the hashes of its scripts and its style' has_its_hashes page.html
     judge 'it is strict' test "$(grep -c "<script>'use strict';" page.html)" = 1
     judge 'its last line takes what comes after it as text' test "$(tail -n 1 page.html)" = '<plaintext hidden id="data">'
     judge 'its texts are those of english.js' grep -qF '<p id="text" title="a &quot;title&quot;">small &amp; naïve &amp; isn&#x27;t</p>' page.html
@@ -146,16 +147,14 @@ test_refusals() {
     refuses command '"import.meta" is not available' command/main.js after 'console.log(import.meta.url);'
     refuses command 'has already been declared' command/main.js after 'function step() {}'
     refuses page 'Could not resolve "node:fs"' page/draw.js before "import { readSync } from 'node:fs';"
-    refuses page 'could end it, or change on its way' page/main.js after "draw('<!--');"
-    refuses page 'could end it, or change on its way' page/main.js after 'draw(`\n<plaintext`);'
-    refuses page 'could end it, or change on its way' page/draw.js after "draw('\\\\n<plaintext');"
+    refuses page 'could end it, or change on its way' page/style.css after "p::after { content: '<!--'; }"
     refuses page 'english.js has no text KEYS' page/page.html sed 's/{small}/{KEYS}/'
     refuses page 'Expected ":"' page/style.css after 'p { colour red; }'
     refuses page 'it has another end or another script' page/page.html after 'text'
     refuses page 'it has another end or another script' page/page.html sed 's/<p id/<script>x<\/script><p id/'
     refuses page 'stands there 0 times, and not once' page/page.html sed '/stylesheet/d'
     refuses page 'stands there 2 times, and not once' page/page.html sed 's/^<meta.*/&&/'
-    refuses page 'bytes, more than 520000' page/style.css sh -c 'yes "p { color: black; }" | head -n 60000'
+    refuses page 'bytes, more than 400000' page/style.css sh -c 'yes "p { color: black; }" | head -n 60000'
     mv module.txt moved
     judge 'the join refuses a module of which nothing says what made it' \
         eval '! join page out && grep -qF "module.txt: No such file" errors'

@@ -1,5 +1,5 @@
-// Checks a packed page of the small `web` of tests/tools/pack.sh: `node packed_page.mjs module|notices|worker|own PAGE FILE` fails unless
-// the page has the content that it was packed from. FILE is the module or the notices.
+// Checks a packed page of the small `web` of tests/tools/pack.sh: `node packed_page.mjs module|notices|worker|own PAGE FILE` starts its script
+// as a browser does, and fails unless the page has the content that it was packed from. FILE is the module or the notices.
 
 import assert from 'node:assert/strict';
 import { readFileSync } from 'node:fs';
@@ -8,12 +8,19 @@ import { gunzipSync } from 'node:zlib';
 
 const [part, name, file] = process.argv.slice(2);
 const page = readFileSync(name, 'utf8');
-const [, script] = /<script>(.*?)<\/script>/s.exec(page);
+const [, loader] = /<script>(.*?)<\/script>/s.exec(page);
 const [, style] = /<style>(.*?)<\/style>/s.exec(page);
 const [, policy] = /<meta http-equiv="Content-Security-Policy" content="(.*?)">/.exec(page);
-const context = createContext({ document: { currentScript: { textContent: script } } });
-runInContext(script, context);
-const { joined } = context;
+const joined = await new Promise(started => {
+    const document = { currentScript: { textContent: loader }, createElement: () => ({ remove: () => {} }) };
+    const context = createContext({ document, atob, Blob, Response, window: { DecompressionStream } });
+    document.head = { append: script => {
+        document.currentScript = script;
+        runInContext(script.textContent, context);
+        started(context.joined);
+    } };
+    runInContext(loader, context);
+});
 const inflated = text => gunzipSync(Buffer.from(text, 'base64'));
 
 const PARTS = {
@@ -28,7 +35,7 @@ const PARTS = {
     },
     own: () => {
         const { html: [before, toStyle, toScript, after], policy: [begins, ends], ...own } = JSON.parse(inflated(joined.own));
-        assert.equal([before, policy, toStyle, style, toScript, joined.script, after].join(''), page);
+        assert.equal([before, policy, toStyle, style, toScript, joined.loader, after].join(''), page);
         assert.ok(policy.startsWith(`${begins}sha256-`) && policy.endsWith(`=${ends}`));
         assert.equal(own.style.size, Buffer.byteLength(style));
         assert.match(own.made.join(), /^esbuild [0-9.]+,zlib [0-9.]+,wasm-opt 99$/);

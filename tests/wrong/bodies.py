@@ -88,9 +88,10 @@ def changed_function(folder: Path, changes: str, named: str) -> str:
 
 
 def text_of(crate: Any) -> str:
-    """A checksum of the sources, definitions, and proofs of a crate."""
+    """A checksum of the sources, definitions, and proofs of a crate, without the lines that have only a comment."""
     files = sorted(path for room in ('src', 'specs', 'proofs') for path in Path(crate.folder, room).rglob('*') if path.is_file())
-    return sum_of(*(part for path in files for part in (bytes(path.relative_to(crate.folder)), path.read_bytes())))
+    codes = ((bytes(path.relative_to(crate.folder)), re.sub(rb'(?m)^[ \t]*(//|--).*\n', b'', path.read_bytes())) for path in files)
+    return sum_of(*(part for code in codes for part in code))
 
 
 def totals(crate: Any) -> list[tuple[Block, str]]:

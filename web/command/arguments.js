@@ -15,14 +15,26 @@ import { didYouMean } from './suggesting.js';
 /** Pairs of options that exclude each other. */
 const EXCLUDING = [
     ['encoding', 'table'], ['fields', 'skipDamaged'], ['fields', 'partial'], ['skipDamaged', 'partial'],
-    ['list', 'all'], ['list', 'inside'], ['list', 'loose'], ['base', 'first'],
+    ['list', 'all'], ['list', 'inside'], ['list', 'loose'], ['base', 'first'], ['file', 'base'], ['file', 'track'], ['file', 'in'],
+    ['csv', 'po'], ...['list', 'file', 'all', 'inside', 'loose', 'fill', 'partial', 'track', 'base', 'output'].map(name => ['check', name]),
+    ['json', 'resume'],
+    ['every', 'lines'], ['every', 'min'],
 ];
 
+/** Options of a job that need another option. */
+const NEEDING = [['replace', 'partial', 'list'], ['replace', 'file', 'list'],
+    ['texts', 'every', 'length'], ['texts', 'length', 'every'], ['texts', 'skip', 'every'], ['texts', 'limit', 'every']];
+
 /** Options that may be given several times. */
-const REPEATED = ['dat', 'in'];
+const REPEATED = ['dat', 'in', 'list'];
 
 /** Other names of jobs. */
 const ALIASES = new Map([['repair', 'merge']]);
+
+/** The greatest distance of records, the most bytes of the text of one, and the most bytes before the first. */
+const MOST_EVERY = 1 << 20;
+const LONGEST_RECORD = 4096;
+const MOST_SKIPPED = 1e12;
 
 /** @type {Record<string, string>} */
 const SHORT_WORDS = { '-h': '--help', '-V': '--version' };
@@ -46,6 +58,9 @@ const VALUES = {
     base: text => numberOf(text.replace(/^\+(?=\d)/, ''), '--base', 0, LAST_BASE),
     track: text => numberOf(text, '--track', 1, LAST_TRACK),
     limit: text => numberOf(text, '--limit', 0, LAST_BLOCK),
+    every: text => numberOf(text, '--every', 1, MOST_EVERY),
+    length: text => numberOf(text, '--length', 1, LONGEST_RECORD),
+    skip: text => numberOf(text, '--skip', 0, MOST_SKIPPED),
     min: text => numberOf(text, '--min', 1, LAST_BLOCK),
     first: text => numberOf(text, '--first', 0, LAST_BASE),
     fill: fillOf,
@@ -115,7 +130,7 @@ function checkNames(job, names, options) {
     const least = takes.filter(name => !/^\[|\?$/.test(name)).length;
     const most = takes.some(name => name.endsWith('..')) ? Infinity : takes.length + together;
     if (names.length >= least && names.length <= most && (names.length - least) % (together + 1) === 0) return;
-    throw ownFault(`${job} needs ${usageOf(takes)}; see cdscript ${job} --help`);
+    throw ownFault(`${job} needs ${usageOf(takes) || 'no other arguments'}; see cdscript ${job} --help`);
 }
 
 /**
@@ -144,7 +159,10 @@ export function argumentsOf(words) {
     }
     const foreign = Object.keys(options).find(name => name !== 'help' && !FORMS[job].options.includes(name));
     if (foreign) throw ownFault(`${job} has no option ${OPTION_FORMS[foreign].word}; see cdscript ${job} --help`);
-    if (job === 'replace' && options.partial && options.list === undefined) throw ownFault('--partial needs --list');
+    for (const [its, one, other] of NEEDING) {
+        if (job !== its || !(one in options) || other in options || options.check) continue;
+        throw ownFault(`${OPTION_FORMS[one].word} needs ${OPTION_FORMS[other].word}`);
+    }
     for (const [one, other] of EXCLUDING) {
         if (!(one in options && other in options)) continue;
         throw ownFault(`${OPTION_FORMS[one].word} and ${OPTION_FORMS[other].word} cannot be used together`);

@@ -3,7 +3,7 @@
 import { sampledBase } from '../core/disc/index.js';
 import { Fault, failedBy } from '../core/faults.js';
 import { SECTOR_SIZE, STATUS } from '../core/module/index.js';
-import { NEAR_WRITTEN } from '../core/script/index.js';
+import { BETWEEN_WRITTEN } from '../core/script/index.js';
 import { auditText, imageTooLong, listText } from '../core/sectors/index.js';
 import { applyScript, validScript } from '../core/tasks/index.js';
 import { ownFault, sentenceOf } from '../sentences/index.js';
@@ -13,7 +13,7 @@ import { openTrackOf } from './opening.js';
 /** @typedef {import('../core/bytes.js').Piece} Piece */
 /** @typedef {import('../core/bytes.js').Reader} Reader */
 /** @typedef {import('../core/script/script.js').ReadScript} ReadScript */
-/** @typedef {import('./run.js').Run} Run */
+/** @typedef {import('./job.js').Job} Job */
 
 /**
  * A Fault with a message of the program, which is printed on standard output, as the program does.
@@ -27,18 +27,18 @@ function programFault(text, advice = '') {
 
 /**
  * Wraps a job, so that its errors are reported as the program reports them.
- * @param {(run: Run) => Promise<number>} job
- * @returns {(run: Run) => Promise<number>}
+ * @param {(job: Job) => Promise<number>} task
+ * @returns {(job: Job) => Promise<number>}
  */
-function asProgram(job) {
-    return async run => {
+function asProgram(task) {
+    return async job => {
         try {
-            return await job(run);
+            return await task(job);
         } catch (error) {
             if (!failedBy(error, 'program')) throw error;
-            run.files.removeUnfinished();
-            await run.output.write(new TextEncoder().encode(sentenceOf(error)));
-            if (error.facts.advice) run.say(error.facts.advice);
+            job.files.removeUnfinished();
+            await job.output.write(new TextEncoder().encode(sentenceOf(error)));
+            if (error.facts.advice) job.say(error.facts.advice);
             return STATUS.FAILED;
         }
     };
@@ -57,7 +57,7 @@ const OF_SCRIPTS = { ...OF_IMAGES, open: MESSAGES.no_script, read: MESSAGES.no_s
  * @param {() => T | Promise<T>} tried
  * @returns {Promise<T>}
  */
-async function orSay(messages, tried) {
+async function withMessages(messages, tried) {
     try {
         return await tried();
     } catch (error) {
@@ -75,59 +75,59 @@ const FEWEST_ADDRESSES = 16;
 /**
  * Checks that blocks can be counted from 0 without `--base`, as the program counts them. Throws a Fault if most addresses give a different
  * base. If there are only a few addresses, and all give that base, prints a message.
- * @param {Run} run
+ * @param {Job} job
  * @param {string} name
  * @param {Reader} reader
  */
-async function checkBase(run, name, reader) {
-    const { base, agreeing, mode1 } = await orSay(OF_IMAGES, () => sampledBase(run.calls, reader));
+async function checkBase(job, name, reader) {
+    const { base, agreeing, mode1 } = await withMessages(OF_IMAGES, () => sampledBase(job.calls, reader));
     if (base <= 0 || 2 * agreeing <= mode1) return;
     const found = `most addresses in ${name} say that it begins with block ${base}`;
     if (mode1 >= FEWEST_ADDRESSES) throw ownFault(`${found}: use --base ${base}, or --base 0 to count from 0 anyway`);
-    if (agreeing === mode1) run.say(`this image begins with block ${base}: use --base ${base}`);
+    if (agreeing === mode1) job.say(`this image begins with block ${base}: use --base ${base}`);
 }
 
 /**
  * Opens the image of a job: a file as the program reads it, or the image of a cue sheet. Returns it with its base.
- * @param {Run} run
+ * @param {Job} job
  * @returns {Promise<{ reader: Reader, base: number }>}
  */
-async function openImage(run) {
-    const [name] = run.names;
+async function openImage(job) {
+    const [name] = job.names;
     const isSheet = /\.cue$/i.test(name);
-    if (isSheet) return (await openTrackOf(run, name, true)).image;
-    const { reader } = await orSay(OF_IMAGES, () => run.files.image(name));
-    const { base } = run.options;
-    if (base === undefined && !imageTooLong(reader.size)) await checkBase(run, name, reader);
+    if (isSheet) return (await openTrackOf(job, name, true)).image;
+    const { reader } = await withMessages(OF_IMAGES, () => job.files.image(name));
+    const { base } = job.options;
+    if (base === undefined && !imageTooLong(reader.size)) await checkBase(job, name, reader);
     return { reader, base: base || 0 };
 }
 
 /**
- * @param {Run} run
+ * @param {Job} job
  * @param {typeof listText} textOf
- * @param {'survey' | 'kinds'} job the survey of the sectors that it needs
+ * @param {'survey' | 'kinds'} task the survey of the sectors that it needs
  */
-async function report(run, textOf, job) {
-    const { reader, base } = await openImage(run);
+async function report(job, textOf, task) {
+    const { reader, base } = await openImage(job);
     if (imageTooLong(reader.size)) throw programFault(MESSAGES.long_image);
-    const survey = await orSay(OF_IMAGES, () => run.survey(reader, base, job));
-    const { status, text } = textOf(run.calls, survey, reader.size % SECTOR_SIZE);
-    await run.output.write(text);
+    const survey = await withMessages(OF_IMAGES, () => job.survey(reader, base, task));
+    const { status, text } = textOf(job.calls, survey, reader.size % SECTOR_SIZE);
+    await job.output.write(text);
     return status;
 }
 
-export const listJob = asProgram(run => report(run, listText, 'kinds'));
+export const listJob = asProgram(job => report(job, listText, 'kinds'));
 
-export const auditJob = asProgram(run => report(run, auditText, 'survey'));
+export const auditJob = asProgram(job => report(job, auditText, 'survey'));
 
 /**
  * Reads the script of a job.
- * @param {Run} run
+ * @param {Job} job
  * @returns {Promise<ReadScript>}
  */
-async function scriptNamed(run) {
-    const pieces = run.files.piecesOf(run.names[1]);
-    return orSay(OF_SCRIPTS, () => validScript(run.calls, pieces, run.options.long));
+async function scriptNamed(job) {
+    const pieces = job.files.piecesOf(job.names[1]);
+    return withMessages(OF_SCRIPTS, () => validScript(job.calls, pieces, job.options.long));
 }
 
 /**
@@ -142,34 +142,34 @@ function adviseBase(error) {
 
 /**
  * Applies the patches of the script, and prints their outcomes. Returns the status.
- * @param {Run} run
+ * @param {Job} job
  * @param {{ reader: Reader, base: number }} image
  * @param {ReadScript} script
  * @param {(piece: Piece) => void | Promise<void>} [take]
  */
-async function patch(run, image, script, take) {
-    const { carry } = run.options;
+async function patch(job, image, script, take) {
+    const { carry } = job.options;
     const taken = imageTooLong(image.reader.size) ? null : take; // an image that is too long is only reported
-    const how = { carry, near: NEAR_WRITTEN, take: taken };
-    const made = await orSay(OF_IMAGES, () => applyScript(run, image, script, how, run.watch).catch(adviseBase));
+    const how = { carry, near: BETWEEN_WRITTEN, take: taken };
+    const made = await withMessages(OF_IMAGES, () => applyScript(job, image, script, how, job.watch).catch(adviseBase));
     if (made.status === STATUS.FAILED) throw programFault(made.text);
-    await run.output.write(made.text);
-    run.output.flush();
+    await job.output.write(made.text);
+    job.output.flush();
     return made.status;
 }
 
-export const checkJob = asProgram(async run => {
-    const script = await scriptNamed(run);
-    return patch(run, await openImage(run), script);
+export const checkJob = asProgram(async job => {
+    const script = await scriptNamed(job);
+    return patch(job, await openImage(job), script);
 });
 
-export const applyJob = asProgram(async run => {
-    const script = await scriptNamed(run);
+export const applyJob = asProgram(async job => {
+    const script = await scriptNamed(job);
     // The program makes OUT before it reads the image, which may be a pipe.
-    await orSay(OF_IMAGES, () => run.files.begin(run.names[0]));
-    const out = await orSay(OF_IMAGES, () => run.files.make(run.names[2]));
-    const image = await openImage(run);
-    const status = await patch(run, image, script, piece => out.writePiece(run.watched(image.reader), piece));
-    await orSay(OF_IMAGES, () => out.finish());
+    await withMessages(OF_IMAGES, () => job.files.begin(job.names[0]));
+    const out = await withMessages(OF_IMAGES, () => job.files.make(job.names[2]));
+    const image = await openImage(job);
+    const status = await patch(job, image, script, piece => out.writePiece(job.watched(image.reader), piece));
+    await withMessages(OF_IMAGES, () => out.finish());
     return status;
 });

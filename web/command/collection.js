@@ -18,7 +18,7 @@ const INPUT = '-';
 export class Collection {
     /**
      * @param {(text: string) => void} fault
-     * @param {import('./run.js').Target} target which is excluded, wherever it is
+     * @param {import('./job.js').Target} target which is excluded, wherever it is
      * @param {string} lock the path of its lock, which is excluded too
      */
     constructor(fault, { descriptor }, lock) {

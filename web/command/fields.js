@@ -7,8 +7,8 @@ import { FIELD_COUNT, findDifferences } from '../core/tasks/index.js';
 /** @typedef {import('../core/tasks/compare.js').Differing} Differing */
 /** @typedef {import('../core/bytes.js').Reader} Reader */
 /** @typedef {import('../core/tasks/opened.js').OpenedTrack} OpenedTrack */
-/** @typedef {import('./run.js').Run} Run */
-/** @typedef {import('./run.js').Target} Target */
+/** @typedef {import('./job.js').Job} Job */
+/** @typedef {import('./job.js').Target} Target */
 
 /** @param {Differing} differing */
 function fieldLines({ blocks, fields }) {
@@ -19,15 +19,15 @@ function fieldLines({ blocks, fields }) {
 }
 
 /**
- * @param {Run} run
+ * @param {Job} job
  * @param {Target} target
  * @param {OpenedTrack} opened
  * @param {Reader} fresh of the same size
  */
-export async function differingFields(run, target, opened, fresh) {
+export async function differingFields(job, target, opened, fresh) {
     const print = (/** @type {string[]} */ lines) => target.write(bytesOfLines(lines));
-    const { sectors, tail } = await findDifferences(run, opened, fresh, differing => print(fieldLines(differing)));
-    if (tail) run.say('the bytes after the last sector differ');
+    const { sectors, tail } = await findDifferences(job, opened, fresh, differing => print(fieldLines(differing)));
+    if (tail) job.say('the bytes after the last sector differ');
     await print([`sectors ${opened.image.sectors} differ ${sectors}`]);
     return Number(sectors > 0 || tail);
 }

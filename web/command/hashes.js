@@ -2,17 +2,25 @@
 
 import { createHash } from 'node:crypto';
 import { basename } from 'node:path';
+import * as zlib from 'node:zlib';
 import { crc32 } from '../core/crc32.js';
 import { sentenceOf } from '../sentences/index.js';
 
 /** @typedef {import('../core/disc/dat.js').Found} Found */
 /** @typedef {import('../core/disc/dat.js').Hashes} Hashes */
 /** @typedef {import('../core/disc/dat.js').KnownDumps} KnownDumps */
-/** @typedef {import('./run.js').Run} Run */
+/** @typedef {import('./job.js').Job} Job */
 /** @typedef {KnownDumps['needs']} Needs which hashes are computed beside SHA-1 */
 
-/** No hash beside SHA-1. */
+/** No hash beside SHA-1; and all hashes. */
 export const SHA1_ONLY = { crc32: false, md5: false };
+export const ALL_HASHES = { crc32: true, md5: true };
+
+/**
+ * Continues a CRC-32. Node has had a call for it since 20.15, which takes a fifth of the time.
+ * @type {(before: number, bytes: Uint8Array) => number}
+ */
+const addToCrc = zlib.crc32 === undefined ? crc32 : (before, bytes) => Number(zlib.crc32?.(bytes, before));
 
 /** Hashes that are calculated while bytes are added. */
 export class RunningHashes {
@@ -27,7 +35,7 @@ export class RunningHashes {
     update(bytes) {
         this.sha1.update(bytes);
         if (this.md5 !== null) this.md5.update(bytes);
-        if (this.crc !== null) this.crc = crc32(this.crc, bytes);
+        if (this.crc !== null) this.crc = addToCrc(this.crc, bytes);
     }
 
     /** @returns {Required<Hashes>} '' for a hash that was not computed */
@@ -49,15 +57,15 @@ export function dumpText(found) {
 
 /**
  * Prints the verdict of DATs on a new file. Returns whether it is a bad dump.
- * @param {Run} run
+ * @param {Job} job
  * @param {KnownDumps} known
  * @param {string} name
  * @param {number} size
  * @param {Hashes} hashes
  */
-export function sayKnown(run, known, name, size, hashes) {
+export function sayKnown(job, known, name, size, hashes) {
     const found = known.find(size, hashes, basename(name));
-    run.say(`${name}: ${found ? dumpText(found) : `${sentenceOf(known.remarkOfOther(size))}; its SHA-1 is ${hashes.sha1}`}`);
+    job.say(`${name}: ${found ? dumpText(found) : `${sentenceOf(known.remarkOfOther(size))}; its SHA-1 is ${hashes.sha1}`}`);
     return found !== null && found.isBad;
 }
 

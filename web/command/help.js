@@ -26,7 +26,9 @@ function optionRow(name, own) {
 function jobHelp(job) {
     const { takes, instead = {}, options, says, does, example, own = {} } = FORMS[job];
     const spelled = (/** @type {string} */ name) => `${OPTION_FORMS[name].word} ${OPTION_FORMS[name].value}`;
-    const others = Object.entries(instead).map(([name, taken]) => `${usageOf(taken)} ${spelled(name)}`);
+    // `replace --file` needs a list too.
+    const given = (/** @type {string} */ name) => name === 'file' && 'list' in instead ? ['file', 'list'] : [name];
+    const others = Object.entries(instead).map(([name, taken]) => `${[...given(name).map(spelled), usageOf(taken)].join(' ')}`.trim());
     const usage = [usageOf(takes), ...others].map((taken, i) => `${i === 0 ? 'Usage:' : '      '} cdscript ${job} [OPTIONS] ${taken}`);
     const rows = [...options, 'help'].map(name => optionRow(name, own[name]));
     const lines = does.split(/\n| (?=Status: )/).flatMap(part => part.match(LINE) || []);
@@ -42,9 +44,9 @@ function wholeHelp(version) {
         'The first argument of a job is a raw image (2352 bytes per sector) or its cue',
         'sheet; - is standard input. Scripts and lists go to standard output, messages',
         'to standard error. Output files must not exist yet. Options may appear',
-        'anywhere; every argument after -- is a name. `cdscript help JOB` describes a',
-        'job.', '',
-        'Status: 0 done, 1 findings or refused patches, 2 failed', '', version];
+        'anywhere; arguments after -- are never options. `cdscript help JOB` describes',
+        'a job.', '',
+        'Status: 0 done; 1 findings or refused patches; 2 failed', '', version];
 }
 
 /**

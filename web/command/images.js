@@ -6,10 +6,11 @@ import { LAST_BASE, USER_SIZE, kindName } from '../core/module/index.js';
 import { blocksIn } from '../core/sectors/index.js';
 import { extractFile, passUser, repairTrack } from '../core/tasks/index.js';
 import { blocksText, ownFault, sentenceOf } from '../sentences/index.js';
-import { RunningHashes, sayKnown } from './hashes.js';
+import { ALL_HASHES, RunningHashes, sayKnown } from './hashes.js';
+import { jsonLine, mergeObject } from './json_lines.js';
 import { entriesAtPath } from './looking.js';
 import { openTrackOf } from './opening.js';
-import { MOST_UNTESTED, linesOfRuns, sayOfRuns, untestedText, visible } from './printed.js';
+import { MOST_UNTESTED, linesOfRuns, nameOfUntested, sayOfRuns, untestedTexts, visible } from './printed.js';
 
 /** @typedef {import('../core/tasks/common_part.js').Ranges} Ranges */
 /** @typedef {import('../core/tasks/common_part.js').Shift} Shift */
@@ -17,8 +18,7 @@ import { MOST_UNTESTED, linesOfRuns, sayOfRuns, untestedText, visible } from './
 /** @typedef {import('../core/tasks/repair.js').Repair} Repair */
 /** @typedef {import('../core/disc/disc.js').DiscImage} DiscImage */
 /** @typedef {import('../core/tasks/convert.js').KindRun} KindRun */
-/** @typedef {import('../core/sectors/runs.js').Run} BlockRun */
-/** @typedef {import('./run.js').Run} Run */
+/** @typedef {import('./job.js').Job} Job */
 
 const BLOCKS_WITH_ADDRESS = LAST_BASE + 1;
 const OTHER_EDC = 'the EDC in OLD is different: perhaps the dumps are of different versions';
@@ -39,7 +39,7 @@ function repairLines({ taken, damaged, alike, disputed, differing, different, lo
     return [
         ...linesOfRuns(taken, ({ first, last, other }) => `${first}-${last} from ${others[other].name}`),
         ...linesOfRuns(damaged, ({ first, last, elsewhere }) => `${first}-${last} ${notTaken[`${elsewhere}`]}`),
-        ...linesOfRuns(lost, ({ first, last }) => `${first}-${last} not mode1 in any`),
+        ...linesOfRuns(lost, ({ first, last, why }) => `${first}-${last} not ${why === 'mode2' ? 'mode2' : 'mode1'} in any`),
         ...unlikeLines(unlike),
         ...linesOfRuns(disputed, ({ first, last }) => `${first}-${last} sound in several dumps, but with different contents`),
         ...linesOfRuns(inBoth, ({ first, last, other }) =>
@@ -50,29 +50,40 @@ function repairLines({ taken, damaged, alike, disputed, differing, different, lo
 }
 
 /**
- * @param {BlockRun[]} unlike sectors that were not tested and are not the same in all dumps
+ * @param {KindRun[]} unlike sectors that were not tested and are not the same in all dumps
  */
 function unlikeLines(unlike) {
     if (unlike.length === 0) return [];
-    const lines = unlike.slice(0, MOST_UNTESTED).map(({ first, last }) => `${first}-${last} not tested, and not the same in all dumps`);
+    const lines = unlike.slice(0, MOST_UNTESTED).map(({ first, last, kind }) =>
+        `${first}-${last} ${nameOfUntested(kind)}, not tested, and not the same in all dumps`);
     const left = unlike.length - lines.length;
-    return [...lines, ...left > 0 ? [`and ${left} others`] : [], `untested ${blocksIn(unlike)}, not mode1 and not the same in all dumps`];
+    const all = `untested ${blocksIn(unlike)}, not the same in all dumps: ${kindsOf(unlike)}`;
+    return [...lines, ...left > 0 ? [`and ${left} others`] : [], all];
+}
+
+/**
+ * The number of sectors of each kind, for example 'audio 20, mode2 3'.
+ * @param {KindRun[]} runs
+ */
+function kindsOf(runs) {
+    const kinds = [...new Set(runs.map(({ kind }) => kind))];
+    return kinds.map(kind => `${nameOfUntested(kind)} ${blocksIn(runs.filter(it => it.kind === kind))}`).join(', ');
 }
 
 /**
  * Reports the blocks of an image that another image lacks, and those that only the other image has, which the result lacks.
- * @param {Run} run
+ * @param {Job} job
  * @param {DiscImage} image
  * @param {DiscImage} other
  * @param {Ranges} ranges
  * @param {string} out
  */
-function sayOtherRange(run, image, other, { common, missing, beyond }, out) {
-    if (missing.length > 0) run.say(`${other.name} has only ${blocksText(common)} of ${image.name}`);
+function sayOtherRange(job, image, other, { common, missing, beyond }, out) {
+    if (missing.length > 0) job.say(`${other.name} has only ${blocksText(common)} of ${image.name}`);
     if (beyond.length === 0) return;
     const [are, them] = blocksIn(beyond) === 1 ? ['is', 'it'] : ['are', 'them'];
     const what = `${blocksText(beyond)} ${are} in ${other.name} but not in ${image.name}, so ${out} lacks ${them} too`;
-    run.say(missing.length > 0 ? what : `${what}; to include ${them}, name ${other.name} first`);
+    job.say(missing.length > 0 ? what : `${what}; to include ${them}, name ${other.name} first`);
 }
 
 /**
@@ -104,37 +115,39 @@ function shiftText({ by, first }, name) {
     return `${name} is shifted from block ${first} on, because ${why}`;
 }
 
-/** @param {Run} run */
-export async function mergeJob(run) {
-    const [name, ...more] = run.names;
-    const known = await run.knownDumps();
-    const out = await run.files.make(more.pop() || '');
-    const hash = known && new RunningHashes(known.needs);
-    const opened = await openTrackOf(run, name, true);
+/** @param {Job} job */
+export async function mergeJob(job) {
+    const [name, ...more] = job.names;
+    const known = await job.knownDumps();
+    const out = await job.files.make(more.pop() || '');
+    const hash = job.options.json ? new RunningHashes(ALL_HASHES) : known && new RunningHashes(known.needs);
+    const opened = await openTrackOf(job, name, true);
     const dumps = [];
-    for (const other of more) dumps.push(await openTrackOf(run, other, true));
+    for (const other of more) dumps.push(await openTrackOf(job, other, true));
     const [image, ...others] = [opened, ...dumps].map(it => it.image);
     const seen = (/** @type {Uint8Array} */ bytes) => void (hash && hash.update(bytes));
-    const repair = await repairTrack(run, opened, dumps, piece => out.writePiece(image.reader, piece, seen), run.watch);
+    const repair = await repairTrack(job, opened, dumps, piece => out.writePiece(image.reader, piece, seen), job.watch);
     const { refused, doubtful, untested } = repair;
     if (refused) throw ownFault(refusedText(repair, refused, [name, ...more]));
-    repair.ranges.forEach((ranges, i) => sayOtherRange(run, image, others[i], ranges, out.name));
+    repair.ranges.forEach((ranges, i) => sayOtherRange(job, image, others[i], ranges, out.name));
     others.filter((_, i) => repair.tails[i]).forEach(other =>
-        run.say(`the bytes after the last sector differ in ${other.name}; those in ${name} are kept`));
-    await run.output.write(bytesOfLines(repairLines(repair, others).map(visible)));
-    if (untested.length > 0) run.say(untestedText(untested, opened.disc.sheet !== null));
-    const isBad = known !== null && hash !== null && sayKnown(run, known, out.name, image.reader.size, hash.digest());
-    sayOfRuns(run, doubtful, it => `${blocksText([it])}: copied from ${others[it.other].name}, but ${OTHER_EDC}`);
+        job.say(`the bytes after the last sector differ in ${other.name}; those in ${name} are kept`));
+    const made = { name: out.name, size: image.reader.size, hashes: hash && hash.digest() };
+    await job.output.write(job.options.json && made.hashes ? jsonLine(mergeObject({ ...made, hashes: made.hashes }, known, repair, others))
+        : bytesOfLines(repairLines(repair, others).map(visible)));
+    untestedTexts(untested, opened.disc.sheet !== null).forEach(text => job.say(text));
+    const isBad = known !== null && made.hashes !== null && sayKnown(job, known, made.name, made.size, made.hashes);
+    sayOfRuns(job, doubtful, it => `${blocksText([it])}: copied from ${others[it.other].name}, but ${OTHER_EDC}`);
     if (isBad) return 1;
     return Number([repair.damaged, doubtful, repair.lost, repair.unlike].some(runs => runs.length > 0));
 }
 
-/** @param {Run} run */
-export async function rawJob(run) {
-    const { first = 0, base = first } = run.options;
-    const out = await run.files.make(run.names[1]);
-    const { name, reader } = await run.files.image(run.names[0]);
-    const kind = await kindOfFile(run.calls, reader);
+/** @param {Job} job */
+export async function rawJob(job) {
+    const { first = 0, base = first } = job.options;
+    const out = await job.files.make(job.names[1]);
+    const { name, reader } = await job.files.image(job.names[0]);
+    const kind = await kindOfFile(job.calls, reader);
     const count = reader.size / USER_SIZE;
     const what = sentenceOf({ code: 'kind/what', facts: { kind } });
     if (!['iso', 'audio', 'unknown'].includes(kind)) throw ownFault(`${name} is ${what}, not an ISO image`);
@@ -142,36 +155,36 @@ export async function rawJob(run) {
     if (base + count > BLOCKS_WITH_ADDRESS) {
         throw ownFault(`${name} continues after block ${BLOCKS_WITH_ADDRESS - 1}, the last one with an address`);
     }
-    await run.crew.share('raw', [reader], {}, { base, units: [USER_SIZE] }, bytes => out.write(bytes));
+    await job.crew.share('raw', [reader], {}, { base, units: [USER_SIZE] }, bytes => out.write(bytes));
     return 0;
 }
 
 /**
  * Reports the sectors that are not Mode 1, although their user data was written. Returns whether there are any.
- * @param {Run} run
+ * @param {Job} job
  * @param {KindRun[]} others
  */
-function sayOthers(run, others) {
-    sayOfRuns(run, others, it => `${blocksText([it])}: ${kindName(it.kind)}, so the bytes written may not be user data`);
+function sayOthers(job, others) {
+    sayOfRuns(job, others, it => `${blocksText([it])}: ${kindName(it.kind)}, so the bytes written may not be user data`);
     return others.length > 0;
 }
 
-/** @param {Run} run */
-export async function userJob(run) {
-    const out = await run.files.make(run.names[1]);
-    const { part } = await openTrackOf(run, run.names[0]);
+/** @param {Job} job */
+export async function userJob(job) {
+    const out = await job.files.make(job.names[1]);
+    const { part } = await openTrackOf(job, job.names[0]);
     const how = { base: part.base };
-    const has = sayOthers(run, await passUser(run.crew, part.reader, part.sectors * USER_SIZE, how, user => out.write(user)));
-    if (part.base > 0) run.say(`to convert it back: cdscript raw --base ${part.base}`);
-    if (part.tail === 1) run.say('the byte after the last sector is left out');
-    if (part.tail > 1) run.say(`the ${part.tail} bytes after the last sector are left out`);
+    const has = sayOthers(job, await passUser(job.crew, part.reader, part.sectors * USER_SIZE, how, user => out.write(user)));
+    if (part.base > 0) job.say(`to convert it back: cdscript raw --base ${part.base}`);
+    if (part.tail === 1) job.say('the byte after the last sector is left out');
+    if (part.tail > 1) job.say(`the ${part.tail} bytes after the last sector are left out`);
     return Number(has || part.tail > 0);
 }
 
-/** @param {Run} run */
-export async function extractJob(run) {
-    const out = await run.files.make(run.names[2]);
-    const opened = await openTrackOf(run, run.names[0]);
-    const entries = await entriesAtPath(opened, run.names[1]);
-    return Number(sayOthers(run, await extractFile(run, opened, entries, user => out.write(user))));
+/** @param {Job} job */
+export async function extractJob(job) {
+    const out = await job.files.make(job.names[2]);
+    const opened = await openTrackOf(job, job.names[0]);
+    const entries = await entriesAtPath(opened, job.names[1]);
+    return Number(sayOthers(job, await extractFile(job, opened, entries, user => out.write(user))));
 }

@@ -1,15 +1,16 @@
 // The job `info`: identifies a file, and reports all findings in it.
 
 import { basename } from 'node:path';
-import { bytesOfLines } from '../core/bytes.js';
+import { bytesOfLines, joinedBytes } from '../core/bytes.js';
 import { fileIn, kindOfFile } from '../core/disc/index.js';
 import { SECTOR_KIND } from '../core/module/index.js';
-import { blocksIn, kindRuns, listText } from '../core/sectors/index.js';
-import { findingsIn, unsurveyedTracks } from '../core/tasks/index.js';
+import { MODE2, isDamagedMode2, listText, mode2Runs } from '../core/sectors/index.js';
+import { findingsIn, otherSummary, summaryOf, unsurveyedTracks } from '../core/tasks/index.js';
 import { sentenceOf } from '../sentences/index.js';
-import { SHA1_ONLY, Verdicts, dumpText } from './hashes.js';
+import { ALL_HASHES, SHA1_ONLY, Verdicts, dumpText } from './hashes.js';
+import { fileObject, infoObject, jsonLine } from './json_lines.js';
 import { openDiscOf } from './opening.js';
-import { linesOfRuns, untestedText, visible } from './printed.js';
+import { linesOfRuns, untestedTexts, visible } from './printed.js';
 import { foundInFiles, hashesOf } from './surveying.js';
 
 /** @typedef {import('../core/disc/disc.js').Disc} Disc */
@@ -17,9 +18,9 @@ import { foundInFiles, hashesOf } from './surveying.js';
 /** @typedef {import('../core/disc/lost.js').Lost} Lost */
 /** @typedef {import('../core/disc/dat.js').Hashes} Hashes */
 /** @typedef {import('../core/facts.js').FileKind} FileKind */
-/** @typedef {import('./run.js').Run} Run */
-/** @typedef {{ found: boolean, lines: string[] }} Informed whether something is wrong, and the lines to print */
-/** @typedef {import('./surveying.js').FileFound} FileFound */
+/** @typedef {import('./job.js').Job} Job */
+/** @typedef {{ found: boolean, lines: string[], objects: Uint8Array[] }} Informed whether something is wrong, and the lines to print */
+/** @typedef {import('../core/tasks/file_summary.js').FileFound} FileFound */
 
 const WITH_CDSCRIPT = '`cdscript raw` writes the raw image, and `cdscript user` the ISO image.';
 
@@ -56,26 +57,40 @@ function lackText({ missing: { first, last }, blocks, file, isSure }) {
 function lostText({ first, last, why }, used) {
     const what = `${first}-${last} not mode1`;
     if (why === 'track') return `${what} in a track of mode1`;
+    if (why === 'mode2') return `${first}-${last} not mode2 in a track of mode2`;
     if (why === 'filled') return `${what}, and filled with the same byte, unlike audio`;
     const file = fileIn(used, { first, last });
     return `${what}, though ${file === '' ? 'the volume itself' : file} is stored there`;
 }
 
 /**
+ * The lines about the Mode 2 sectors of an image.
+ * @param {FileFound['surveys'][0]} found
+ */
+function mode2Lines({ survey, mode2: { sectors, tested, damaged, elsewhere }, mode2Found }) {
+    const wrong = mode2Runs(mode2Found, survey.block, it => (it & MODE2.ADDRESS) !== 0);
+    return [
+        tested > 0 ? `mode2 ${sectors} damaged ${damaged} address ${elsewhere}`
+            : `mode2 ${sectors}: Mode 2 sectors cannot be audited or patched; PlayStation discs have them`,
+        ...linesOfRuns(mode2Runs(mode2Found, survey.block, isDamagedMode2), ({ first, last }) => `${first}-${last} mode2 damaged`),
+        ...linesOfRuns(wrong, ({ first, last }) => `${first}-${last} mode2 with a wrong address`),
+    ];
+}
+
+/**
  * The lines about the findings in an image.
- * @param {Run} run
+ * @param {Job} job
  * @param {Disc} disc
  * @param {FileFound['surveys'][0]} found
  * @returns {string[]}
  */
-function surveyLines(run, disc, found) {
-    const { image, survey, mode1, damaged, elsewhere, lost, untested, used, lack } = found;
-    const list = new TextDecoder().decode(listText(run.calls, survey, image.tail).text).trimEnd();
+function surveyLines(job, disc, found) {
+    const { image, survey, mode1, damaged, elsewhere, mode2, lost, untested, used, lack } = found;
+    const list = new TextDecoder().decode(listText(job.calls, survey, image.tail).text).trimEnd();
     const lines = [`base ${image.base}`, ...list.split('\n'), `mode1 ${mode1} damaged ${damaged} address ${elsewhere}`];
-    const mode2 = blocksIn([...kindRuns(survey)].filter(({ kind }) => kind === SECTOR_KIND.MODE2));
-    if (mode2 > 0) lines.push(`mode2 ${mode2}: Mode 2 sectors cannot be audited or patched; PlayStation discs have them`);
-    const others = untested.filter(({ kind }) => kind !== SECTOR_KIND.MODE2);
-    if (others.length > 0) lines.push(untestedText(others, disc.sheet !== null));
+    if (mode2.sectors > 0) lines.push(...mode2Lines(found));
+    const others = mode2.tested > 0 ? untested : untested.filter(({ kind }) => kind !== SECTOR_KIND.MODE2);
+    lines.push(...untestedTexts(others, disc.sheet !== null));
     lines.push(...linesOfRuns(lost, it => lostText(it, used)));
     return lack === null ? lines : [...lines, lackText(lack)];
 }
@@ -109,24 +124,27 @@ function fileLines({ name, reader: { size } }, hashes, verdicts, isImage) {
 
 /**
  * The lines of a disc, and whether something is wrong with it.
- * @param {Run} run
+ * @param {Job} job
  * @param {Verdicts | null} verdicts
  * @returns {Promise<Informed>}
  */
-async function discLines(run, verdicts) {
-    const disc = await openDiscOf(run, run.names[0]);
+async function discLines(job, verdicts) {
+    const disc = await openDiscOf(job, job.names[0]);
     const tracks = disc.tracks.map(track => trackText(disc, track));
-    const found = await foundInFiles(run, disc, needsOf(verdicts));
+    const found = await foundInFiles(job, disc, needsOf(job, verdicts));
     const files = found.flatMap(({ file, hashes, tail }) => [
         ...fileLines(file, hashes, verdicts, true), ...tail > 0 ? [`tail ${tail}: ${file.name} is cut within a sector`] : []]);
     const surveys = found.flatMap(it => it.surveys);
     const lines = surveys.flatMap(it => {
-        const [first, ...more] = surveyLines(run, disc, it);
+        const [first, ...more] = surveyLines(job, disc, it);
         return [surveys.length > 1 ? `track ${it.number} ${first}` : first, ...more];
     });
     const isWrong = found.some(it => findingsIn(it) > 0);
     const isMissing = disc.tracks.some(({ file }) => file < 0);
-    return { found: isWrong || isMissing || surveys.length === 0, lines: [...files, ...tracks, ...lines, ...unsurveyedLines(disc)] };
+    const objects = found.map((it, i) => jsonLine(infoObject(summaryOf(disc, it, i, job.files.changed.get(it.file.name) || ''), it.surveys,
+        disc.tracks.filter(({ file }) => file === i), verdicts && verdicts.known)));
+    const all = [...files, ...tracks, ...lines, ...unsurveyedLines(disc)];
+    return { found: isWrong || isMissing || surveys.length === 0, lines: all, objects };
 }
 
 /**
@@ -139,22 +157,45 @@ function advicesFor(name, kind) {
     return [sentenceOf({ code: 'kind/advice', facts: { kind } }), kind === 'iso' ? WITH_CDSCRIPT : ''].filter(it => it !== '');
 }
 
-/** @param {Verdicts | null} verdicts */
-function needsOf(verdicts) {
+/**
+ * @param {Job} job
+ * @param {Verdicts | null} verdicts
+ */
+function needsOf(job, verdicts) {
+    if (job.options.json) return ALL_HASHES;
     return verdicts ? verdicts.known.needs : SHA1_ONLY;
 }
 
-/** @param {Run} run */
-export async function infoJob(run) {
-    const file = await run.files.image(run.names[0]);
-    const kind = await kindOfFile(run.calls, file.reader);
-    const known = await run.knownDumps();
+/**
+ * The lines of a file that is not a disc.
+ * @param {Job} job
+ * @param {import('../core/disc/disc.js').DiscFile} file
+ * @param {FileKind} kind
+ * @param {string} what the kind in words
+ * @param {Verdicts | null} verdicts
+ * @returns {Promise<Informed>}
+ */
+async function otherLines(job, file, kind, what, verdicts) {
+    const advices = advicesFor(job.names[0], kind);
+    if (verdicts === null && !job.options.json) return { found: true, lines: advices, objects: [] };
+    const hashes = await hashesOf(file.reader, needsOf(job, verdicts));
+    const lines = verdicts === null ? [] : fileLines(file, hashes, verdicts, false);
+    const { name, reader: { size } } = file;
+    const summary = otherSummary({ name, size, changed: job.files.changed.get(name) || '', hashes }, kind, what);
+    const object = { ...fileObject(summary, verdicts && verdicts.known), tracks: [], parts: [] };
+    return { found: true, lines: [...lines, ...advices], objects: [jsonLine(object)] };
+}
+
+/** @param {Job} job */
+export async function infoJob(job) {
+    const file = await job.files.image(job.names[0]);
+    const kind = await kindOfFile(job.calls, file.reader);
+    const known = await job.knownDumps();
     const verdicts = known && new Verdicts(known);
     const isDisc = kind === 'raw' || kind === 'audio' || kind === 'cue';
-    const other = async () => verdicts ? fileLines(file, await hashesOf(file.reader, needsOf(verdicts)), verdicts, false) : [];
-    const { found, lines } = isDisc ? await discLines(run, verdicts)
-        : { found: true, lines: [...await other(), ...advicesFor(run.names[0], kind)] };
-    await run.output.write(bytesOfLines([`${run.names[0]}: ${sentenceOf({ code: 'kind/what', facts: { kind } })}`, ...lines].map(visible)));
-    if (verdicts) run.say(verdicts.text());
+    const what = sentenceOf({ code: 'kind/what', facts: { kind } });
+    const { found, lines, objects } = isDisc ? await discLines(job, verdicts) : await otherLines(job, file, kind, what, verdicts);
+    await job.output.write(job.options.json ? joinedBytes(objects) : bytesOfLines([`${job.names[0]}: ${what}`, ...lines].map(visible)));
+    if (verdicts) job.say(verdicts.text());
     return Number(found || (verdicts !== null && verdicts.status > 0));
 }

@@ -1,33 +1,96 @@
-// The job `replace --list`: writes the script for a table with the new texts of a disc.
+// The jobs `replace --list`, which writes the script for lists with the new texts of a disc, and `replace --check`, which checks lists.
 
-import { importTable } from '../core/tasks/index.js';
+import { checkLists, importTable } from '../core/tasks/index.js';
 import { ownFault, sentenceOf } from '../sentences/index.js';
 import { openTrackOf } from './opening.js';
-import { sayOfRuns } from './printed.js';
+import { linesOfRuns, sayOfRuns, visible } from './printed.js';
 import { writeFinished } from './scripts.js';
 import { encodingsOf } from './searching.js';
 
-/** @typedef {import('./run.js').Run} Run */
+/** @typedef {import('../core/tasks/table.js').ImportedTable} ImportedTable */
+/** @typedef {import('./job.js').Job} Job */
+
+/** How many of the characters that only new texts have are listed. */
+const MOST_CHARACTERS = 100;
 
 /**
- * @param {Run} run
- * @param {string} list the name of the file
+ * The files of some names.
+ * @param {Job} job
+ * @param {string[]} names
  */
-export async function replaceListJob(run, list) {
-    const { fill, partial = false, encoding, table } = run.options;
-    const target = await run.target();
-    const opened = await openTrackOf(run, run.names[0]);
-    const encodings = await encodingsOf(run);
-    const isAsked = encoding !== undefined || table !== undefined;
-    const { reader } = await run.files.image(list);
-    const { script, left, codes } = await importTable(run, opened, { list: { name: list, reader }, encodings, isAsked, fill, partial });
-    sayOfRuns(run, left, facts => sentenceOf({ code: 'list/row-left', facts }));
-    sayOfRuns(run, codes, facts => sentenceOf({ code: 'list/code-left', facts }));
-    if (left.length > 0 && !partial) {
-        const [rows, them] = left.length === 1 ? ['1 row does', 'it'] : [`${left.length} rows do`, 'them'];
-        throw ownFault(`${rows} not fit, so no script was written; use --partial to leave ${them} out`);
-    }
+export async function filesNamed(job, names) {
+    const files = [];
+    for (const name of names) files.push({ name, reader: (await job.files.image(name)).reader });
+    return files;
+}
+
+/**
+ * The encodings of the options, and whether they replace the names in rows.
+ * @param {Job} job
+ */
+async function encodingsForRows(job) {
+    const { encoding, table } = job.options;
+    return { encodings: await encodingsOf(job), isAsked: encoding !== undefined || table !== undefined };
+}
+
+/**
+ * Reports what a translator may have overlooked: codes that new texts leave out, characters that only they have, and fuzzy entries.
+ * @param {Job} job
+ * @param {Pick<ImportedTable, 'codes' | 'glyphs' | 'fuzzy'>} made
+ */
+function sayOverlooked(job, { codes, glyphs, fuzzy }) {
+    sayOfRuns(job, codes, facts => sentenceOf({ code: 'list/code-left', facts }));
+    const facts = { glyphs: glyphs.slice(0, MOST_CHARACTERS), count: glyphs.length };
+    if (glyphs.length > 0) job.say(sentenceOf({ code: 'list/new-characters', facts }));
+    if (fuzzy > 0) job.say(sentenceOf({ code: 'list/fuzzy', facts: { count: fuzzy } }));
+}
+
+/**
+ * Reports the rows that do not fit, and what a translator may have overlooked. Throws a Fault if all rows are needed and some do not fit.
+ * @param {Job} job
+ * @param {Pick<ImportedTable, 'left' | 'codes' | 'glyphs' | 'fuzzy'>} made
+ * @param {'script' | 'file'} output
+ */
+export function sayOfLists(job, { left, ...made }, output) {
+    sayOfRuns(job, left, facts => sentenceOf({ code: 'list/row-left', facts }));
+    sayOverlooked(job, made);
+    if (left.length === 0 || job.options.partial) return;
+    const [rows, them] = left.length === 1 ? ['1 row does', 'it'] : [`${left.length} rows do`, 'them'];
+    throw ownFault(`${rows} not fit, so no ${output} was written; use --partial to leave ${them} out`);
+}
+
+/**
+ * The options of an import.
+ * @param {Job} job
+ * @param {string[]} names of the lists
+ */
+export async function importOptions(job, names) {
+    const { fill, partial = false } = job.options;
+    return { ...await encodingsForRows(job), lists: await filesNamed(job, names), fill, partial };
+}
+
+/**
+ * @param {Job} job
+ * @param {string[]} names of the lists
+ */
+export async function replaceListJob(job, names) {
+    const target = await job.target();
+    const opened = await openTrackOf(job, job.names[0]);
+    const { script, ...made } = await importTable(job, opened, await importOptions(job, names));
+    sayOfLists(job, made, 'script');
     if (script === null) throw ownFault('no row fits, so no script was written');
-    await writeFinished(run, target, script);
-    return Number(left.length > 0);
+    await writeFinished(job, target, script);
+    return Number(made.left.length > 0);
+}
+
+/** @param {Job} job */
+export async function checkListsJob(job) {
+    const options = { ...await encodingsForRows(job), lists: await filesNamed(job, job.names) };
+    const { count, left, untested, ...made } = await checkLists(options);
+    const lines = linesOfRuns(left, facts => visible(sentenceOf({ code: 'list/row-left', facts })));
+    const last = `texts ${count} left out ${left.length} not tested ${untested} fuzzy ${made.fuzzy}`;
+    await job.output.write(new TextEncoder().encode(`${[...lines, last].join('\n')}\n`));
+    sayOverlooked(job, made);
+    if (untested > 0) job.say('the lists do not name the room and the encoding of all texts, so these were not tested');
+    return Number(left.length + untested > 0);
 }

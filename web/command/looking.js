@@ -6,11 +6,12 @@ import { filesLines } from '../core/iso/index.js';
 import { USER_SIZE, kindName } from '../core/module/index.js';
 import { FIELDS, addressIn, addressText, findingOf } from '../core/sectors/index.js';
 import { sectorsOfRange } from '../core/tasks/index.js';
-import { FilesAlong, LONGEST_CHARACTER, LOOKED_BACK, bytesAround, bytesInside, charactersFrom, contextsOf } from '../core/texts/index.js';
-import { shownCell } from '../core/texts/index.js';
+import { FilesAlong, LONGEST_CHARACTER, LOOKED_BACK, bytesAround, bytesInside, charactersFrom } from '../core/texts/index.js';
+import { contextsOf, shownPlace, shownCell } from '../core/texts/index.js';
 import { ownFault, sentenceOf } from '../sentences/index.js';
 import { placeGiven } from './numbers.js';
 import { openTrackOf } from './opening.js';
+import { openTextsOf } from './plain_files.js';
 import { visible } from './printed.js';
 import { encodingsOf, foundText } from './searching.js';
 import { nearest } from './suggesting.js';
@@ -24,8 +25,8 @@ import { nearest } from './suggesting.js';
 /** @typedef {import('../core/texts/context.js').Context} Context */
 /** @typedef {import('../core/tasks/opened.js').OpenedTrack} OpenedTrack */
 /** @typedef {import('../core/tasks/opened.js').TrackContents} TrackContents */
-/** @typedef {import('./run.js').Run} Run */
-/** @typedef {import('./run.js').Target} Target */
+/** @typedef {import('./job.js').Job} Job */
+/** @typedef {import('./job.js').Target} Target */
 
 const DEFAULT_LIMIT = 1000;
 
@@ -35,7 +36,7 @@ const BYTES_SHOWN = 128;
 
 /**
  * The entries of the file with a path. Throws a Fault if there is none.
- * @param {OpenedTrack} opened
+ * @param {Pick<OpenedTrack, 'contents'>} opened
  * @param {string} path
  */
 export async function entriesAtPath(opened, path) {
@@ -58,20 +59,20 @@ function volumeIn({ volume, fault }) {
 
 /**
  * Reports why no file is named, if there is no volume.
- * @param {Run} run
+ * @param {Job} job
  * @param {TrackContents} contents
  */
-export function sayNoVolume(run, { fault }) {
-    if (fault !== null) run.say(`file names are unknown: ${sentenceOf(fault)}`);
+export function sayNoVolume(job, { fault }) {
+    if (fault !== null) job.say(`file names are unknown: ${sentenceOf(fault)}`);
 }
 
-/** @param {Run} run */
-export async function filesJob(run) {
-    const target = await run.target();
-    const opened = await openTrackOf(run, run.names[0]);
+/** @param {Job} job */
+export async function filesJob(job) {
+    const target = await job.target();
+    const opened = await openTrackOf(job, job.names[0]);
     const { files, faults } = volumeIn(await opened.contents());
     await target.write(bytesOfLines(filesLines(files, visible, sentenceOf)));
-    faults.forEach(fault => run.say(sentenceOf(fault)));
+    faults.forEach(fault => job.say(sentenceOf(fault)));
     return Number(faults.length > 0 || files.some(({ fault }) => fault !== null));
 }
 
@@ -94,13 +95,15 @@ function printedFiles(files) {
 
 /**
  * The line of a hit.
+ * @param {OrderedImage} image
  * @param {FilesAlong} files
  * @param {Hit} hit
  * @param {Context} context
  */
-function hitLine(files, hit, { before, hit: text, after, doubt }) {
+function hitLine(image, files, hit, { before, hit: text, after, doubt }) {
     const around = shownCell(visible(`${before.join('')}${text}${after.join('')}`));
-    return [hit.block, hit.offset, hit.size, filesText(files, hit), around, ...doubt === null ? [] : [sentenceOf(doubt)]].join('\t');
+    const { block, offset } = shownPlace(image, hit);
+    return [block, offset, hit.size, filesText(files, hit), around, ...doubt === null ? [] : [sentenceOf(doubt)]].join('\t');
 }
 
 /**
@@ -114,24 +117,25 @@ function hitLine(files, hit, { before, hit: text, after, doubt }) {
 async function writeHits(target, image, files, encoding, hits) {
     const along = printedFiles(files);
     for await (const near of contextsOf(image, encoding, hits)) {
-        await target.write(bytesOfLines(Array.from(near, ({ hit, context }) => hitLine(along, hit, context))));
+        await target.write(bytesOfLines(Array.from(near, ({ hit, context }) => hitLine(image, along, hit, context))));
     }
 }
 
-/** @param {Run} run */
-export async function findJob(run) {
-    const { limit = DEFAULT_LIMIT } = run.options;
-    const target = await run.target();
-    const opened = await openTrackOf(run, run.names[0]);
-    const { image, best } = await foundText(run, opened, run.names[1], Math.max(limit, 1));
+/** @param {Job} job */
+export async function findJob(job) {
+    const { limit = DEFAULT_LIMIT } = job.options;
+    const target = await job.target();
+    const opened = await openTextsOf(job);
+    const [text] = job.names.slice(-1);
+    const { image, best } = await foundText(job, opened, text, Math.max(limit, 1));
     const { count, hits } = best || { count: 0, hits: [] };
     const printed = hits.slice(0, limit);
     if (best !== null) {
         const contents = await opened.contents();
-        sayNoVolume(run, contents);
+        sayNoVolume(job, contents);
         await writeHits(target, image, contents.files, best.encoding, printed);
     }
-    run.say(`hits ${count} printed ${printed.length}`);
+    job.say(`hits ${count} printed ${printed.length}`);
     return Number(count === 0);
 }
 
@@ -160,16 +164,16 @@ async function rowLines(image, encoding, place, size) {
 
 /**
  * The lines about a sector: its address, kind, and EDC, what is wrong with it, and the files that contain the byte at `place`.
- * @param {Run} run
+ * @param {Job} job
  * @param {OpenedTrack} opened
  * @param {Uint8Array} sector
  * @param {Place} place
  */
-async function sectorLines(run, opened, sector, place) {
-    const found = findingOf(run.calls, place.block, run.calls.survey(sector, place.block));
+async function sectorLines(job, opened, sector, place) {
+    const found = findingOf(job.calls, place.block, job.calls.survey(sector, place.block));
     const contents = await opened.contents();
-    sayNoVolume(run, contents);
-    const [kind, edc] = [kindName(run.calls.kind(sector)), hexText(sector.subarray(FIELDS.edc, FIELDS.zeros))];
+    sayNoVolume(job, contents);
+    const [kind, edc] = [kindName(job.calls.kind(sector)), hexText(sector.subarray(FIELDS.edc, FIELDS.zeros))];
     return [
         `block ${place.block} address ${addressText(addressIn(sector, 0))} ${kind} edc ${edc}`,
         ...found === '' ? [] : [`wrong: ${found}`],
@@ -177,17 +181,17 @@ async function sectorLines(run, opened, sector, place) {
     ];
 }
 
-/** @param {Run} run */
-export async function showJob(run) {
-    const [name, blockText, offsetText = '0'] = run.names;
+/** @param {Job} job */
+export async function showJob(job) {
+    const [name, blockText, offsetText = '0'] = job.names;
     const place = placeGiven(blockText, offsetText);
-    const [encoding] = await encodingsOf(run);
+    const [encoding] = await encodingsOf(job);
     const first = Math.floor(place.offset / ROW) * ROW;
-    const size = run.names.length < 3 ? USER_SIZE : BYTES_SHOWN;
-    const target = await run.target();
-    const opened = await openTrackOf(run, name, true);
+    const size = job.names.length < 3 ? USER_SIZE : BYTES_SHOWN;
+    const target = await job.target();
+    const opened = await openTrackOf(job, name, true);
     const { image } = opened;
-    const lines = await sectorLines(run, opened, await sectorsOfRange(image, place, 1), place);
+    const lines = await sectorLines(job, opened, await sectorsOfRange(image, place, 1), place);
     await target.write(bytesOfLines([...lines, ...await rowLines(image, encoding, { block: place.block, offset: first }, size)]));
     return 0;
 }

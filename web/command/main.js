@@ -13,13 +13,13 @@ import { helpText } from './help.js';
 import { MESSAGES } from './messages.js';
 import { hasOddBytes, wordsOfProcess } from './names.js';
 import { visible } from './printed.js';
-import { Run } from './run.js';
+import { Job } from './job.js';
 import { serveScan } from './scan_thread.js';
 import { Messages } from './stdout.js';
 import { serveThread } from './threads.js';
 
 /** @typedef {import('./arguments.js').Given} Given */
-/** @typedef {import('./run.js').Streams} Streams */
+/** @typedef {import('./job.js').Streams} Streams */
 
 const STANDARD = { input: 0, output: 1, errors: 2 };
 /** @type {('SIGHUP' | 'SIGINT' | 'SIGTERM')[]} */
@@ -33,12 +33,12 @@ function versionText(number) {
 /**
  * Prints help, the version or the notices.
  * @param {Given} given
- * @param {Run} run
+ * @param {Job} job
  */
-async function printHelp({ job, options }, run) {
-    const version = `cdscript ${versionText(run.calls.version())}`;
-    const text = options.version ? `${version}\n` : helpText(job, version);
-    await run.output.write(options.notices ? gunzipSync(Buffer.from(JOINED.notices, 'base64')) : new TextEncoder().encode(text));
+async function printHelp({ job: name, options }, job) {
+    const version = `cdscript ${versionText(job.calls.version())}`;
+    const text = options.version ? `${version}\n` : helpText(name, version);
+    await job.output.write(options.notices ? gunzipSync(Buffer.from(JOINED.notices, 'base64')) : new TextEncoder().encode(text));
     return STATUS.DONE;
 }
 
@@ -55,8 +55,8 @@ function messageOf(error) {
  * @param {string} word
  * @param {Given} given
  */
-function isNameRead(word, { job, names }) {
-    return names.includes(word) && job in FORMS && FORMS[job].takes.every(it => it === 'IMAGE' || it === 'PATH..');
+function isNameRead(word, { job: name, names }) {
+    return names.includes(word) && name in FORMS && FORMS[name].takes.every(it => it === 'IMAGE' || it === 'PATH..');
 }
 
 /**
@@ -67,22 +67,22 @@ function isNameRead(word, { job, names }) {
  */
 export async function main(words, streams = STANDARD, files = new Files(streams.input)) {
     const messages = new Messages(streams.errors);
-    let run = null;
+    let job = null;
     try {
         if (words.some(word => word.includes('\uFFFD'))) throw ownFault(MESSAGES.no_text);
         const given = argumentsOf(words);
         if (words.some(word => hasOddBytes(word) && !isNameRead(word, given))) throw ownFault(MESSAGES.no_text);
         const { help, version, notices } = given.options;
-        run = new Run(given, streams, files, messages);
-        const status = help || version || notices ? await printHelp(given, run) : await FORMS[given.job].job(run);
-        run.output.flush();
+        job = new Job(given, streams, files, messages);
+        const status = help || version || notices ? await printHelp(given, job) : await FORMS[given.job].job(job);
+        job.output.flush();
         await files.finish();
         return status;
     } catch (error) {
         if (!failedBy(error, 'reader-ended')) messages.say(messageOf(error));
         return STATUS.FAILED;
     } finally {
-        if (run !== null) run.crew.close();
+        if (job !== null) job.crew.close();
         files.close();
     }
 }

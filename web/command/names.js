@@ -2,11 +2,7 @@
 
 import { readFileSync } from 'node:fs';
 import { join, win32 } from 'node:path';
-
-/** The number added to a byte to make it a lone surrogate. */
-const ESCAPE = 0xDC00;
-
-const ESCAPED = /([\uDC80-\uDCFF])/u;
+import { ESCAPED_BYTE, SURROGATE_OF_BYTE } from '../core/tasks/index.js';
 
 /** Matches valid UTF-8, or a byte that is not valid, in a text in which each byte is a character. */
 const PARTS = new RegExp(`((?:${[
@@ -21,7 +17,7 @@ const PARTS = new RegExp(`((?:${[
  */
 export function nameOfBytes(bytes) {
     return bytes.toString('latin1').replace(PARTS, (it, valid) =>
-        valid ? Buffer.from(valid, 'latin1').toString() : String.fromCharCode(ESCAPE + it.charCodeAt(0)));
+        valid ? Buffer.from(valid, 'latin1').toString() : String.fromCharCode(SURROGATE_OF_BYTE + it.charCodeAt(0)));
 }
 
 /**
@@ -29,13 +25,15 @@ export function nameOfBytes(bytes) {
  * @param {string} name
  */
 export function pathOf(name) {
-    if (!ESCAPED.test(name)) return name;
-    return Buffer.concat(name.split(ESCAPED).map((part, i) => i % 2 === 0 ? Buffer.from(part) : Buffer.of(part.charCodeAt(0) - ESCAPE)));
+    if (!ESCAPED_BYTE.test(name)) return name;
+    const bytesOf = (/** @type {string} */ part, /** @type {number} */ i) =>
+        i % 2 === 0 ? Buffer.from(part) : Buffer.of(part.charCodeAt(0) - SURROGATE_OF_BYTE);
+    return Buffer.concat(name.split(ESCAPED_BYTE).map(bytesOf));
 }
 
 /** @param {string} name */
 export function hasOddBytes(name) {
-    return ESCAPED.test(name);
+    return ESCAPED_BYTE.test(name);
 }
 
 /** The arguments of the process with their original bytes: node reads bytes that are not UTF-8 as U+FFFD. */
@@ -70,26 +68,4 @@ export function isNoFileOfWindows(path) {
 export function pathIn(directory, name) {
     const isDrive = process.platform === 'win32' && /^[a-z]:$/i.test(directory);
     return isDrive ? `${directory}.\\${name}` : join(directory, name);
-}
-
-/**
- * Escapes a name for a list: different names stay different, and none has a tab or a line end.
- * @param {string} name
- */
-export function listedName(name) {
-    const digits = (/** @type {string} */ it) => (it.codePointAt(0) || 0).toString(16);
-    const byte = (/** @type {string} */ it) => (it.charCodeAt(0) - ESCAPE).toString(16);
-    return name.replace(/[\p{C}\p{Zl}\p{Zp}\\]/gu, it =>
-        it === '\\' ? '\\\\' : ESCAPED.test(it) ? `\\x${byte(it)}` : `\\u{${digits(it)}}`);
-}
-
-/**
- * Reverses `listedName`.
- * @param {string} listed
- */
-export function nameOfListed(listed) {
-    return listed.replace(/\\(?:\\|u\{([0-9a-f]{1,6})\}|x([89a-f][0-9a-f]))/g, (it, code, byte) => {
-        if (code) return String.fromCodePoint(Math.min(parseInt(code, 16), 0x10FFFF));
-        return byte ? String.fromCharCode(ESCAPE + parseInt(byte, 16)) : '\\';
-    });
 }

@@ -102,4 +102,6 @@ declare module 'node:worker_threads' {
 
 declare module 'node:zlib' {
     export function gunzipSync(bytes: Uint8Array): Uint8Array;
+    /** Undefined before node 20.15. */
+    export const crc32: undefined | ((bytes: Uint8Array, before: number) => number);
 }

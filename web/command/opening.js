@@ -14,18 +14,18 @@ import { pathsOfSheet } from './sheet_files.js';
 /** @typedef {import('../core/disc/disc.js').Disc} Disc */
 /** @typedef {import('../core/disc/disc.js').DiscFile} DiscFile */
 /** @typedef {import('../core/disc/disc.js').DiscImage} DiscImage */
-/** @typedef {import('./run.js').Run} Run */
+/** @typedef {import('./job.js').Job} Job */
 
 /**
  * Opens the disc of a raw image or of a cue sheet. Throws a Fault if a file is too long, and any error of `openDisc`.
- * @param {Run} run
+ * @param {Job} job
  * @param {string} name
  */
-export async function openDiscOf(run, name) {
-    const file = await run.files.image(name);
-    const kind = await kindOfFile(run.calls, file.reader);
-    const others = kind === 'cue' ? await filesOfSheet(run, file) : [];
-    const disc = await openNamedFiles(run, [file, ...others]);
+export async function openDiscOf(job, name) {
+    const file = await job.files.image(name);
+    const kind = await kindOfFile(job.calls, file.reader);
+    const others = kind === 'cue' ? await filesOfSheet(job, file) : [];
+    const disc = await openNamedFiles(job, [file, ...others]);
     const long = disc.files.find(({ reader }) => imageTooLong(reader.size));
     if (long) throw ownFault(`${long.name}: ${MESSAGES.long_image}`, { file: long.name });
     return disc;
@@ -33,12 +33,12 @@ export async function openDiscOf(run, name) {
 
 /**
  * Opens a disc. The message about a missing file names the cue sheet, as the user gave only its name.
- * @param {Run} run
+ * @param {Job} job
  * @param {DiscFile[]} files
  */
-async function openNamedFiles(run, files) {
+async function openNamedFiles(job, files) {
     try {
-        return await openDisc(run.calls, files);
+        return await openDisc(job.calls, files);
     } catch (error) {
         if (!failedBy(error, 'disc/missing-files')) throw error;
         const { sheet, file } = error.facts;
@@ -48,52 +48,52 @@ async function openNamedFiles(run, files) {
 
 /**
  * The existing files that a cue sheet names. The core chooses among them.
- * @param {Run} run
+ * @param {Job} job
  * @param {DiscFile} sheet
  */
-async function filesOfSheet(run, { name, reader }) {
+async function filesOfSheet(job, { name, reader }) {
     const sheets = sheetsOf(await wholeOf(reader));
     const paths = await tryFile('read', dirname(name), () => pathsOfSheet(name, sheets));
     const opened = [];
-    for (const path of new Set(paths.flat())) if (path !== null) opened.push(await run.files.imageOfSheet(path));
+    for (const path of new Set(paths.flat())) if (path !== null) opened.push(await job.files.imageOfSheet(path));
     return opened;
 }
 
 /**
  * Reports the other data tracks, if no option selects a track.
- * @param {Run} run
+ * @param {Job} job
  * @param {Disc} disc
  * @param {{ number: number, file: number }} track the track that is examined
  * @param {boolean} whole whether the other tracks in its file are examined too
  */
-function sayOtherTracks(run, { tracks }, track, whole) {
+function sayOtherTracks(job, { tracks }, track, whole) {
     const others = tracks.filter(it => it.image !== null && it.number !== track.number && !(whole && it.file === track.file));
     const numbers = others.map(({ number }) => number);
-    if (run.options.track !== undefined || numbers.length === 0) return;
+    if (job.options.track !== undefined || numbers.length === 0) return;
     const [which, seen] = numbers.length === 1 ? ['track', 'also has data, but was'] : ['tracks', 'also have data, but were'];
-    run.sayOnce(`${which} ${numbers.join(', ')} ${seen} not examined: use --track ${numbers[0]}`);
+    job.sayOnce(`${which} ${numbers.join(', ')} ${seen} not examined: use --track ${numbers[0]}`);
 }
 
 /**
  * Reports the base that is used for an image whose addresses do not give it.
- * @param {Run} run
+ * @param {Job} job
  * @param {DiscImage} image
  */
-export function sayUnknownBase(run, { name, base, addressed }) {
+export function sayUnknownBase(job, { name, base, addressed }) {
     if (addressed === base) return;
     const why = addressed === null ? 'do not give its first block' : 'begin before block 0';
-    run.say(`the addresses in ${name} ${why}, so its first sector counts as block ${base}; see --base`);
+    job.say(`the addresses in ${name} ${why}, so its first sector counts as block ${base}; see --base`);
 }
 
 /**
  * Opens the data track of a job. Reports the data tracks that are not examined, and an unknown base.
- * @param {Run} run
+ * @param {Job} job
  * @param {string} name
  * @param {boolean} [whole] whether the job examines the whole image, not only the track
  */
-export async function openTrackOf(run, name, whole = false) {
-    const opened = openTrack(await openDiscOf(run, name), run.options);
-    sayOtherTracks(run, opened.disc, opened.track, whole);
-    if (run.options.base === undefined) sayUnknownBase(run, opened.image);
+export async function openTrackOf(job, name, whole = false) {
+    const opened = openTrack(await openDiscOf(job, name), job.options);
+    sayOtherTracks(job, opened.disc, opened.track, whole);
+    if (job.options.base === undefined) sayUnknownBase(job, opened.image);
     return opened;
 }

@@ -1,10 +1,12 @@
 // Texts that several jobs print.
 
+import { SECTOR_KIND, kindName } from '../core/module/index.js';
 import { blocksIn, joinedRuns } from '../core/sectors/index.js';
 import { blocksText } from '../sentences/index.js';
 
+/** @typedef {import('../core/disc/lost.js').KindRun} KindRun */
 /** @typedef {import('../core/sectors/runs.js').Run} BlockRun */
-/** @typedef {import('./run.js').Run} Run */
+/** @typedef {import('./job.js').Job} Job */
 
 export { visible } from '../core/texts/index.js';
 
@@ -25,24 +27,43 @@ export function linesOfRuns(runs, textOf) {
 /**
  * Prints a message for each of the first runs and, if there are more, the number of all.
  * @template R
- * @param {Run} run
+ * @param {Job} job
  * @param {R[]} runs
  * @param {(run: R) => string} textOf
  */
-export function sayOfRuns(run, runs, textOf) {
-    linesOfRuns(runs, textOf).forEach(line => run.say(line));
+export function sayOfRuns(job, runs, textOf) {
+    linesOfRuns(runs, textOf).forEach(line => job.say(line));
 }
 
 /** The maximum number of listed runs of sectors that were not tested. */
 export const MOST_UNTESTED = 20;
 
 /**
- * Lists the sectors that were not tested.
- * @param {BlockRun[]} runs of sectors that are not Mode 1, one at least
+ * Lists the sectors that were not tested: those without a code, and Mode 2 sectors whose codes show nothing.
+ * @param {KindRun[]} runs
  * @param {boolean} hasSheet whether a cue sheet says what they are
  */
-export function untestedText(runs, hasSheet) {
+export function untestedTexts(runs, hasSheet) {
+    const isMode2 = (/** @type {KindRun} */ { kind }) => kind === SECTOR_KIND.MODE2;
+    const [mode2, others] = [runs.filter(isMode2), runs.filter(it => !isMode2(it))];
+    const isAudio = hasSheet && others.every(({ kind }) => kind === SECTOR_KIND.NOSYNC);
+    const what = isAudio ? 'audio' : `not mode1${hasSheet ? '' : '; a cue sheet would say whether they are audio'}`;
+    return [...untestedText(others, what), ...untestedText(mode2, 'mode2 without codes that show damage')];
+}
+
+/**
+ * The name of a kind of sectors that were not tested.
+ * @param {number} kind
+ */
+export function nameOfUntested(kind) {
+    return kind === SECTOR_KIND.NOSYNC ? 'audio' : kindName(kind);
+}
+
+/**
+ * @param {BlockRun[]} runs
+ * @param {string} what the sectors are
+ */
+function untestedText(runs, what) {
     const [blocks, count] = [blocksText(joinedRuns(runs), MOST_UNTESTED), blocksIn(runs)];
-    const what = `not tested ${count}: ${blocks} ${count === 1 ? 'is' : 'are'} not mode1`;
-    return hasSheet ? what : `${what}; a cue sheet would say whether they are audio`;
+    return count === 0 ? [] : [`not tested ${count}: ${blocks} ${count === 1 ? 'is' : 'are'} ${what}`];
 }

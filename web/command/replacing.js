@@ -6,10 +6,11 @@ import { hexText } from '../core/hex_digits.js';
 import { assertHasRoom, filledUp, findTextAt, replaceFile, replaceHits } from '../core/tasks/index.js';
 import { contextOf, unitsAlike } from '../core/texts/index.js';
 import { ownFault, sentenceOf } from '../sentences/index.js';
-import { replaceListJob } from './listing.js';
+import { checkListsJob, replaceListJob } from './listing.js';
 import { entriesAtPath } from './looking.js';
 import { placeGiven } from './numbers.js';
 import { openTrackOf } from './opening.js';
+import { replaceInFileJob } from './plain_files.js';
 import { sayOfRuns } from './printed.js';
 import { writeFinished } from './scripts.js';
 import { encodingsOf, foundText } from './searching.js';
@@ -17,7 +18,7 @@ import { encodingsOf, foundText } from './searching.js';
 /** @typedef {import('../core/sectors/sector.js').Place} Place */
 /** @typedef {import('../core/tasks/find.js').Places} Places */
 /** @typedef {import('../core/tasks/opened.js').OpenedTrack} OpenedTrack */
-/** @typedef {import('./run.js').Run} Run */
+/** @typedef {import('./job.js').Job} Job */
 
 /** The maximum number of places that are listed if a text should occur once, but occurs at several places. */
 const MOST_LISTED = 20;
@@ -25,14 +26,14 @@ const MOST_PLACES = 1000000;
 
 /**
  * The places at which a text occurs: the only one, or all with `--all`. Throws a Fault if there is none, or several without `--all`.
- * @param {Run} run
+ * @param {Job} job
  * @param {OpenedTrack} opened
  * @param {string} text
  * @returns {Promise<Places>}
  */
-async function wantedPlaces(run, opened, text) {
-    const { all, inside } = run.options;
-    const { image, best } = await foundText(run, opened, text, all ? MOST_PLACES : MOST_LISTED);
+async function wantedPlaces(job, opened, text) {
+    const { all, inside } = job.options;
+    const { image, best } = await foundText(job, opened, text, all ? MOST_PLACES : MOST_LISTED);
     if (best === null) throw ownFault('text not found');
     const { count, hits, encoding } = best;
     if (count === 1 && !all && !inside) await assertBegins({ image, encoding, hits });
@@ -41,7 +42,7 @@ async function wantedPlaces(run, opened, text) {
     for (const hit of hits) {
         const { doubt, before, hit: own, after } = await contextOf(image, encoding, hit);
         const place = `found at block ${hit.block} offset ${hit.offset}${doubt === null ? '' : `, ${sentenceOf(doubt)}`}`;
-        run.say(`${place}: ${[...before, own, ...after].join('')}`);
+        job.say(`${place}: ${[...before, own, ...after].join('')}`);
     }
     throw ownFault(`the text occurs ${count} times: give BLOCK and OFFSET of one, or --all`);
 }
@@ -66,16 +67,16 @@ async function assertBegins(places) {
 
 /**
  * The given place, at which the text must be. Reports if it may be in the middle of a character.
- * @param {Run} run
+ * @param {Job} job
  * @param {OpenedTrack} opened
  * @param {Place} place
  * @param {string} text
  */
-async function placesAt(run, opened, place, text) {
-    const { loose } = run.options;
-    const places = await findTextAt(run, opened, { text, encodings: await encodingsOf(run), loose, place });
+async function placesAt(job, opened, place, text) {
+    const { loose } = job.options;
+    const places = await findTextAt(job, opened, { text, encodings: await encodingsOf(job), loose, place });
     const doubt = await doubtText(places);
-    if (doubt !== '') run.say(doubt);
+    if (doubt !== '') job.say(doubt);
     return places;
 }
 
@@ -90,13 +91,13 @@ function paddedText(count, fill) {
 
 /**
  * The new bytes, padded, for each size of the old text. Throws a Fault if they do not fit, or cannot be padded.
- * @param {Run} run
+ * @param {Job} job
  * @param {Places} places
  * @param {string} text
  */
-function freshBytes(run, { encoding, hits }, text) {
+function freshBytes(job, { encoding, hits }, text) {
     const bytes = usualBytes(unitsAlike(encoding, text));
-    const fill = fillerOf(encoding, run.options.fill || null);
+    const fill = fillerOf(encoding, job.options.fill || null);
     /** @type {Map<number, Uint8Array>} */
     const known = new Map();
     for (const size of new Set(hits.map(hit => hit.size))) {
@@ -104,7 +105,7 @@ function freshBytes(run, { encoding, hits }, text) {
         const missing = size - bytes.length;
         if (missing > 0 && fill === null) throw ownFault(`${encoding.name} has no space character to pad with: give --fill`);
         known.set(size, filledUp(bytes, size, fill));
-        if (missing > 0 && fill !== null) run.say(paddedText(missing, fill));
+        if (missing > 0 && fill !== null) job.say(paddedText(missing, fill));
     }
     return known;
 }
@@ -112,52 +113,54 @@ function freshBytes(run, { encoding, hits }, text) {
 /**
  * Writes the script that replaces a text at places. Lists the places that are left out, and returns their number. Throws a Fault if the
  * only place is left out.
- * @param {Run} run
- * @param {import('./run.js').Target} target
+ * @param {Job} job
+ * @param {import('./job.js').Target} target
  * @param {OpenedTrack} opened
  * @param {Places} places
  * @param {{ text: string, inside: boolean | undefined }} options
  */
-async function writeReplaced(run, target, opened, places, { text, inside }) {
-    const known = freshBytes(run, places, text);
+async function writeReplaced(job, target, opened, places, { text, inside }) {
+    const known = freshBytes(job, places, text);
     const freshFor = (/** @type {number} */ size) => /** @type {Uint8Array} */ (known.get(size));
-    const { script, left } = await replaceHits(run, opened, { ...places, freshFor, inside });
+    const { script, left } = await replaceHits(job, opened, { ...places, freshFor, inside });
     if (left.length === 1 && places.hits.length === 1) throw new Fault(left[0].why.code, left[0].why.facts);
-    sayOfRuns(run, left, facts => sentenceOf({ code: 'replace/hit-left', facts }));
+    sayOfRuns(job, left, facts => sentenceOf({ code: 'replace/hit-left', facts }));
     if (script === null) throw ownFault('every place is left out, so no script was written');
-    await writeFinished(run, target, script);
+    await writeFinished(job, target, script);
     return left.length;
 }
 
-/** @param {Run} run */
-export async function replaceJob(run) {
-    if (run.options.list !== undefined) return replaceListJob(run, run.options.list);
-    const [name, ...more] = run.names;
+/** @param {Job} job */
+export async function replaceJob(job) {
+    const { check, list, file } = job.options;
+    if (check) return checkListsJob(job);
+    if (list !== undefined) return file === undefined ? replaceListJob(job, list) : replaceInFileJob(job, file, list);
+    const [name, ...more] = job.names;
     const [after, before, offset, block] = more.reverse();
     const given = block === undefined ? null : placeGiven(block, offset);
-    if (given !== null && run.options.all) throw ownFault('--all cannot be used together with BLOCK and OFFSET');
-    const target = await run.target();
-    const opened = await openTrackOf(run, name, given !== null);
-    const places = given === null ? await wantedPlaces(run, opened, before) : await placesAt(run, opened, given, before);
-    const inside = given !== null || run.options.inside;
-    return Number(await writeReplaced(run, target, opened, places, { text: after, inside }) > 0);
+    if (given !== null && job.options.all) throw ownFault('--all cannot be used together with BLOCK and OFFSET');
+    const target = await job.target();
+    const opened = await openTrackOf(job, name, given !== null);
+    const places = given === null ? await wantedPlaces(job, opened, before) : await placesAt(job, opened, given, before);
+    const inside = given !== null || job.options.inside;
+    return Number(await writeReplaced(job, target, opened, places, { text: after, inside }) > 0);
 }
 
-/** @param {Run} run */
-export async function replaceFileJob(run) {
-    const { fill } = run.options;
+/** @param {Job} job */
+export async function replaceFileJob(job) {
+    const { fill } = job.options;
     if (fill === 'end' || (fill && fill.length !== 1)) throw ownFault('--fill must be one byte for replace-file');
-    const target = await run.target();
-    const opened = await openTrackOf(run, run.names[0]);
-    const entries = await entriesAtPath(opened, run.names[1]);
-    const { reader } = await run.files.image(run.names[2]);
-    const made = await replaceFile(run, opened, { entries, wanted: reader, fill: fill && fill[0] });
+    const target = await job.target();
+    const opened = await openTrackOf(job, job.names[0]);
+    const entries = await entriesAtPath(opened, job.names[1]);
+    const { reader } = await job.files.image(job.names[2]);
+    const made = await replaceFile(job, opened, { entries, newFile: reader, fill: fill && fill[0] });
     const { file } = made;
-    sayOfRuns(run, made.left, left => sentenceOf({ code: 'script/left', facts: { runs: [left], image: opened.part.name } }));
-    sayOfRuns(run, made.sharing, other => sentenceOf({ code: 'replace/shared-blocks', facts: { path: file.path, other } }));
+    sayOfRuns(job, made.left, left => sentenceOf({ code: 'script/left', facts: { runs: [left], image: opened.part.name } }));
+    sayOfRuns(job, made.sharing, other => sentenceOf({ code: 'replace/shared-blocks', facts: { path: file.path, other } }));
     if (made.script === null) throw ownFault('these blocks of the file cannot be patched, so no script was written');
-    if (fill && reader.size < file.size) run.say(paddedText(file.size - reader.size, fill));
-    else if (reader.size !== file.size) run.say(`${file.path}: ${file.size} bytes, now ${reader.size}`);
-    await writeFinished(run, target, made.script);
+    if (fill && reader.size < file.size) job.say(paddedText(file.size - reader.size, fill));
+    else if (reader.size !== file.size) job.say(`${file.path}: ${file.size} bytes, now ${reader.size}`);
+    await writeFinished(job, target, made.script);
     return 0;
 }

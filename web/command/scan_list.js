@@ -3,42 +3,28 @@
 import { closeSync, ftruncateSync, openSync, readFileSync, readSync, statSync } from 'node:fs';
 import { basename } from 'node:path';
 import { bytesOfLines } from '../core/bytes.js';
-import { BAD_DUMP, ownFault } from '../sentences/index.js';
+import { COLUMN, NOT_IN_DAT, NOT_TESTED, NO_DAT, NO_IMAGE, lacksHash, nameOfListed, saidOfDump, saidOfFile } from '../core/tasks/index.js';
+import { BAD_DUMP, ownFault, sentenceOf } from '../sentences/index.js';
 import { hasCode, tryFile } from './failures.js';
 import { timeText } from './files.js';
-import { dumpText } from './hashes.js';
 import { lockList } from './list_lock.js';
-import { listedName, nameOfListed, pathOf } from './names.js';
+import { pathOf } from './names.js';
 import { letSignalsIn } from './pausing.js';
 import { replaceFile, writeFully } from './new_file.js';
 
 /** @typedef {import('../core/disc/dat.js').KnownDumps} KnownDumps */
 /** @typedef {import('./hashes.js').Needs} Needs */
 /** @typedef {import('./hashes.js').Verdicts} Verdicts */
-/** @typedef {import('./run.js').Run} Run */
-/** @typedef {import('./scan_thread.js').Scanned} Scanned */
+/** @typedef {import('./job.js').Job} Job */
 
 const LINE_FEED = 0x0A;
 
 /**
- * Matches a line of a list. Lines of earlier versions may have `0` instead of `-`, may lack the prefix NONE, and end after the seventh
+ * Matches a line of a list. Lines of earlier versions may have `0` instead of `-`, may lack the prefix NO_IMAGE, and end after the seventh
  * column.
  */
 const LISTED = new RegExp(['^[^\\t]+', '[^\\t]*', '(?:\\d+|-)', '(?:\\d+|-)', '(?:\\d+|-)', '[0-9a-f]{40}',
     '[^\\t]+(?:', '\\d+', '(?:[-0-9T:.+]+Z|-)', '(?:[0-9a-f]{8}|-)', '(?:[0-9a-f]{32}|-))?$'].join('\\t'));
-
-/** Begins the column of kinds for a file that is not part of a disc. The description of the file follows. */
-export const NONE = 'none: ';
-
-/** The value of a column that was not tested or not computed. */
-const UNTESTED = '-';
-
-/** The indices of columns. A line of an earlier version ends after SAID, the column of the DAT. */
-const [KINDS, FINDINGS, SHA1, SAID, BYTES, CHANGED, CRC32, MD5] = [1, 3, 5, 6, 7, 8, 9, 10];
-
-/** The value of the column of the DAT if none was given, and if none of its dumps is the file. */
-const NO_DAT = '-';
-const NOT_IN_DAT = 'not in the DAT';
 
 /** Each line of a list has fewer bytes: a name has at most 4095 bytes, each of which becomes at most ten. */
 const LONGEST_LINE = 1 << 17;
@@ -48,43 +34,29 @@ function isListed(line) {
     return LISTED.test(new TextDecoder().decode(line));
 }
 
-/** @param {import('../core/disc/dat.js').Found | null} found */
-function textOfFound(found) {
-    return found === null ? NOT_IN_DAT : dumpText(found);
-}
-
-/**
- * The line of a file.
- * @param {Scanned} file
- * @param {KnownDumps | null} known
- */
-export function listedLine({ name, kinds, mode1, damaged, findings, elsewhere, size, changed, hashes }, known) {
-    const numbers = [damaged, findings, elsewhere].map(it => mode1 > 0 || it > 0 ? it : UNTESTED);
-    const said = known === null ? NO_DAT : textOfFound(known.find(size, hashes, basename(name)));
-    const more = [changed, hashes.crc32, hashes.md5].map(it => it || UNTESTED);
-    return [listedName(name), kinds, ...numbers, hashes.sha1, listedName(said), size, ...more].join('\t');
-}
-
 /**
  * The verdict of a DAT on the file of a line, as its column has it.
  * @param {string[]} row
  * @param {KnownDumps} known
  */
 function saidOfRow(row, known) {
-    const own = basename(nameOfListed(row[0]));
-    if (row.length <= BYTES) return listedName(textOfFound(known.findSha1(row[SHA1], own)));
-    const [crc32, md5] = [row[CRC32], row[MD5]].map(it => it === UNTESTED ? '' : it);
-    const found = known.find(Number(row[BYTES]), { sha1: row[SHA1], crc32, md5 }, own);
-    return found === null && lacksHash(row, known.needs) ? NO_DAT : listedName(textOfFound(found));
+    const own = basename(nameOfListed(row[COLUMN.NAME]));
+    if (row.length <= COLUMN.BYTES) return saidOfDump(known.findSha1(row[COLUMN.SHA1], own), sentenceOf);
+    return saidOfFile(known, { size: Number(row[COLUMN.BYTES]), hashes: hashesOfRow(row), own }, sentenceOf);
+}
+
+/** @param {string[]} row */
+function hashesOfRow(row) {
+    const [sha1, crc32 = '', md5 = ''] = [COLUMN.SHA1, COLUMN.CRC32, COLUMN.MD5].map(i => row[i] === NOT_TESTED ? '' : row[i]);
+    return { sha1, crc32, md5 };
 }
 
 /**
- * Whether a hash that a DAT needs was not computed.
+ * Whether a line is by a version that did not test Mode 2 sectors.
  * @param {string[]} row
- * @param {Needs} needs
  */
-function lacksHash(row, needs) {
-    return (needs.crc32 && row[CRC32] === UNTESTED) || (needs.md5 && row[MD5] === UNTESTED);
+function lacksMode2(row) {
+    return row[COLUMN.ELSEWHERE] === NOT_TESTED && /(?:^|,)mode2 /.test(row[COLUMN.KINDS]);
 }
 
 /**
@@ -95,8 +67,8 @@ function lacksHash(row, needs) {
 function fateOf(row, needs) {
     try {
         const stat = statSync(pathOf(nameOfListed(row[0])));
-        const isSame = row[BYTES] === `${stat.size}` && row[CHANGED] === (timeText(stat) || UNTESTED);
-        return isSame && !lacksHash(row, needs) ? 'same' : 'other';
+        const isSame = row[COLUMN.BYTES] === `${stat.size}` && row[COLUMN.CHANGED] === (timeText(stat) || NOT_TESTED);
+        return isSame && !lacksHash(needs, hashesOfRow(row)) && !lacksMode2(row) ? 'same' : 'other';
     } catch (error) {
         return hasCode(error, 'ENOENT') || hasCode(error, 'ENOTDIR') ? 'gone' : 'other';
     }
@@ -148,12 +120,12 @@ export class ResumedList {
     }
 
     hasFindings() {
-        return this.rows.some(row => Number(row[FINDINGS]) > 0);
+        return this.rows.some(row => Number(row[COLUMN.FINDINGS]) > 0);
     }
 
     /** The descriptions of files that are not part of a disc, by their names in the list. */
     others() {
-        return new Map(this.rows.filter(isOther).map(row => [row[0], row[KINDS].slice(NONE.length)]));
+        return new Map(this.rows.filter(isOther).map(row => [row[0], row[COLUMN.KINDS].slice(NO_IMAGE.length)]));
     }
 
     /**
@@ -178,8 +150,8 @@ export class ResumedList {
      * @param {KnownDumps} known
      */
     async lookUp(known) {
-        const rows = this.rows.map(row => row.map((it, i) => i === SAID ? saidOfRow(row, known) : it));
-        const changed = rows.filter((row, i) => row[SAID] !== this.rows[i][SAID]).length;
+        const rows = this.rows.map(row => row.map((it, i) => i === COLUMN.SAID ? saidOfRow(row, known) : it));
+        const changed = rows.filter((row, i) => row[COLUMN.SAID] !== this.rows[i][COLUMN.SAID]).length;
         if (changed > 0) await this.replace(rows);
         return changed;
     }
@@ -190,8 +162,8 @@ export class ResumedList {
      */
     count(verdicts) {
         for (const row of this.rows) {
-            const found = row[SAID] === NOT_IN_DAT ? null : { isBad: row[SAID].startsWith(BAD_DUMP) };
-            if (row[SAID] !== NO_DAT) verdicts.add(found, Number(row[BYTES]), !isOther(row));
+            const found = row[COLUMN.SAID] === NOT_IN_DAT ? null : { isBad: row[COLUMN.SAID].startsWith(BAD_DUMP) };
+            if (row[COLUMN.SAID] !== NO_DAT) verdicts.add(found, Number(row[COLUMN.BYTES]), !isOther(row));
         }
     }
 
@@ -231,21 +203,21 @@ export class ResumedList {
 
 /** @param {string[]} row */
 function isOther(row) {
-    return row[KINDS].startsWith(NONE);
+    return row[COLUMN.KINDS].startsWith(NO_IMAGE);
 }
 
 /**
- * @param {Run} run
+ * @param {Job} job
  * @returns {Promise<ResumedList | null>}
  */
-export async function resumedList(run) {
-    const { resume, output } = run.options;
+export async function resumedList(job) {
+    const { resume, output } = job.options;
     if (resume === undefined) return null;
     if (output !== undefined) throw ownFault('--resume and -o cannot be used together');
     await tryFile('open', resume, () => closeSync(openSync(resume, 'a+')));
-    run.files.onmake();
+    job.files.onmake();
     const lock = lockList(resume);
-    run.files.unfinished.add(lock);
+    job.files.unfinished.add(lock);
     const list = await tryFile('open', resume, () => new ResumedList(resume, lock.place));
     list.goOn(await tryFile('read', resume, () => list.bytes()));
     return list;

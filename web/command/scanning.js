@@ -2,18 +2,20 @@
 
 import { cpus } from 'node:os';
 import { basename } from 'node:path';
-import { bytesOfLines } from '../core/bytes.js';
+import { bytesOfLines, joinedBytes } from '../core/bytes.js';
+import { NO_IMAGE, listedColumns, listedName } from '../core/tasks/index.js';
+import { sentenceOf } from '../sentences/index.js';
 import { Collection, filesNamedBy, isSheetName, realName } from './collection.js';
-import { SHA1_ONLY, Verdicts } from './hashes.js';
-import { listedName } from './names.js';
-import { compiledModule } from './run.js';
-import { NONE, listedLine, resumedList } from './scan_list.js';
+import { ALL_HASHES, SHA1_ONLY, Verdicts } from './hashes.js';
+import { fileObject, jsonLine } from './json_lines.js';
+import { compiledModule } from './job.js';
+import { resumedList } from './scan_list.js';
 import { scanOne } from './scan_thread.js';
 import { begunThread } from './threads.js';
 
 /** @typedef {import('../core/disc/dat.js').KnownDumps} KnownDumps */
-/** @typedef {import('./run.js').Run} Run */
-/** @typedef {import('./run.js').Target} Target */
+/** @typedef {import('./job.js').Job} Job */
+/** @typedef {import('./job.js').Target} Target */
 /** @typedef {import('./scan_list.js').ResumedList} ResumedList */
 /** @typedef {import('./scan_thread.js').Answer} Answer */
 /** @typedef {import('./collection.js').Wanted} Wanted */
@@ -21,12 +23,14 @@ import { begunThread } from './threads.js';
 /** @typedef {{ scan(name: string): Promise<Answer>, close(): void }} Scanner */
 
 /**
- * A thread that examines images. Without threads, and after the thread has failed, the current thread does this.
+ * A thread that examines images. Without threads, and after the thread has failed, the current thread does this. It also does if there is
+ * only one file, for which the start of a thread would take longer than it helps.
  * @param {Needs} needs
+ * @param {boolean} isOnly
  * @returns {Scanner}
  */
-function newScanner(needs) {
-    const thread = begunThread({ module: compiledModule(), scans: true });
+function newScanner(needs, isOnly) {
+    const thread = isOnly ? null : begunThread({ module: compiledModule(), scans: true });
     let isGone = false;
     /** @type {(answer: Answer) => void} */
     let settle = () => {};
@@ -55,12 +59,12 @@ function newScanner(needs) {
 /** The results for a collection so far. */
 class Scan {
     /**
-     * @param {Run} run
+     * @param {Job} job
      * @param {Target} target
      * @param {KnownDumps | null} known
      */
-    constructor(run, target, known) {
-        this.run = run;
+    constructor(job, target, known) {
+        this.job = job;
         this.target = target;
         this.known = known;
         this.verdicts = known && new Verdicts(known);
@@ -76,31 +80,32 @@ class Scan {
     /** @param {string} text */
     fault(text) {
         this.status = 2;
-        this.run.say(text);
+        this.job.say(text);
     }
 
     /**
      * @param {Wanted} wanted
      * @param {Answer} answer
      */
-    async tell({ name: wanted, isNamed }, { files, notes, missing, fault, other }) {
-        notes.forEach(note => this.run.say(note));
+    async print({ name: wanted, isNamed }, { files, notes, missing, fault, other }) {
+        notes.forEach(note => this.job.say(note));
         if (other !== '') this.tellOther(wanted, isNamed, other);
         if (fault !== '') this.fault(fault);
         missing.forEach(text => this.fault(text));
         const fresh = files.filter(({ name }) => !this.told.has(realName(name)));
         fresh.forEach(({ name }) => this.told.add(realName(name)));
         const unlisted = fresh.filter(({ name }) => !this.done.has(listedName(name)));
-        const lines = unlisted.map(it => listedLine(it, this.known));
+        const bytes = this.job.options.json ? joinedBytes(unlisted.map(it => jsonLine(fileObject(it, this.known))))
+            : bytesOfLines(unlisted.map(it => listedColumns(it, this.known, basename(it.name), sentenceOf).join('\t')));
         unlisted.forEach(it => this.count(it));
         if (fresh.some(({ findings }) => findings > 0)) this.status = Math.max(this.status, 1);
-        if (lines.length > 0) await this.target.write(bytesOfLines(lines));
-        this.run.output.flush();
+        if (bytes.length > 0) await this.target.write(bytes);
+        this.job.output.flush();
     }
 
-    /** @param {import('./scan_thread.js').Scanned} file that a DAT may know */
+    /** @param {import('../core/tasks/file_summary.js').FileSummary} file that a DAT may know */
     count({ name, size, hashes, kinds }) {
-        if (this.verdicts) this.verdicts.add(this.verdicts.known.find(size, hashes, basename(name)), size, !kinds.startsWith(NONE));
+        if (this.verdicts) this.verdicts.add(this.verdicts.known.find(size, hashes, basename(name)), size, !kinds.startsWith(NO_IMAGE));
     }
 
     /**
@@ -134,17 +139,17 @@ class Scan {
     }
 }
 
-/** @param {Run} run */
-export async function scanJob(run) {
-    const known = await run.knownDumps();
-    const list = await resumedList(run);
-    const scan = new Scan(run, list || await run.target(), known);
+/** @param {Job} job */
+export async function scanJob(job) {
+    const known = await job.knownDumps();
+    const list = await resumedList(job);
+    const scan = new Scan(job, list || await job.target(), known);
     const collection = new Collection(text => scan.fault(text), scan.target, list ? list.lock : '');
-    await collection.addPaths(run.names);
+    await collection.addPaths(job.names);
     const names = collection.names();
     const sheets = names.filter(({ name }) => isSheetName(name));
-    const needs = known ? known.needs : SHA1_ONLY;
-    const scanners = Array.from({ length: Math.min(cpus().length || 1, names.length) }, () => newScanner(needs));
+    const needs = job.options.json ? ALL_HASHES : known ? known.needs : SHA1_ONLY;
+    const scanners = Array.from({ length: Math.min(cpus().length || 1, names.length) }, () => newScanner(needs, names.length === 1));
     try {
         if (list) await goOn(scan, list, names, needs);
         for (const some of [sheets, names.slice(sheets.length)]) await scanAll(scan, some, scanners);
@@ -152,9 +157,9 @@ export async function scanJob(run) {
         scanners.forEach(scanner => scanner.close());
         if (list) list.close();
     }
-    sayOthers(run, scan.others);
+    sayOthers(job, scan.others);
     if (scan.verdicts === null) return scan.status;
-    run.say(scan.verdicts.text());
+    job.say(scan.verdicts.text());
     return Math.max(scan.status, scan.verdicts.status);
 }
 
@@ -168,14 +173,15 @@ export async function scanJob(run) {
  */
 async function goOn(scan, list, names, needs) {
     const wanted = names.flatMap(({ name }) => isSheetName(name) ? [name, ...filesNamedBy(name)] : [name]);
-    const gone = await list.dropOld(new Set(wanted.map(listedName)), needs);
-    const [files, lines] = gone === 1 ? ['1 file no longer exists', 'its line is'] : [`${gone} files no longer exist`, 'their lines are'];
-    if (gone > 0) scan.run.say(`${list.name}: ${files}, but ${lines} kept`);
+    const absent = await list.dropOld(new Set(wanted.map(listedName)), needs);
+    const [files, lines] =
+        absent === 1 ? ['1 file no longer exists', 'its line is'] : [`${absent} files no longer exist`, 'their lines are'];
+    if (absent > 0) scan.job.say(`${list.name}: ${files}, but ${lines} kept`);
     scan.done = list.done();
     if (list.hasFindings()) scan.status = Math.max(scan.status, 1);
     const changed = scan.known === null ? 0 : await list.lookUp(scan.known);
     const rows = changed === 1 ? '1 line' : `${changed} lines`;
-    if (changed > 0) scan.run.say(`${list.name}: the seventh column was updated from the DAT; ${rows} changed`);
+    if (changed > 0) scan.job.say(`${list.name}: the seventh column was updated from the DAT; ${rows} changed`);
     if (scan.verdicts) list.count(scan.verdicts);
     const others = list.others();
     for (const { name } of names.filter(it => it.isNamed)) {
@@ -186,15 +192,15 @@ async function goOn(scan, list, names, needs) {
 
 /**
  * Reports the number of files that are not raw images, and lists those that are named like one, for example an empty or damaged image.
- * @param {Run} run
+ * @param {Job} job
  * @param {{ name: string, what: string }[]} others
  */
-function sayOthers(run, others) {
+function sayOthers(job, others) {
     if (others.length === 0) return;
-    run.say(others.length === 1 ? '1 file is not a raw image' : `${others.length} files are not raw images`);
+    job.say(others.length === 1 ? '1 file is not a raw image' : `${others.length} files are not raw images`);
     const alike = others.filter(({ name }) => /\.(bin|img)$/i.test(name));
     const lines = alike.map(({ name, what }) => `${name} has the extension of a raw image, but is ${what}`);
-    for (const line of lines.sort()) run.say(line);
+    for (const line of lines.sort()) job.say(line);
 }
 
 /**
@@ -206,7 +212,7 @@ async function scanAll(scan, names, scanners) {
     const left = names.values();
     await Promise.all(scanners.map(async scanner => {
         for (const wanted of left) {
-            if (!scan.isTold(wanted.name) && !scan.isSheetTold(wanted.name)) await scan.tell(wanted, await scanner.scan(wanted.name));
+            if (!scan.isTold(wanted.name) && !scan.isSheetTold(wanted.name)) await scan.print(wanted, await scanner.scan(wanted.name));
         }
     }));
 }

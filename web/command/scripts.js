@@ -15,8 +15,8 @@ import { sayOfRuns } from './printed.js';
 /** @typedef {import('../core/tasks/compare.js').Comparison} Comparison */
 /** @typedef {import('../core/tasks/undo.js').NoUndo} NoUndo */
 /** @typedef {import('../core/script/script_writer.js').Script} Script */
-/** @typedef {import('./run.js').Run} Run */
-/** @typedef {import('./run.js').Target} Target */
+/** @typedef {import('./job.js').Job} Job */
+/** @typedef {import('./job.js').Target} Target */
 
 /** The status if blocks or patches were left out, and were reported. */
 const SOME_LEFT_OUT = 1;
@@ -29,24 +29,24 @@ const DAMAGE_STAYS_OUT = 'the damage is not restored; the address and the user d
 
 /**
  * Writes a finished script, which states its base.
- * @param {Run} run
+ * @param {Job} job
  * @param {Target} target
  * @param {Script} script
  */
-export async function writeFinished(run, target, script) {
+export async function writeFinished(job, target, script) {
     for (const piece of script.pieces) await target.write(piece);
-    sayOfScript(run, script);
+    sayOfScript(job, script);
 }
 
 /**
  * Reports the options that are needed to apply a finished script, and whether it has no patch.
- * @param {Run} run
+ * @param {Job} job
  * @param {Script} script
  */
-function sayOfScript(run, { patches, long, carry }) {
-    if (patches === 0) run.say('the script has no patch');
-    if (carry) run.say('the script patches damaged sectors: it needs --carry');
-    if (long) run.say('the script is too long for cdpatch: use cdscript apply --long');
+function sayOfScript(job, { patches, long, carry }) {
+    if (patches === 0) job.say('the script has no patch');
+    if (carry) job.say('the script patches damaged sectors: it needs --carry');
+    if (long) job.say('the script is too long for cdpatch: use cdscript apply --long');
 }
 
 /**
@@ -79,43 +79,43 @@ function leftText(left, image) {
     return sentenceOf({ code: 'script/left', facts: { runs: [left], image } });
 }
 
-/** @param {Run} run */
-export async function diffJob(run) {
-    const { skipDamaged, partial = false, track, fields = false } = run.options;
-    const [oldName, newName] = run.names;
-    const target = await run.target();
-    const opened = await openTrackOf(run, oldName, true);
+/** @param {Job} job */
+export async function diffJob(job) {
+    const { skipDamaged, partial = false, track, fields = false } = job.options;
+    const [oldName, newName] = job.names;
+    const target = await job.target();
+    const opened = await openTrackOf(job, oldName, true);
     const { image } = opened;
-    const fresh = openTrack(await openDiscOf(run, newName), { track }).image.reader;
+    const fresh = openTrack(await openDiscOf(job, newName), { track }).image.reader;
     if (image.reader.size !== fresh.size) {
         const sizes = `the images have ${image.reader.size} and ${fresh.size} bytes`;
         throw ownFault(fields ? sizes : `${sizes}, and a script cannot change the length`);
     }
-    if (fields) return differingFields(run, target, opened, fresh);
-    const made = await compareTrack(run, opened, fresh, { skipDamaged, partial, ...takingLines(target) });
-    sayOfRuns(run, made.left, left => leftText(left, newName));
-    if (made.tail) run.say('the bytes after the last sector differ, and a script cannot change them');
+    if (fields) return differingFields(job, target, opened, fresh);
+    const made = await compareTrack(job, opened, fresh, { skipDamaged, partial, ...takingLines(target) });
+    sayOfRuns(job, made.left, left => leftText(left, newName));
+    if (made.tail) job.say('the bytes after the last sector differ, and a script cannot change them');
     if (made.script === null) throw ownFault(`no script can produce ${newName}, so none was written${remedyOf(made, newName)}`);
     if (target instanceof NewFile) {
         await target.writeFirst(made.script.pieces[0]);
-        sayOfScript(run, made.script);
-    } else await writeFinished(run, target, made.script);
+        sayOfScript(job, made.script);
+    } else await writeFinished(job, target, made.script);
     const left = blocksIn(made.left);
-    if (left > 0) run.say(`${partial ? '' : 'damaged '}blocks left out: ${left}`);
+    if (left > 0) job.say(`${partial ? '' : 'damaged '}blocks left out: ${left}`);
     return left > 0 || made.tail ? SOME_LEFT_OUT : 0;
 }
 
-/** @param {Run} run */
-export async function rebuildsJob(run) {
-    const target = await run.target();
-    const { image } = await openTrackOf(run, run.names[0], true);
-    const { block, records } = await run.survey(image.reader, image.base);
+/** @param {Job} job */
+export async function rebuildsJob(job) {
+    const target = await job.target();
+    const { image } = await openTrackOf(job, job.names[0], true);
+    const { block, records } = await job.survey(image.reader, image.base);
     const [script, lines] = [new ScriptParts(), new LineList()];
     for (let at = 0; at < records.length; at += RECORD_SIZE) {
         if (isDamaged(records, at)) lines.rebuild(block + at / RECORD_SIZE);
     }
     script.push(lines.lines());
-    await writeFinished(run, target, scriptForBase(script.script(run.calls), image.base));
+    await writeFinished(job, target, scriptForBase(script.script(job.calls), image.base));
     return 0;
 }
 
@@ -147,17 +147,17 @@ function scriptFailed(error) {
     throw ownFault(error.facts.line.replace(/^cdpatch: /, ''));
 }
 
-/** @param {Run} run */
-export async function undoJob(run) {
-    const target = await run.target();
-    const opened = await openTrackOf(run, run.names[0], true);
+/** @param {Job} job */
+export async function undoJob(job) {
+    const target = await job.target();
+    const opened = await openTrackOf(job, job.names[0], true);
     const { image } = opened;
-    const script = run.files.piecesOf(run.names[1]);
-    const engine = { calls: run.calls, crew: run.crew.crew(image.sectors, UNDOING_THREADS) };
-    const made = await undoScript(engine, opened, script, run.options, run.watch).catch(scriptFailed);
+    const script = job.files.piecesOf(job.names[1]);
+    const engine = { calls: job.calls, crew: job.crew.crew(image.sectors, UNDOING_THREADS) };
+    const made = await undoScript(engine, opened, script, job.options, job.watch).catch(scriptFailed);
     if (made.script === null) throw ownFault(whyNoUndo(made, image));
-    if (made.refused > 0) run.say(refusedText(made.refused, image.name));
-    sayOfRuns(run, made.left, left => left.why === 'damaged' ? `${blocksText([left])}: ${DAMAGE_STAYS_OUT}` : leftText(left, image.name));
-    await writeFinished(run, target, made.script);
+    if (made.refused > 0) job.say(refusedText(made.refused, image.name));
+    sayOfRuns(job, made.left, left => left.why === 'damaged' ? `${blocksText([left])}: ${DAMAGE_STAYS_OUT}` : leftText(left, image.name));
+    await writeFinished(job, target, made.script);
     return made.refused > 0 || made.left.length > 0 ? SOME_LEFT_OUT : 0;
 }

@@ -7,52 +7,52 @@ import { sentenceOf } from '../sentences/index.js';
 
 /** @typedef {import('../core/encodings/encoding.js').Encoding} Encoding */
 /** @typedef {import('../core/tasks/opened.js').OpenedTrack} OpenedTrack */
-/** @typedef {import('./run.js').Run} Run */
+/** @typedef {import('./job.js').Job} Job */
 
 /**
  * The encoding of a table. Reports the lines of the table that are ignored.
- * @param {Run} run
+ * @param {Job} job
  * @param {string} text
  */
-export function tableSaid(run, text) {
+export function tableSaid(job, text) {
     const own = tableEncoding(text);
     const note = linesLeftOut(own);
-    if (note !== null) run.sayOnce(sentenceOf(note));
+    if (note !== null) job.sayOnce(sentenceOf(note));
     return own;
 }
 
 /**
  * The encodings in which a text is searched for: the encoding or the table of the options, or else the usual encodings.
- * @param {Run} run
+ * @param {Job} job
  * @returns {Promise<Encoding[]>}
  */
-export async function encodingsOf(run) {
-    const { options: { encoding, table }, files } = run;
-    if (table !== undefined) return [tableSaid(run, tableTextOf(await wholeOf((await files.image(table)).reader)))];
+export async function encodingsOf(job) {
+    const { options: { encoding, table }, files } = job;
+    if (table !== undefined) return [tableSaid(job, tableTextOf(await wholeOf((await files.image(table)).reader)))];
     return encoding === undefined ? SEARCHED : [/** @type {Encoding} */ (encodingOf(encoding))];
 }
 
 /**
  * Searches for a text. Reports the encoding in which it was found, and others in which it occurs too; or the encodings in which it was not
  * found.
- * @param {Run} run
- * @param {OpenedTrack} opened
+ * @param {Job} job
+ * @param {Pick<OpenedTrack, 'contents'> & Partial<OpenedTrack>} opened
  * @param {string} text
  * @param {number} limit the maximum number of hits that are kept
  */
-export async function foundText(run, opened, text, limit) {
-    const { options: { loose, encoding, table } } = run;
-    const found = await findText(run, opened, { text, encodings: await encodingsOf(run), loose, limit });
+export async function foundText(job, opened, text, limit) {
+    const { options: { loose, encoding, table } } = job;
+    const found = await findText(job, opened, { text, encodings: await encodingsOf(job), loose, limit });
     const { image, best, others, searched, faults } = found;
-    faults.forEach(fault => run.say(sentenceOf(fault)));
+    faults.forEach(fault => job.say(sentenceOf(fault)));
     if (best === null) {
-        const which = opened.disc.sheet === null ? '' : `track ${opened.track.number} in `;
-        run.say(`searched ${which}${image.name} in these encodings: ${searched.join(', ')}`);
+        const which = opened.disc && opened.track && opened.disc.sheet !== null ? `track ${opened.track.number} in ` : '';
+        job.say(`searched ${which}${image.name} in these encodings: ${searched.join(', ')}`);
         return found;
     }
-    if (encoding === undefined && table === undefined) run.say(`found in ${best.encoding.name}`);
+    if (encoding === undefined && table === undefined) job.say(`found in ${best.encoding.name}`);
     for (const { begins, encoding: { name } } of others) {
-        run.say(begins ? `also found in ${name}: use --encoding ${name}` : `found in ${name} only in the middle of characters`);
+        job.say(begins ? `also found in ${name}: use --encoding ${name}` : `found in ${name} only in the middle of characters`);
     }
     return found;
 }

@@ -9,16 +9,11 @@ import { turn } from './pausing.js';
 
 /** @typedef {import('../core/bytes.js').Reader} Reader */
 /** @typedef {import('../core/disc/disc.js').Disc} Disc */
-/** @typedef {import('../core/disc/disc.js').DiscFile} DiscFile */
-/** @typedef {import('../core/tasks/inform.js').Found} Found */
-/** @typedef {import('../core/tasks/inform.js').SurveyedTrack} SurveyedTrack */
 /** @typedef {import('../core/disc/dat.js').Hashes} Hashes */
+/** @typedef {import('../core/tasks/file_summary.js').FileFound} FileFound */
+/** @typedef {import('../core/tasks/inform.js').SurveyedTrack} SurveyedTrack */
 /** @typedef {import('./hashes.js').Needs} Needs */
-/** @typedef {import('./run.js').Run} Run */
-/**
- * A file of a disc, its hashes and findings, and the number of bytes after its last whole sector.
- * @typedef {{ file: DiscFile, hashes: Required<Hashes>, surveys: (SurveyedTrack & Found)[], tail: number }} FileFound
- */
+/** @typedef {import('./job.js').Job} Job */
 
 /** The number of bytes that are hashed at a time. Threads are busy for longer than that takes. */
 const HASH_STEP = 1 << 20;
@@ -63,50 +58,50 @@ export function hashesOf(reader, needs) {
 
 /**
  * The tracks of a disc to survey: the one that an option selects, or all.
- * @param {Run} run
+ * @param {Job} job
  * @param {Disc} disc
  * @returns {Promise<SurveyedTrack[]>}
  */
-async function surveyedHere(run, disc) {
-    const { track, base } = run.options;
+async function surveyedHere(job, disc) {
+    const { track, base } = job.options;
     const { length } = disc.tracks.filter(({ image }) => image !== null);
     if (length > 0 && (length < 2 || track !== undefined || base !== undefined)) {
-        return [surveyedTrack(await openTrackOf(run, run.names[0], true))];
+        return [surveyedTrack(await openTrackOf(job, job.names[0], true))];
     }
     const surveyed = surveyedTracks(disc);
-    surveyed.forEach(({ image }) => sayUnknownBase(run, image));
+    surveyed.forEach(({ image }) => sayUnknownBase(job, image));
     return surveyed;
 }
 
 /**
  * Whether a file is hashed here while threads survey its sectors.
- * @param {Run} run
+ * @param {Job} job
  * @param {Reader} reader
  */
-function isHashedBeside(run, reader) {
-    return Boolean(reader.lent) && run.crew.hasThreads(sectorCount(reader.size));
+function isHashedBeside(job, reader) {
+    return Boolean(reader.lent) && job.crew.hasThreads(sectorCount(reader.size));
 }
 
 /**
  * Surveys and hashes each file of a disc.
- * @param {Run} run
+ * @param {Job} job
  * @param {Disc} disc
  * @param {Needs} [needs]
  * @returns {Promise<FileFound[]>}
  */
-export async function foundInFiles(run, disc, needs = SHA1_ONLY) {
-    const surveyed = await surveyedHere(run, disc);
+export async function foundInFiles(job, disc, needs = SHA1_ONLY) {
+    const surveyed = await surveyedHere(job, disc);
     const found = [];
     for (const [i, file] of disc.files.entries()) {
         const own = surveyed.filter(it => it.file === i);
         const hashed = hashing(file.reader, needs);
-        const isBeside = own.length > 0 && isHashedBeside(run, file.reader);
+        const isBeside = own.length > 0 && isHashedBeside(job, file.reader);
         const beside = isBeside ? hashed.digest() : null;
         if (beside !== null) beside.catch(() => {}); // it is thrown when its turn comes
         const surveys = [];
         for (const it of own) {
             const reader = it.isWhole && !isBeside ? hashed : it.image.reader;
-            const survey = await run.survey(reader, it.image.base, 'survey', it.shift);
+            const survey = await job.survey(reader, it.image.base, 'survey', { shift: it.shift, mode2: true });
             surveys.push({ ...it, ...await foundInSurvey(it, survey) });
         }
         found.push({ file, hashes: await (beside || hashed.digest()), surveys, tail: tailOf(disc, i) });

@@ -3,12 +3,12 @@
 import { readSync } from 'node:fs';
 import { cpus } from 'node:os';
 import { Worker, parentPort } from 'node:worker_threads';
-import { Crew, UNREAD, localHand, serving, transfersOf } from '../core/crew/index.js';
+import { Crew, UNREAD, localWorker, serving, transfersOf } from '../core/crew/index.js';
 import { JOBS } from '../core/jobs/index.js';
 import { Calls, sectorCount } from '../core/module/index.js';
 import { isTested } from './again.js';
 
-/** @typedef {import('../core/crew/crew.js').Hand} Hand */
+/** @typedef {import('../core/crew/crew.js').CrewWorker} CrewWorker */
 /** @typedef {import('../core/crew/jobs.js').JobName} JobName */
 /** @typedef {Uint8Array | { descriptor: number, at: number, length: number }} Piece bytes, or a range of a file that the thread reads */
 /** @typedef {import('../core/crew/jobs.js').Message<JobName, Piece>} Message */
@@ -20,6 +20,8 @@ const SECTORS_FOR_THREADS = 8000;
 /** @type {JobName[]} */
 const QUICK = ['kinds'];
 const MOST_THREADS = 8;
+/** Sectors per range if the current thread does all work. So the bytes stay in its cache while they are read, tested, and hashed. */
+const STEP_ALONE = 256;
 
 /** @type {Uint8Array[]} the buffers of a thread. Nothing of a range is kept for the next one. */
 const rooms = [];
@@ -72,13 +74,13 @@ export function begunThread(data) {
  * @param {WebAssembly.Module} module
  * @param {Calls} calls
  */
-function threadHand(module, calls) {
+function threadWorker(module, calls) {
     const serve = serving(calls, JOBS);
     const thread = begunThread({ module, scans: false });
-    /** @type {Hand & { close(): void }} */
-    const hand = {
+    /** @type {CrewWorker & { close(): void }} */
+    const crewWorker = {
         post(/** @type {Message} */ message, transfer) {
-            const here = () => hand.onreply(replyTo(serve, message));
+            const here = () => crewWorker.onreply(replyTo(serve, message));
             if (thread === null) setImmediate(here);
             else void thread.begun.then(isBegun => isBegun ? thread.worker.postMessage(message, transfer) : here());
         },
@@ -86,10 +88,10 @@ function threadHand(module, calls) {
         onfault() {},
         close: () => void (thread && thread.worker.terminate()),
     };
-    if (thread === null) return hand;
-    thread.worker.on('message', reply => hand.onreply(reply));
-    thread.worker.on('error', error => void thread.begun.then(isBegun => isBegun && hand.onfault(error)));
-    return hand;
+    if (thread === null) return crewWorker;
+    thread.worker.on('message', reply => crewWorker.onreply(reply));
+    thread.worker.on('error', error => void thread.begun.then(isBegun => isBegun && crewWorker.onfault(error)));
+    return crewWorker;
 }
 
 /**
@@ -119,7 +121,7 @@ export class Threads {
         this.progress = progress;
         /** Whether the current thread does all work. */
         this.isAlone = false;
-        /** @type {ReturnType<typeof threadHand>[]} */
+        /** @type {ReturnType<typeof threadWorker>[]} */
         this.threads = [];
     }
 
@@ -134,7 +136,8 @@ export class Threads {
      */
     share(job, readers, args, how, take) {
         const crew = this.crew(QUICK.includes(job) ? 0 : sectorCount(readers[0].size));
-        return crew.share(job, readers, args, { progress: this.progress, ...how }, take);
+        const step = this.isAlone ? { step: STEP_ALONE } : {};
+        return crew.share(job, readers, args, { progress: this.progress, ...step, ...how }, take);
     }
 
     /** @param {number} sectors how many there are to do */
@@ -147,9 +150,9 @@ export class Threads {
      * @param {number} [most] how many threads at most
      */
     crew(sectors, most = MOST_THREADS) {
-        if (!this.hasThreads(sectors)) return new Crew([localHand(this.calls, JOBS)]);
+        if (!this.hasThreads(sectors)) return new Crew([localWorker(this.calls, JOBS)]);
         const count = Math.min(cpus().length || 1, most); // cpus() is empty where the system does not report them
-        while (this.threads.length < count) this.threads.push(threadHand(this.module, this.calls));
+        while (this.threads.length < count) this.threads.push(threadWorker(this.module, this.calls));
         return new Crew(this.threads, true);
     }
 

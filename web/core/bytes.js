@@ -29,18 +29,18 @@ export function forwardOf(reader) {
 /**
  * Wraps a reader so that a callback is called before each read, with the place where the read begins.
  * @param {Reader} reader
- * @param {(at: number) => void} told the callback; an exception that it throws ends the read
+ * @param {(at: number) => void} onRead the callback; an exception that it throws ends the read
  * @returns {Reader}
  */
-export function watchedReader(reader, told) {
+export function watchedReader(reader, onRead) {
     const { forward } = reader;
     return {
         ...reader,
         async read(at, length, room) {
-            told(at);
+            onRead(at);
             return reader.read(at, length, room);
         },
-        forward: forward && (() => watchedReader(forward(), told)),
+        forward: forward && (() => watchedReader(forward(), onRead)),
     };
 }
 

@@ -144,26 +144,53 @@ export interface Facts {
     'replace/long-file': { path: string; size: number; room: number | null; wanted: number };
 
     // Lists of texts.
+    /** Why one of several lists cannot be read. */
+    'list/invalid': { list: string; why: Remark };
     'list/too-large': { name: string; size: number; most: number };
     'list/too-many-cells': { row: number; most: number };
     'list/too-many-rows': { most: number };
+    'list/too-many-characters': { most: number };
     'list/no-column': { row: number; columns: string[] };
     'list/column-twice': { row: number; column: string };
     'list/no-new-text': {};
     'list/no-place': {};
+    'list/place-in-file': {};
+    'list/place-in-image': {};
+    'list/after-file': { size: number };
     /** The first separate row into which a quoted cell of an earlier row extends. */
     'list/cell-runs-on': { row: number };
-    'list/overlaps': { row: number };
+    'list/overlaps': { row: RowName };
     'list/long-text': { most: number };
     'list/no-space': { name: string };
     'list/other-text': {};
     'list/new-text-there': {};
     'list/formula': { cell: string };
+    'list/no-fill': { cell: string };
     'list/no-code': { code: string };
-    'list/row-left': { text: { number: number }; why: Remark };
-    /** How often new texts leave out a code, in how many rows, and the numbers of the first of these rows. */
-    'list/code-left': { code: string; count: number; rows: number; first: number[] };
+    'list/row-left': { text: RowName; why: Remark };
+    /** How often new texts leave out a code, in how many rows, and the first of these rows. */
+    'list/code-left': { code: string; count: number; rows: number; first: RowName[] };
+    /** The number of fuzzy entries of PO files. */
+    'list/fuzzy': { count: number };
+    /** The first characters that only new texts have, each with its first row, and the number of all. */
+    'list/new-characters': { glyphs: { character: string; row: RowName }[]; count: number };
+
+    // PO files. `line` is the number of a line of the file.
+    'po/line': { line: number };
+    'po/escape': { line: number };
+    'po/long-line': { line: number; most: number };
+    'po/entry': { line: number };
+    'po/many-places': { line: number; most: number };
+    'po/charset': { name: string };
+    'po/plural': {};
+    'po/no-place': {};
 }
+
+/**
+ * What messages call a row of a table, or a line of a PO file: its list, if there are several, else ''; its number; and in a PO file its
+ * place, such as 28+26.
+ */
+export type RowName = { list: string; unit: 'row' | 'line'; number: number; place: string };
 
 export type FileKind = 'raw' | 'audio' | 'subchannels' | 'iso' | 'chd' | 'ecm' | 'archive' | 'wave' | 'cue' | 'empty' | 'unknown' | 'scrambled'
     | 'nrg' | 'mds' | 'ccd' | 'toc' | 'sub';

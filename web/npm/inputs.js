@@ -73,12 +73,12 @@ export function assertWanted(signal) {
  * Wraps a source so that its reads throw as soon as a signal ends the job.
  * @param {Source} source
  * @param {Watch['signal']} signal
- * @param {(at: number) => void} [told] receives the place where each read begins
+ * @param {(at: number) => void} [onRead] receives the place where each read begins
  * @returns {Source}
  */
-export function watchedSource(source, signal, told) {
+export function watchedSource(source, signal, onRead) {
     return watchedReader(source, at => {
         assertWanted(signal);
-        if (told) told(at);
+        if (onRead) onRead(at);
     });
 }

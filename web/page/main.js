@@ -3,6 +3,7 @@
 import { Calls } from '../core/module/index.js';
 import { App, crewOf, packedParts } from './app/index.js';
 import { mountDisc } from './disc/index.js';
+import { mountList } from './list/index.js';
 import { mountOpening } from './open/index.js';
 import { mountPatchers } from './player/index.js';
 import { mountPublish } from './publish/index.js';
@@ -29,6 +30,7 @@ export async function startPage(awaited) {
     mountOpening(app);
     mountDiscLine(app);
     mountDisc(app, byId('panel-disc'));
+    mountList(app);
     mountText(app, byId('panel-text'));
     mountScript(app, byId('panel-script'));
     mountPublish(app, byId('panel-publish'));

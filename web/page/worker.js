@@ -1,16 +1,18 @@
-// Program of the page's workers: ranges of jobs, and one running SHA-1. The joined page and its workers share one script.
+// Program of the page's workers: ranges of jobs, and one running hash. The joined page and its workers share one script.
 
 import { UNREAD, serving, transfersOf } from '../core/crew/index.js';
 import { JOBS } from '../core/jobs/index.js';
 import { Calls } from '../core/module/index.js';
+import { Md5 } from './app/md5.js';
 import { Sha1 } from './app/sha1.js';
 
 /** @typedef {import('../core/crew/jobs.js').JobName} JobName */
 /** @typedef {Uint8Array | { file: File, from: number, size: number }} Piece bytes, or a slice of a file that the worker reads itself */
 /** @typedef {import('../core/crew/jobs.js').Message<JobName, Piece>} Message */
 /**
- * A message to a worker: the module, which comes first; a range of a job; or the next bytes of the running SHA-1, null at its end.
- * @typedef {{ module: WebAssembly.Module } | Message | { sum: Uint8Array | null }} Order
+ * A message to a worker: the module, which comes first; a range of a job; or the next bytes of the running SHA-1, null at its end, and
+ * whether their MD5 is needed too.
+ * @typedef {{ module: WebAssembly.Module } | Message | { sum: Uint8Array | null, needsMd5: boolean }} Order
  */
 
 /**
@@ -24,13 +26,14 @@ async function readPiece(piece) {
     return bytes;
 }
 
-/** The jobs and the SHA-1 of a worker that has the module. */
+/** The jobs and the hashes of a worker that has the module. */
 class Bench {
     /** @param {WebAssembly.Module} module */
     constructor(module) {
         const calls = new Calls(module);
         this.serve = serving(calls, JOBS);
         this.sha1 = new Sha1(calls);
+        this.md5 = new Md5();
     }
 
     /** @param {Message} message */
@@ -41,10 +44,14 @@ class Bench {
         return self.postMessage(reply, { transfer: transfersOf(reply) });
     }
 
-    /** @param {Uint8Array | null} bytes */
-    add(bytes) {
-        if (bytes === null) return self.postMessage({ digest: this.sha1.digest() });
+    /**
+     * @param {Uint8Array | null} bytes
+     * @param {boolean} needsMd5
+     */
+    add(bytes, needsMd5) {
+        if (bytes === null) return self.postMessage({ digest: this.sha1.digest(), md5: this.md5.digest() });
         this.sha1.add(bytes);
+        if (needsMd5) this.md5.add(bytes);
         return self.postMessage({});
     }
 }
@@ -55,7 +62,7 @@ const bench = { at: /** @type {Bench | null} */ (null) };
 function heard({ data }) {
     if ('module' in data) bench.at = new Bench(data.module);
     else if (bench.at === null) throw new Error('a worker was told to work before it had the module');
-    else if ('sum' in data) bench.at.add(data.sum);
+    else if ('sum' in data) bench.at.add(data.sum, data.needsMd5);
     else bench.at.work(data);
 }
 

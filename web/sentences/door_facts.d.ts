@@ -20,4 +20,4 @@ declare module '../core/facts.js' {
 export type CoreCode = { [Name in Code]: Facts[Name] extends { sentence: string } ? never : Name }[Code];
 
 /** The sentences of a language by code. `tsc` refuses a language that lacks one. `said` formats a remark among the facts. */
-export type Sentences = { readonly [Name in CoreCode]: (facts: Facts[Name], said: (remark: Remark) => string) => string };
+export type Sentences = { readonly [Name in CoreCode]: (facts: Facts[Name], sentence: (remark: Remark) => string) => string };

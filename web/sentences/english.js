@@ -63,11 +63,28 @@ function linesLeftOut({ lines }) {
         : `lines ${named} of the table have no meaning here, and are ignored`;
 }
 
+/** @param {import('../core/facts.js').RowName} row */
+function rowName({ list, unit, number, place }) {
+    return `${list === '' ? '' : `${list}: `}${unit} ${number}${place === '' ? '' : ` (${place})`}`;
+}
+
 /** @param {Facts['list/code-left']} left */
 function leftCode({ code, count, rows, first }) {
     const often = count === 1 ? 'once' : `${count} times`;
-    const named = [...first, ...rows > first.length ? [`and ${rows - first.length} more`] : []];
-    return `new texts leave out {${code}} ${often}: ${rows === 1 ? 'row' : 'rows'} ${named.join(', ')}`;
+    const isPlain = first.every(({ list, place }) => list === '' && place === '');
+    const more = rows > first.length ? [`and ${rows - first.length} more`] : [];
+    const named = [...first.map(it => isPlain ? it.number : rowName(it)), ...more];
+    return `translations leave out {${code}} ${often}: ${isPlain ? `${rows === 1 ? 'row' : 'rows'} ` : ''}${named.join(', ')}`;
+}
+
+/** @param {Facts['list/new-characters']} facts */
+function newCharacters({ glyphs, count }) {
+    /** @type {Map<string, string>} the characters that occur first in each row */
+    const byRow = new Map();
+    for (const { character, row } of glyphs) byRow.set(rowName(row), (byRow.get(rowName(row)) || '') + character);
+    const named = Array.from(byRow, ([row, characters]) => `${characters} in ${row}`);
+    const more = count > glyphs.length ? [`and ${count - glyphs.length} more`] : [];
+    return `no old text has these characters, so the font of the game may lack them: ${[...named, ...more].join(', ')}`;
 }
 
 /** @param {Facts['replace/filler']} facts */
@@ -135,10 +152,10 @@ export const ENGLISH = {
     'volume/no-root': () => 'the volume descriptor has no root directory',
     'volume/root-elsewhere': ({ blocks }) => `the root directory is not in block ${blocks.join(' or ')}`,
     'volume/two-roots': ({ blocks }) => `blocks ${blocks.join(' or ')} could both be the root directory`,
-    path: ({ path, why }, said) => `${path}: ${said(why)}`,
+    path: ({ path, why }, sentence) => `${path}: ${sentence(why)}`,
     'tree/no-joliet-root': () => "Joliet's volume descriptor has no root directory",
     'tree/no-record': ({ at }) => `there is no valid record of a file at byte ${at} of the directory`,
-    'tree/unread': ({ path, why }, said) => `the directory ${path} is not read: ${said(why)}`,
+    'tree/unread': ({ path, why }, sentence) => `the directory ${path} is not read: ${sentence(why)}`,
     'tree/not-in-image': ({ path }) => `the directory ${path} is not in the image`,
     'tree/same': ({ block }) => `two directories claim block ${block}`,
     'tree/shared': ({ first, last }) => `the directory in blocks ${first} to ${last} shares sectors with another directory`,
@@ -149,7 +166,7 @@ export const ENGLISH = {
     'tree/many-entries': ({ most }) => `the volume has more than ${most} files and directories`,
     'tree/long-paths': ({ most }) => `its paths have more than ${most} characters`,
     'tree/many-areas': ({ most }) => `its records are continued in more than ${most} places`,
-    'tree/ends': ({ why }, said) => `from here on nothing is listed: ${said(why)}`,
+    'tree/ends': ({ why }, sentence) => `from here on nothing is listed: ${sentence(why)}`,
     'tree/more': ({ count }) => `and so on: ${count} places in all`,
     'extent/several': () => 'it has several extents',
     'extent/cut': () => 'the image does not contain all of it',
@@ -196,7 +213,7 @@ export const ENGLISH = {
     'replace/damaged': ({ block }) => `block ${block} is damaged: repair it first`,
     'replace/not-mode1': ({ block }) => `block ${block} is not Mode 1`,
     'replace/overlaps': () => 'it overlaps the place before it',
-    'replace/hit-left': ({ text: { block, offset }, why }, said) => `block ${block} offset ${offset}: ${said(why)}`,
+    'replace/hit-left': ({ text: { block, offset }, why }, sentence) => `block ${block} offset ${offset}: ${sentence(why)}`,
 
     'replace/own-block': ({ path, block, kind }) => `block ${block} of ${path} contains a ${kind} of the volume, which cannot be replaced`,
     'replace/udf': ({ path }) => `the UDF file system of the disc would keep the old length of ${path}: use --fill to keep the length`,
@@ -205,22 +222,40 @@ export const ENGLISH = {
     'replace/long-file': ({ path, size, room, wanted }) =>
         `${path} has ${size} bytes${room === null ? '' : ` and room for ${room}`}, but the new file has ${wanted}`,
 
+    'list/invalid': ({ list, why }, sentence) => `${list}: ${sentence(why)}`,
     'list/too-large': ({ name, size, most }) => `${name} has ${size} bytes, but a list may have at most ${most}`,
     'list/too-many-cells': ({ row, most }) => `row ${row} of the table has more than ${most} cells`,
-    'list/too-many-rows': ({ most }) => `more than ${most} rows of the list have a new text`,
+    'list/too-many-rows': ({ most }) => `more than ${most} rows of the list have a translation`,
+    'list/too-many-characters': ({ most }) => `the texts of all rows of the lists have more than ${most} characters`,
     'list/no-column': ({ row, columns }) =>
         `the header in row ${row} of the list lacks the ${columns.length === 1 ? 'column' : 'columns'} ${columns.join(', ')}`,
     'list/column-twice': ({ row, column }) => `the header in row ${row} of the list has two columns ${column}`,
-    'list/no-new-text': () => 'no row of the list has a new text',
+    'list/no-new-text': () => 'no row of the list has a translation',
     'list/no-place': () => 'block or offset is not a number',
+    'list/place-in-file': () => 'its block is -, so its place is in a file that is not an image',
+    'list/place-in-image': () => 'it has a block number, so its place is in an image, not in the file',
+    'list/after-file': ({ size }) => `the file has only ${size} bytes`,
     'list/cell-runs-on': ({ row }) => `a cell in quotes runs on to row ${row}, which has a place of its own`,
-    'list/overlaps': ({ row }) => `it overlaps the text of row ${row}`,
+    'list/overlaps': ({ row }) => `it overlaps the text of ${rowName(row)}`,
     'list/long-text': ({ most }) => `a text has more than ${most} characters`,
     'list/no-space': ({ name }) => `${name} has no space character to pad with`,
     'list/other-text': () => 'the old text is not there',
     'list/new-text-there': () => 'the new text is already there',
     'list/formula': ({ cell }) => `a spreadsheet wrote ${cell} in place of a formula: write the text, with {3D} for =`,
+    'list/no-fill': ({ cell }) => `the filler ${cell} is not a code such as {00}`,
     'list/no-code': ({ code }) => `${code} is not a code: a code has two digits 0 to F for each byte; a brace is {7B}`,
-    'list/row-left': ({ text: { number }, why }, said) => `row ${number}: ${said(why)}`,
+    'list/row-left': ({ text, why }, sentence) => `${rowName(text)}: ${sentence(why)}`,
     'list/code-left': leftCode,
+    'list/fuzzy': ({ count }) => count === 1 ? '1 fuzzy entry is not applied' : `${count} fuzzy entries are not applied`,
+    'list/new-characters': newCharacters,
+
+    'po/line': ({ line }) =>
+        `line ${line} of the list is not a line of a PO file: expected a comment, a keyword such as msgid, or a text in quotes`,
+    'po/escape': ({ line }) => `line ${line} of the list has an escape that PO files do not have; write \\\\ for a backslash`,
+    'po/long-line': ({ line, most }) => `line ${line} of the list has more than ${most} characters`,
+    'po/entry': ({ line }) => `the entry in line ${line} of the list is not complete: it needs one msgid and one msgstr`,
+    'po/many-places': ({ line, most }) => `the entry in line ${line} of the list has more than ${most} references`,
+    'po/charset': ({ name }) => `the list is in ${name}, but must be in UTF-8; msgconv -t UTF-8 converts it`,
+    'po/plural': () => 'an entry with plural forms cannot be applied: it needs one msgstr',
+    'po/no-place': () => 'the entry has no reference to a place, such as 28+26',
 };

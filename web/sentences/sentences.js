@@ -24,6 +24,6 @@ export function ownFault(sentence, facts = {}) {
  */
 export function sentenceOf({ code, facts }, sentences = ENGLISH) {
     if ('sentence' in facts) return facts.sentence;
-    const said = (/** @type {Remark} */ other) => sentenceOf(other, sentences);
-    return /** @type {Record<string, (facts: any, said: (remark: Remark) => string) => string>} */ (sentences)[code](facts, said);
+    const sentence = (/** @type {Remark} */ other) => sentenceOf(other, sentences);
+    return /** @type {Record<string, (facts: any, said: (remark: Remark) => string) => string>} */ (sentences)[code](facts, sentence);
 }

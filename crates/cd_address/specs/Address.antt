@@ -1,5 +1,5 @@
--- The address of a block as a header has it: minute, second and fraction in BCD (ECMA-130, 14),
--- with block 0 at two seconds.
+-- The address of a block in its header: minute, second, and fraction in BCD, with block 0 at two
+-- seconds (ECMA-130, 14).
 use Rattle.std.specs.Prelude.{ℕ, ◌+◌, ◌*◌, ◌/◌, ◌%◌, nat_le, if◌then◌else◌, List, [], ◌∷◌, Option, Some, None}
 
 -- two decimal digits in one byte

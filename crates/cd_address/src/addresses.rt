@@ -1,4 +1,4 @@
-//! The address of a block, as a header has it.
+//! Converts the number of a block to the address in its header (ECMA-130, 14).
 
 ghost use Rattle.std.specs.Prelude.{◌≡◌, ◌+◌, ◌*◌, ◌/◌, ◌%◌, ◌<◌, ◌≤◌, ◌↔◌, IsSome};
 ghost use Rattle.cd_address.specs.Address.{address, bcd};
@@ -41,7 +41,7 @@ pub fn address_of(block: u32) -> Option<[u8; 3]>
     ])
 }
 
-/// The two decimal digits of a number in one byte, the high one in its high half.
+/// Converts a number below 100 to BCD: the tens in the high four bits, the units in the low four.
 fn bcd_of(n: u32) -> u8
     requires { n < 100 }
     ensures { result ≡ bcd n }

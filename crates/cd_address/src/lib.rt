@@ -5,7 +5,7 @@
 //! assert_eq!(rt; address_of(MAX_BLOCK + 1), None);
 //! ```
 //!
-//! Blocks count from 0, up to [`MAX_BLOCK`]. No call takes memory.
+//! Blocks are numbered from 0 to [`MAX_BLOCK`]. No call allocates memory.
 //!
 //! Tests: `crates/cd_low_tests/src/tests/sectors.rt`.
 #![tactic(auto)]

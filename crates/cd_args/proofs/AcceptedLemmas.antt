@@ -31,7 +31,8 @@ use Rattle.cd_args.proofs.general.Rows.{AllStart, Each, Each-append, Each-find, 
 
 -- ---- the row of an argument with a default
 
--- a row is there after a use of the argument `id` if it was there, or is that argument's
+-- after a use of the argument `id`, a row exists if it existed before, or is the row of this
+-- argument
 has_row-with : (wanted id : Text) (s : ValueSource) (values : List Text) (missing rows : List Row)
     → has_row id missing ≡ true → (has_row wanted rows ≡ true) ⊎ (id ≡ wanted)
     → has_row wanted (at_row id (more_values s values) missing rows) ≡ true
@@ -55,7 +56,7 @@ has_row-with wanted id s values missing (r ∷ rs) there h =
     go false false e f (inl was) rest = rw f (rest (inl (rw f at was)))
     go false false e f (inr is) rest = rw f (rest (inr is))
 
--- whether there is one
+-- whether there is a value
 abbrev has_values : List Text → Bool
 has_values [] = false
 has_values (v ∷ vs) = true
@@ -102,7 +103,7 @@ based (a ∷ others) rows h =
     same : (id : Text) → bytes_eq id id ≡ true
     same id = (bytes_eq-Decides id id).1 refl
 
--- a row that is there is found
+-- a row that exists is found
 pub record Found (id : Text) (rows : List Row) : Type 0 where
   pub row : Row
   pub is : find (λ r. bytes_eq r.id id) rows ≡ Some row
@@ -119,7 +120,7 @@ has_row-found id (r ∷ rs) there = go (bytes_eq r.id id) refl (has_row-found id
         let f = rest (rw e at there) in
         record { row = f.row; is = rw e f.is; same = f.same }
 
--- ---- what the values of an argument are
+-- ---- the values of an argument
 
 -- a text of `--base` is a number in the range, and is read without a minus
 abbrev IsBaseText : Text → Reading → Text → Type 0
@@ -150,7 +151,7 @@ base_read rows starts there =
 
 -- ---- the commands
 
--- a command as `build` makes it
+-- a command after `build`
 abbrev leaf : Shape → Shape
 leaf s = built_leaf (inherited (with_leaf_noted (marked_built program_shape)) s)
 
@@ -178,7 +179,7 @@ flag_built id = filled (flag_rule id)
 abbrev help_built : Rule
 help_built = filled help_rule
 
--- a use that gives a value to another argument than `--base`
+-- a use that gives a value to an argument other than `--base`
 other_use : (a : Rule) (values : List Text) (v : Text) → (a.id ≡ codes "base" → ⊥)
     → replaces (action_of a) ≡ true → slice_get (values_or_missing a values) 0 ≡ Some v
     → Uses IsBaseText a values
@@ -189,7 +190,7 @@ other_use a values v other replacing is = record {
   holds = λ e. absurd (other e);
 }
 
--- texts that the test tells apart
+-- texts that the test distinguishes
 differ : {s t : Text} → s ≡ t → bytes_eq s t ≡ false → ⊥
 differ {s} {t} e test = let bad : true ≡ false = sym ((bytes_eq-Decides s t).1 e) ∙ test in cc
 
@@ -201,7 +202,7 @@ text_use index id other again [] rows e = cc
 text_use index id other again (v ∷ vs) rows e =
     other_use (text_built index id) (v ∷ vs) v (λ is. differ is other) refl refl
 
--- the text of a flag that is another than `--base`
+-- the text of a flag other than `--base`
 flag_use : (id : Text) → bytes_eq id (codes "base") ≡ false → (again : Bool) (values : List Text)
     (rows : List Row) → use_fault again (flag_built id) values rows ≡ []
     → Uses IsBaseText (flag_built id) values
@@ -255,7 +256,7 @@ flag_used id other = record {
 help_used : IsUsedBy IsBaseText help_built
 help_used = record { use_of = help_use; default_of = λ v vs e. cc }
 
--- an argument whose uses pass, wherever it stands
+-- an argument whose uses pass, whatever its index is
 abbrev IsUsedAt : Rule → Type 0
 IsUsedAt a = (index : ℕ) → IsUsedBy IsBaseText (with_index index (filled a))
 
@@ -266,7 +267,7 @@ filled_used index [] used = tt
 filled_used index (a ∷ rules) used =
     (used.0 index, filled_used (index_after index a) rules used.1)
 
--- flags of which none is `--base`
+-- flags other than `--base`
 flags_used : (ids : List Text) → list_all (λ id. not (bytes_eq id (codes "base"))) ids ≡ true
     → Each IsUsedAt (map flag_rule ids)
 flags_used [] others = tt
@@ -307,7 +308,6 @@ apply_rules =
       ),
     )
 
--- one that is required, and the others
 required_given : (b rest : Bool) → (not b || rest) ≡ false → (b ≡ true) × (rest ≡ false)
 required_given true rest e = (refl, e)
 required_given false rest e = cc
@@ -323,9 +323,8 @@ subcommand_met : (b : Bool) → (not b && true) ≡ false → b ≡ true
 subcommand_met true e = refl
 subcommand_met false e = cc
 
--- the last checks of a level pass only if a subcommand that is required was met, and each
--- argument
--- that is required was given
+-- the last checks of a level pass only if a required subcommand was met, and each required argument
+-- was given
 check_parts : (s : Shape) (rows : List Row) (met : Bool) → check_fault s rows met ≡ []
     → ((not met && s.subcommand_required) ≡ false)
     × ((not (s.subcommand_negates_reqs && met) && list_any
@@ -337,7 +336,7 @@ check_parts s rows met e =
     (not (s.subcommand_negates_reqs && met) && list_any
     (λ (a : Rule). a.required && not (is_given a.id rows)) s.rules) e
 
--- what the rows of a command have if its words give no kind
+-- the rows of a command whose words give no kind of error
 module _ (s : Shape) (by : Each (IsUsedBy IsBaseText) s.rules) (words : List Text)
     (e : level_fault s [] nothing_held words false [] ≡ []) where
   abbrev held_rows : List Row
@@ -360,7 +359,7 @@ module _ (s : Shape) (by : Each (IsUsedBy IsBaseText) s.rules) (words : List Tex
 
 -- ---- the program
 
--- if a command's words give no kind, its matches are complete
+-- if a command's words give no kind of error, its matches are complete
 abbrev IsSound : Shape → Type 0
 IsSound s =
     (words : List Text) → level_fault s [] nothing_held words false [] ≡ []
@@ -416,7 +415,7 @@ apply_sound words e =
       base = level_base s apply_rules words e refl;
     }
 
--- the command that the arguments name, with what its matches have
+-- the command that the arguments name, with the contents of its matches
 pub record Named (words : List Text) : Type 0 where
   pub matches : Text × List Row
   pub is : subcommand_of command_line words ≡ Some matches

@@ -1,4 +1,4 @@
--- What a command has for each of its arguments, and the program for each of its commands.
+-- The shape of a command with each of its arguments, and of the program with each of its commands.
 use Rattle.std.proofs.Common.{◌≡◌, ◌∙◌, ap, ap₂, append_assoc, false, List, [], ◌∷◌, ◌++◌, Ok, Err}
 use Rattle.std.specs.Prelude.{IfOk, IsOkAnd, Result}
 use Rattle.clap.specs.Words.{App, Rule, Shape, app_of, shape_of, with_subcommand}
@@ -7,12 +7,12 @@ use Rattle.clap.specs.declared.builder.command.Command.TheViews.{out-Command}
 use Rattle.cd_args.specs.Arguments.{with_rule, with_rules}
 
 module _ {E : Type 0} where
-  -- a command that was made has this shape and no global argument
+  -- if there is a command, it has this shape and no global argument
   abbrev pub IsMade : Result Command E → Shape → Type 0
   IsMade made s =
       IfOk made (λ c. shape_of c ≡ s) × IfOk made (λ c. (out-Command c).has_globals ≡ false)
 
-  -- a command that was made of another has more arguments, after that one's
+  -- if there is a command, it has further arguments after those of the command before
   abbrev pub Extends : Result Command E → Result Command E → List Rule → Type 0
   Extends was made more =
       IfOk made (λ c. IsOkAnd was (λ w. shape_of c ≡ with_rules (shape_of w) more))

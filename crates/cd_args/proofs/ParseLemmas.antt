@@ -1,4 +1,4 @@
--- What the parser's clauses say of the job and of the refusal.
+-- Consequences of the parser's clauses for jobs and refusals.
 use Rattle.std.proofs.Common.{◌≡◌, ◌∙◌, ◌==◌, ℕ, ap, ap₂, length, map, Bool, true, false, cond, List, [], ◌∷◌, Option, Some, None, inl, inr, refl, subst, sym}
 use Rattle.std.specs.Prelude.{Box, is_some, option_map}
 use Rattle.std.specs.Box.{box_value}
@@ -18,7 +18,7 @@ use Rattle.cd_args.specs.declared.fault.LineFault.TheVariants.{Parser, NoMemory}
 use Rattle.cd_args.specs.declared.job.Job.{Job}
 use Rattle.cd_args.proofs.AcceptedLemmas.{no_fault-named}
 
--- ---- the command line is one of which the definition gives the matches
+-- ---- the definition gives the matches for this command line
 
 pub command_line_simple : is_simple command_line ≡ true
 unfolding command_line clap_on_literals
@@ -44,7 +44,7 @@ some-error_kinds (w ∷ ws) some = refl
 
 -- ---- refusals
 
--- what the parser's clauses say of the words of the arguments
+-- consequences of the parser's clauses for the words of the arguments
 module _ (app : App) (is : app ≡ command_line) (ws words : List Text) (given : ws ≡ words) where
   pub taken-no_memory : (e : Error) (fault : LineFault) → (words ≡ [] → ⊥)
       → (takes app ws ≡ true → kind_of e ≡ OutOfMemory)
@@ -53,7 +53,7 @@ module _ (app : App) (is : app ≡ command_line) (ws words : List Text) (given :
       let memory = passes (ap₂ takes is given ∙ accepted-takes words some taken) in
       made ∙ rw memory refl
 
-  -- no kind of fault is found in them
+  -- no kind of error is found in them
   pub unfaulted : (is_simple_and_free app ≡ true → fault_of app ws ≡ [])
       → fault_of command_line words ≡ []
   unfaulted kinds =

@@ -1,2 +1,2 @@
--- Lemmas on arguments that name nothing of this crate.
+-- Lemmas on arguments that do not mention anything of this crate.
 pub mod Rows

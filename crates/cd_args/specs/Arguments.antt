@@ -8,11 +8,11 @@ use Rattle.clap.specs.declared.builder.action.ArgAction.TheVariants.{SetTrue}
 abbrev pub text_rule : Text → Rule
 text_rule id = record (new_rule id) { value_names = 1; required = true }
 
--- a command's rows have this text
+-- the rows of a command have this text for an argument
 abbrev pub HasText : Text → List Row → Text → Type 0
 HasText id rows text = first_of id rows ≡ Some text
 
--- a flag, two dashes and its name
+-- a flag: an option `--id` without a value
 abbrev pub flag_rule : Text → Rule
 flag_rule id = record (new_rule id) { long = Some id; action = Some SetTrue }
 
@@ -25,7 +25,7 @@ is_set (Some text) = bytes_eq text (codes "true")
 abbrev pub flag_of : Text → List Row → Bool
 flag_of id rows = is_set (first_of id rows)
 
--- a command with more arguments, after those that it has
+-- a command with further arguments after its own
 abbrev pub with_rules : Shape → List Rule → Shape
 with_rules s more = record s { rules = s.rules ++ more }
 

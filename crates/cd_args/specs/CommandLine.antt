@@ -1,4 +1,4 @@
--- The command line as `clap` defines it, and the job that it asks for.
+-- The command line in the terms of `clap`, and the job that arguments give.
 use Rattle.std.specs.Prelude.{◌≡◌, ◌⊎◌, ⊤, ℕ, false, true, List, [], ◌∷◌, Some, codes}
 use Rattle.std.specs.Prelude.{IsSome, IsSomeAnd, string_bytes}
 use Rattle.clap.specs.Words.{App, Row, Shape, Text, first_of, subcommand_of, takes}
@@ -68,8 +68,8 @@ abbrev pub IsListJob : Text → ℕ → Job → Type 0
 IsListJob text first (job.List image base) = (string_bytes image ≡ text) × (base ≡ first)
 IsListJob text first _ = ⊥
 
--- without arguments the standard input is listed from block 0; else the job is that of the command
--- and the matches that the definition gives for the arguments
+-- without arguments, the job lists the standard input from block 0; otherwise, it is the job of the
+-- command and the matches that the definition gives for the arguments
 unfoldable pub IsJobOf : List Text → Job → Type 0
 IsJobOf [] job = IsListJob (codes "-") 0 job
 IsJobOf (w ∷ ws) job = IsSomeAnd (subcommand_of command_line (w ∷ ws)) (λ p. HasMatches p job)
@@ -79,7 +79,7 @@ unfoldable pub IsAccepted : List Text → Type 0
 IsAccepted [] = ⊤
 IsAccepted (w ∷ ws) = takes command_line (w ∷ ws) ≡ true
 
--- ---- what the matches of accepted arguments have
+-- ---- the contents of the matches of accepted arguments
 
 -- plumbing: the matches name a command, and have its texts and a base
 pub record IsComplete (p : Text × List Row) : Type 0 where

@@ -1,4 +1,4 @@
--- Why the command line gives no job, and what is printed then.
+-- Errors of the command line: the text that is printed, and the exit status.
 use Rattle.std.specs.Prelude.{⊤, ℕ, Bool, true, false, List, Option, Some, None, codes}
 use Rattle.std.specs.Prelude.{if◌then◌else◌, is_some, ◌∷◌, []}
 use Rattle.clap.specs.Words.{IsAmong, Kinds, Text, fault_of, kind_of}
@@ -10,48 +10,49 @@ use Rattle.cd_args.specs.CommandLine.{command_line}
 use Rattle.cd_args.specs.declared.fault.LineFault.{LineFault}
 use Rattle.cd_args.specs.declared.fault.LineFault.TheVariants.{Parser, NoMemory}
 
--- whether the parser's error is want of memory
+-- whether the parser ran out of memory
 abbrev pub is_out_of_memory : ErrorKind → Bool
 is_out_of_memory OutOfMemory = true
 is_out_of_memory _ = false
 
--- the parser's want of memory is `NoMemory`, and its other errors are kept
+-- `NoMemory` if the parser ran out of memory; its other errors are kept
 abbrev pub fault_from : Error → LineFault
 fault_from e = if is_out_of_memory (kind_of e) then NoMemory else Parser e
 
--- the status if all was done
+-- the exit status if everything was done
 abbrev pub done_status : ℕ
 done_status = 0
 
--- the status after a fault, and if the arguments are refused
+-- the exit status after an error, such as invalid arguments
 abbrev pub failed_status : ℕ
 failed_status = 2
 
--- help that was asked for is not a failure
+-- the exit status for a kind of error: a request for help is not a failure
 abbrev pub kind_status : ErrorKind → ℕ
 kind_status DisplayHelp = done_status
 kind_status DisplayVersion = done_status
 kind_status _ = failed_status
 
--- the status that a fault gives
+-- the exit status of a fault
 abbrev pub status_of : LineFault → ℕ
 status_of (Parser e) = kind_status (kind_of e)
 status_of NoMemory = failed_status
 
--- the line for want of memory
+-- the line that is printed if memory runs out
 abbrev pub no_memory : Text
 no_memory = codes "cdpatch: no memory\n"
 
--- the parser's text if there is one, and else the line for want of memory
+-- the parser's text, or without one the line for exhausted memory
 abbrev pub printed : Option Text → Text
 printed (Some text) = text
 printed None = no_memory
 
--- the status then: that of the fault if its text was printed, else that of a failure
+-- the exit status after printing: the status of the fault if its text was printed, otherwise that
+-- of a failure
 abbrev pub printed_status : LineFault → Option Text → ℕ
 printed_status fault text = if is_some text then status_of fault else failed_status
 
--- the kinds of error that the definition gives for the arguments: none if there are none
+-- the kinds of error that the definition gives for the arguments; empty without arguments
 unfoldable pub error_kinds : List Text → Kinds
 error_kinds [] = []
 error_kinds (w ∷ ws) = fault_of command_line (w ∷ ws)

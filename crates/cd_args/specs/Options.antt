@@ -1,5 +1,5 @@
--- What the options are: how `clap` defines each, what the matches give for it, and the settings that a
--- job has. All of an option of `check` and `apply` stands here, and in `src/settings.rt`.
+-- The options of the commands: their definitions for `clap`, the values that the matches give, and
+-- the settings of a job. An option of `check` and `apply` is defined here and in `src/settings.rt`.
 use Rattle.std.specs.Prelude.{◌≡◌, ℕ, Bool, false, List, [], ◌∷◌, ◌++◌, Option, Some, codes, map, option_map, pos, string_bytes}
 use Rattle.std.specs.Str.Parse.{digits_value, without_leading_plus}
 use Rattle.clap.specs.Words.{IsSignedIn, Row, Rule, Text, new_rule, one_of, without_minus}
@@ -41,7 +41,7 @@ abbrev pub base_of : List Row → Option ℕ
 base_of rows =
     option_map (λ t. digits_value 10 (without_leading_plus t)) (one_of (codes "base") rows)
 
--- the settings are what a command's rows give for its options
+-- the settings are the values that a command's rows give for its options
 pub record HasSettings (rows : List Row) (settings : Settings) : Type 0 where
   pub base : base_of rows ≡ Some settings.base
   pub carry : settings.carry ≡ flag_of (codes "carry") rows
@@ -54,7 +54,7 @@ pub record HasBase (rows : List Row) : Type 0 where
 
 -- ---- in a job
 
--- this base, with damage carried or refused, and no other option
+-- settings with this base, with damage carried or refused, and no other option
 abbrev pub settings_of : ℕ → Bool → Settings
 settings_of base carry = record { base = base; carry = carry }
 
@@ -68,7 +68,7 @@ task_of (job.Apply image script out base carry) =
     Task.apply (record { base = base; carry = carry }) (string_bytes image) (string_bytes script)
     (string_bytes out)
 
--- the settings of a task; `list` and `audit` have the base alone
+-- the settings of a task; `list` and `audit` have only a base
 abbrev pub task_settings : Task → Settings
 task_settings (Task.list base image) = settings_of base false
 task_settings (Task.audit base image) = settings_of base false
@@ -79,6 +79,6 @@ task_settings (Task.apply settings image script out) = settings
 abbrev pub settings_in : Job → Settings
 settings_in j = task_settings (task_of j)
 
--- the number of the first block, of any job
+-- the number of the first block in any job
 abbrev pub base_in : Job → ℕ
 base_in j = (settings_in j).base

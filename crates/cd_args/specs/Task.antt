@@ -1,5 +1,5 @@
--- What a job is to the crates above: its command, with its settings and its texts. A further option
--- is a further setting, and no crate above names those that it does not use.
+-- A job as the crates above see it: a command with its settings and its texts. A new option is a
+-- new field of the settings, and crates above need not name the fields that they do not use.
 use Rattle.std.specs.Prelude.{ℕ, List}
 use Rattle.cd_args.specs.declared.settings.Settings.{Settings}
 

@@ -1,4 +1,4 @@
-//! The kinds of arguments that a command has.
+//! The two kinds of arguments of a command: a required text and a flag.
 
 ghost use Rattle.std.specs.Prelude.{◌≡◌, IfOk, IsOkAnd, false};
 ghost use Rattle.clap.specs.Words.{rule_of, shape_of};
@@ -8,7 +8,7 @@ ghost use Rattle.cd_args.specs.Arguments.{flag_rule, text_rule, with_rule};
 use clap::{Arg, ArgAction, Command};
 use std::alloc::{AllocError, Global};
 
-/// A text that a command needs.
+/// A required argument whose value is a text.
 pub(crate) fn text_argument<'a>(alloc: Global, id: &'a str, name: &'a str, help: &'a str) -> Arg<'a>
     ensures rule { rule_of result ≡ text_rule id.now }
     ensures local { result.global ≡ false }
@@ -19,7 +19,7 @@ pub(crate) fn text_argument<'a>(alloc: Global, id: &'a str, name: &'a str, help:
         .help(help)
 }
 
-/// A flag.
+/// An option `--id` without a value.
 pub(crate) fn flag_argument<'a>(alloc: Global, id: &'a str, help: &'a str) -> Arg<'a>
     ensures rule { rule_of result ≡ flag_rule id.now }
     ensures local { result.global ≡ false }
@@ -30,8 +30,8 @@ pub(crate) fn flag_argument<'a>(alloc: Global, id: &'a str, help: &'a str) -> Ar
         .help(help)
 }
 
-/// Proof step: a command with one more argument, if memory was found for the command. It takes the
-/// `Result`, since each `?` in a function that holds one of clap's commands costs seconds to prove.
+/// Proof step: adds an argument to a command. It accepts the command's `Result`, so that callers
+/// need no `?`: in a function that holds one of clap's commands, each `?` takes seconds to prove.
 pub(crate) fn with_argument<'a>(
     command: Result<Command<'a>, AllocError>,
     argument: Arg<'a>,

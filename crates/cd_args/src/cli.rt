@@ -1,4 +1,4 @@
-//! The command line, as clap is to parse it.
+//! The definition of the command line for clap: its commands and their arguments.
 ghost use Rattle.std.specs.Prelude.{◌≡◌, IfOk, IsOkAnd, codes, false};
 ghost use Rattle.clap.specs.Simple.{new_shape};
 ghost use Rattle.clap.specs.Words.{app_of, rule_of, shape_of, with_subcommand};
@@ -28,7 +28,7 @@ fn image_argument<'a>(alloc: Global) -> Arg<'a>
     )
 }
 
-/// The script whose patches a command takes.
+/// The script that a command reads.
 fn script_argument<'a>(alloc: Global) -> Arg<'a>
     ensures rule { rule_of result ≡ text_rule (codes "script") }
     ensures local { result.global ≡ false }
@@ -36,7 +36,7 @@ fn script_argument<'a>(alloc: Global) -> Arg<'a>
     text_argument(alloc, "script", "SCRIPT", "The file of the patch script")
 }
 
-/// The patched image that a command makes.
+/// The file that a command creates for the patched image.
 fn out_argument<'a>(alloc: Global) -> Arg<'a>
     ensures rule { rule_of result ≡ text_rule (codes "out") }
     ensures local { result.global ≡ false }
@@ -49,7 +49,7 @@ fn out_argument<'a>(alloc: Global) -> Arg<'a>
     )
 }
 
-/// A command before its arguments, with the texts before and after them in its help.
+/// A command without arguments, with the texts before and after the list of arguments in its help.
 fn described<'a>(alloc: Global, name: &'a str, about: &'a str, more: &'a str) -> Command<'a>
     ensures shape { shape_of result ≡ new_shape name.now }
     ensures local { (out-Command result).has_globals ≡ false }
@@ -97,7 +97,7 @@ fn apply_command<'a>(alloc: Global) -> Result<Command<'a>, AllocError>
     with_argument(command, out_argument(alloc))
 }
 
-/// The program before its commands, of which one is required.
+/// The program without its commands. It requires a command.
 fn program<'a>(alloc: Global) -> Result<Command<'a>, AllocError>
     ensures { IfOk result (λ c. app_of c ≡ program_app) }
 {
@@ -110,8 +110,8 @@ fn program<'a>(alloc: Global) -> Result<Command<'a>, AllocError>
         .bin_name("cdpatch")
 }
 
-/// Proof step: the program with one more command, if memory was found for both. Both come as a
-/// `Result`, as in `with_argument`.
+/// Proof step: adds a command to the program, if memory was found for both. It accepts both as a
+/// `Result`, as `with_argument` does.
 fn with_command<'a>(
     program: Result<Command<'a>, AllocError>,
     command: Result<Command<'a>, AllocError>,
@@ -127,7 +127,7 @@ fn with_command<'a>(
 ///
 /// # Errors
 ///
-/// Memory was refused.
+/// Memory runs out.
 pub(crate) fn command_line<'a>(alloc: Global) -> Result<Command<'a>, AllocError>
     ensures { IfOk result (λ c. app_of c ≡ command_line) }
 {

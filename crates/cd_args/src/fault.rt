@@ -1,4 +1,4 @@
-//! Why the command line gives no job.
+//! Errors of the command line, with their messages and exit statuses.
 ghost use Rattle.std.specs.Prelude.{◌≡◌, None, if◌then◌else◌, is_some, option_map};
 ghost use Rattle.cd_args.specs.Fault.{failed_status, fault_from, printed, status_of};
 ghost use Rattle.cd_args.specs.declared.fault.LineFault.TheVariants.{NoMemory};
@@ -7,19 +7,19 @@ use clap::error::ErrorKind;
 use std::alloc::{AllocError, Global};
 use thiserror::Error;
 
-/// The status of the program if all was done.
+/// The exit status of the program if everything was done.
 pub const DONE: u8 = 0;
 
-/// The status after a fault, and if the arguments are refused.
+/// The exit status of the program after an error, such as invalid arguments.
 pub const FAILED: u8 = 2;
 
-/// What is printed for want of memory.
+/// The line that is printed if memory runs out.
 pub const NO_MEMORY: &str = "cdpatch: no memory\n";
 
-/// Why the command line gives no job. It keeps the parser's error, so it needs clap.
+/// Why the command line gives no job. It contains the parser's error, so its type depends on clap.
 #[derive(Debug, Drop, Error)]
 pub enum LineFault {
-    /// The parser refuses the arguments, or they ask for help.
+    /// The parser rejects the arguments, or they request help.
     #[error("{0}")]
     Parser(clap::Error),
     /// Memory ran out, in the parser or outside of it.
@@ -48,7 +48,7 @@ impl From<AllocError> for LineFault {
 }
 
 impl LineFault {
-    /// The status that the program ends with: 0 if help was asked for, and else 2.
+    /// The exit status of the program: 0 if help was requested, and otherwise 2.
     ///
     /// # Examples
     ///
@@ -66,8 +66,8 @@ impl LineFault {
         if is_help { DONE } else { FAILED }
     }
 
-    /// The status that the program ends with if it printed the `refusal_line` of this text: 2
-    /// if the text found no memory, and else that of the fault.
+    /// The exit status of the program after it printed the [`refusal_line`] of this text: 2 if
+    /// there is no text, and otherwise the status of this fault.
     ///
     /// See the example of [`refusal_line`].
     pub fn status_with(&self, parser_text: Option<&str>) -> u8
@@ -80,8 +80,8 @@ impl LineFault {
         }
     }
 
-    /// The parser's own text, with its last line feed. `None` if the parser, or the text, found
-    /// no memory.
+    /// The parser's message, with its last line feed. `None` if memory ran out in the parser, or
+    /// for the text.
     ///
     /// See the example of [`refusal_line`].
     pub fn parser_text(&self, alloc: Global) -> Option<String>
@@ -94,8 +94,8 @@ impl LineFault {
     }
 }
 
-/// What the program prints for a fault: the parser's text if there is one, else the line for want
-/// of memory. Apart from `parser_text`, so that this line needs no memory.
+/// The text that the program prints for an error: the parser's message, or [`NO_MEMORY`] if there
+/// is none. It is separate from `parser_text`, so that printing [`NO_MEMORY`] needs no memory.
 ///
 /// # Examples
 ///

@@ -1,13 +1,13 @@
-//! The jobs of the program.
+//! The jobs of cdpatch: each is a command with its arguments.
 
 ghost use Rattle.std.specs.Prelude.{◌≡◌};
 ghost use Rattle.cd_args.specs.Options.{settings_in};
 
 use crate::settings::Settings;
 
-/// What the command line asks for: `image` (`-` is the standard input), and the files `script`
-/// and `out`. The first sector of the image has the block number `base`. With `carry` patches are
-/// accepted on damaged sectors too, whose damage stays.
+/// A command with its arguments. `image`, `script` and `out` are the names of files; the image `-`
+/// is the standard input. The first sector of the image has the block number `base`. With `carry`,
+/// patches on damaged sectors are accepted too, and the damage stays.
 #[derive(Debug, Drop)]
 pub enum Job {
     /// Lists the sectors of an image.
@@ -20,14 +20,14 @@ pub enum Job {
         image: String,
         base: u32,
     },
-    /// Decides each patch of a script on an image, and writes no image.
+    /// Reports what each patch of a script would do to an image, and writes no image.
     Check {
         image: String,
         script: String,
         base: u32,
         carry: bool,
     },
-    /// Patches an image by a script, into a new file.
+    /// Applies a script to an image, and writes the patched image to a new file.
     Apply {
         image: String,
         script: String,
@@ -38,7 +38,7 @@ pub enum Job {
 }
 
 impl Job {
-    /// What its options say. `list` and `audit` have the base alone.
+    /// The settings of the job. `list` and `audit` have only a base, and `carry` is false for them.
     ///
     /// # Examples
     ///

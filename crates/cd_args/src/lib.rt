@@ -1,4 +1,4 @@
-//! The command line of cdpatch: the job that its arguments ask for, or why there is none.
+//! Parses the command line of cdpatch: its arguments give a [`Job`] or a [`LineFault`].
 //!
 //! ```
 //! let job = job_of(rt.alloc(), Vec::new(rt.alloc()))?; // no arguments
@@ -13,9 +13,9 @@
 //! | `check IMAGE SCRIPT`, with options | [`Job::Check`] |
 //! | `apply IMAGE SCRIPT OUT`, with options | [`Job::Apply`] |
 //!
-//! The options of `check` and `apply` are the fields of [`Settings`]. N is 0 to [`MAX_BASE`], the last block with an address (ECMA-130, 14). clap parses the arguments
-//! and makes the help. The parser takes memory; if there is none, the line is
-//! `cdpatch: no memory`.
+//! The options of `check` and `apply` are the fields of [`Settings`]. N is 0 to [`MAX_BASE`], the
+//! last block with an address (ECMA-130, 14). clap parses the arguments and formats the help. The
+//! parser allocates memory; if there is none, the line is `cdpatch: no memory`.
 //!
 //! Tests: `crates/cd_image_tests`.
 #![tactic(auto)]

@@ -1,4 +1,4 @@
-//! The job that the arguments ask for.
+//! Parses the arguments of the program into a job.
 ghost use Rattle.std.specs.Prelude.{◌≡◌, ◌≤◌, IfOk, IfErr, OnOk, IsSome, Some, [], map, string_bytes, codes};
 ghost use Rattle.clap.specs.Words.{first_of, found_of, rows_of};
 ghost use Rattle.cd_args.specs.CommandLine.{HasMatches, IsAccepted, IsComplete, IsJobOf, IsListJob};
@@ -12,7 +12,7 @@ use crate::{Job, LineFault};
 use clap::ArgMatches;
 use std::alloc::{AllocError, Global};
 
-/// The text of an argument that the command requires.
+/// The value of a required argument.
 fn text_of(alloc: Global, matches: &ArgMatches<'_>, id: &str) -> Result<String, AllocError>
     requires { IsSome (first_of id.now (rows_of (found_of matches.now))) }
     ensures { IfOk result (λ text. first_of id.now (rows_of (found_of matches.now))
@@ -109,12 +109,12 @@ fn standard_input_job(alloc: Global) -> Result<Job, AllocError>
     Ok(Job::List { image, base: 0 })
 }
 
-/// The job that the arguments after the program's name ask for: without any the listing of the
-/// standard input from block 0, and else the command that they name, which is required.
+/// Parses the arguments after the program's name into a job. Without arguments, the job lists the
+/// standard input from block 0. Otherwise, the arguments must name a command.
 ///
 /// # Errors
 ///
-/// The parser refuses the arguments, or they ask for help, or memory runs out.
+/// The parser rejects the arguments, or they request help, or memory runs out.
 ///
 /// # Examples
 ///
@@ -126,10 +126,12 @@ pub fn job_of(alloc: Global, args: Vec<String>) -> Result<Job, LineFault>
     ensures ok { IfOk result (IsJobOf (map string_bytes args.items)) }
     ensures base { IfOk result (λ job. base_in job ≤ MAX_BASE) }
 
-    // A job comes only of arguments in which the definition finds no fault, and which ask for no help.
+    // A job results only from arguments in which the definition finds no error, and which do not
+    // request help.
     ensures taken { OnOk result (error_kinds (map string_bytes args.items) ≡ []) }
 
-    // No arguments, and arguments that the definition accepts, are refused only for want of memory.
+    // If there are no arguments, or the definition accepts them, they are refused only if memory
+    // runs out.
     ensures refused { IfErr result (λ fault. IsAccepted (map string_bytes args.items)
         → fault ≡ NoMemory) }
     ensures kind { IfErr result (HasKindOf (map string_bytes args.items)) }

@@ -1,4 +1,5 @@
-//! What the options are, and what they say: all of an option of `check` and `apply` stands here.
+//! The options of `check` and `apply`: their definitions for clap, and the [`Settings`] that they
+//! give.
 
 ghost use Rattle.std.specs.Prelude.{◌≡◌, ◌≤◌, IfOk, IsOkAnd, Some, codes, false, option_map};
 ghost use Rattle.clap.specs.Words.{found_of, rows_of, rule_of, shape_of};
@@ -17,14 +18,14 @@ pub const MAX_BASE: u32 = MAX_BLOCK;
 /// How a script is applied to an image: what the options of `check` and `apply` say.
 #[derive(Clone, Copy, Debug)]
 pub struct Settings {
-    /// The number of the image's first block.
+    /// The block number of the image's first sector.
     pub base: u32,
-    /// Whether damage is carried.
+    /// Whether patches on damaged sectors are accepted, and the damage stays.
     pub carry: bool,
 }
 
 impl Settings {
-    /// This base, with damage carried or refused, and no other option.
+    /// Creates settings with this base and `carry`, and no other option.
     ///
     /// # Examples
     ///
@@ -39,7 +40,7 @@ impl Settings {
     }
 }
 
-/// The block number of the first sector, which `list` and `audit` have too.
+/// The option `--base N`, the block number of the first sector. `list` and `audit` have it too.
 pub(crate) fn base_argument<'a>(alloc: Global) -> Arg<'a>
     ensures rule { rule_of result ≡ base_rule }
     ensures local { result.global ≡ false }
@@ -52,7 +53,7 @@ pub(crate) fn base_argument<'a>(alloc: Global) -> Arg<'a>
         .help("The number of the first block, at most 449849")
 }
 
-/// A command with the options of `check` and `apply`, if memory was found for the command.
+/// Adds the options of `check` and `apply` to a command, if memory was found for the command.
 pub(crate) fn with_options<'a>(
     alloc: Global,
     command: Result<Command<'a>, AllocError>,
@@ -76,8 +77,8 @@ pub(crate) fn base_of(matches: &ArgMatches<'_>) -> u32
     matches.get_one::<u32>("base").unwrap()
 }
 
-/// Whether a flag with this text is used. clap's clauses name the text that the parser holds:
-/// "true" if the flag is used.
+/// Whether a flag is used, by the text that the parser holds for it. The clauses of clap specify
+/// this text: it is "true" if the flag is used.
 fn is_set(text: Option<&str>) -> bool
     ensures { result ≡ is_set (option_map (λ text. text.now) text.entry) }
 {
@@ -94,7 +95,7 @@ fn flag_of(matches: &ArgMatches<'_>, id: &str) -> bool
     is_set(matches.get_str(id))
 }
 
-/// What the options of `check` and `apply` say.
+/// The settings that the options of `check` and `apply` give.
 pub(crate) fn settings_of(matches: &ArgMatches<'_>) -> Settings
     requires { HasBase (rows_of (found_of matches.now)) }
     ensures has { HasSettings (rows_of (found_of matches.now)) result }

@@ -1,4 +1,4 @@
--- The clauses of a call that reports: the plain ones follow from the whole one.
+-- The clauses of a call that reports: the simple ones follow from the complete one.
 use Rattle.std.proofs.Common.{◌≡◌, ◌≢◌, ℕ, ◌<◌, ◌≤◌, ◌⊎◌, List, [], length, Result, Ok, Err, inl, inr}
 use Rattle.std.proofs.Common.{refl, sym, ap, ◌∙◌, Some, arith, length-append}
 use Rattle.std.specs.Borrow.{MutBor}
@@ -21,8 +21,8 @@ use Rattle.cd_stream.specs.Adapters.{slice_incoming}
 use Rattle.cd_stream.specs.Stream.{Outgoing}
 use Rattle.cd_stream.specs.declared.adapters.slice_source.SliceSource.{SliceSource}
 
--- a call of the sink has failed: the memory is full, and if the image is not too long, some of its
--- text did not go out
+-- a call of the sink has failed: the memory is full, and if the image is not too long, a part of
+-- its text was not written
 module _ {T : Type 0} (spec : ReportSpec T) (status_of : T → ℕ) (image : List ℕ)
     (left : SliceSource) (lent : MutBor (List ℕ)) (after : Outgoing) (status : ℕ) where
   full-room : (result : Result T Fault) (middle : Outgoing)

@@ -1,4 +1,4 @@
--- The records of sectors, one after the other, and what they say.
+-- The records of sectors, one after the other, and their contents.
 use Rattle.std.proofs.Common.{◌≡◌, ℕ, zero, suc, ◌+◌, ◌==◌, ◌<◌, ◌≤◌, Bool, true, false, List, [], ◌∷◌, ◌++◌, length, map, take, drop, get_or, Option, Some, None, refl, ap, ◌∙◌, arith, append-nil}
 use Rattle.std.specs.Prelude.{slice_set, if◌then◌else◌}
 use Rattle.std.proofs.lemmas.List.{take_all, drop_all}
@@ -30,7 +30,7 @@ survey-set block (s ∷ ss) (r ∷ rs) (suc i) d low high =
     ∙ ap (λ others. record_of block s ∷ others)
     (survey-set (block + 1) ss rs i d (omega arith) (omega arith))
 
--- ---- what they say
+-- ---- the contents of records
 
 truth : (b : Bool) → (as_byte b == 1) ≡ b
 truth true = refl

@@ -1,4 +1,4 @@
--- The texts of `list` and `audit`, line by line, have only so many bytes.
+-- The largest sizes of the texts of `list` and `audit`, line by line.
 use Rattle.std.proofs.Common.{◌≡◌, ℕ, ◌+◌, ◌-◌, ◌*◌, ◌/◌, ◌<◌, ◌≤◌, Bool, true, false, List, [], ◌∷◌, ◌++◌, length, length-append, map, ap, ◌∙◌, refl, arith, lit<, None, Some}
 use Rattle.std.specs.Prelude.{codes, cond, count_by, decimal}
 use Rattle.std.proofs.lemmas.Fmt.{length-decimal-le}
@@ -66,7 +66,7 @@ run_line-short first run h =
       length-append (decimal first) dash,
     )
 
--- how many sectors runs have
+-- the number of sectors in runs
 abbrev sector_sum : List Run → ℕ
 sector_sum [] = 0
 sector_sum (run ∷ others) = run.count + sector_sum others
@@ -82,7 +82,7 @@ run_lines-short first (run ∷ others) h =
       run_lines-short (first + run.count) others (omega arith),
     )
 
--- one sector more before runs, by whether it is of the first one's kind
+-- runs with one more sector before them, by whether it is of the first run's kind
 abbrev joined : SectorKind → Run → List Run → Bool → List Run
 joined kind run others same =
     cond same (record { kind = kind; count = run.count + 1 } ∷ others)

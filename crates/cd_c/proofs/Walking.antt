@@ -1,4 +1,5 @@
--- What both walks cite, and a local's cell that is read as another type with the same fields.
+-- The imports of both walks, and the cell of a local that is read as a different type with the same
+-- fields.
 pub use Rattle.std.proofs.Common.{[], ◌∷◌, refl}
 pub use Rattle.std.proofs.raw_atomic.Walks.{proved}
 pub use base.Fml.{ftrue}
@@ -31,7 +32,7 @@ module _ {M : Type 1} {𝓤 : Ura M} (𝓛 : Logic 𝓤) {K : Type 0} where
         (‵ (fat full_share τ b 0 v) ∷ Γ) G
     unnamed = use1 𝓛 (‵ (fat full_share (raw_type τ) b 0 v)) (𝓛.laws.at_raw full_share τ b 0 v)
 
-    -- and with them again
+    -- the same, with these names again
     pub named_again : Step K 𝓛 (‵ (fat full_share τ b 0 v) ∷ Γ) G
         (‵ (fat full_share (raw_type τ) b 0 v) ∷ Γ) G
     named_again = use1 𝓛 (‵ (fat full_share τ b 0 v)) (𝓛.laws.raw_at full_share τ b 0 v)

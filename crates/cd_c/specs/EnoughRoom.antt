@@ -1,5 +1,5 @@
--- How much room is enough for the text of `list` and of `audit`. The numbers are those of `cdpatch.h`;
--- the law is a contract of `short_texts.rt`.
+-- The number of bytes that is enough for the text of `list` or `audit`. `cdpatch.h` has the same
+-- numbers; the law is a contract in `short_texts.rt`.
 use Rattle.std.specs.Prelude.{ℕ, ◌+◌, ◌*◌, ◌/◌, ◌≤◌, List, length}
 use Rattle.cd_sector.specs.Image.{base_limit, image_limit}
 use Rattle.cd_report.specs.AuditText.{audit_text}
@@ -9,12 +9,12 @@ use Rattle.cd_report.specs.ListText.{list_text}
 abbrev pub text_room : List ℕ → ℕ
 text_room image = 100 + 40 * (length image / 2352)
 
--- a call takes this image, and the room has as many bytes
+-- the base and the image are within their limits, and the room has enough bytes
 abbrev pub HasEnoughRoom : ℕ → List ℕ → List ℕ → Type 0
 HasEnoughRoom base image room =
     (base ≤ base_limit) × (length image ≤ image_limit) × (text_room image ≤ length room)
 
--- neither text of an image is longer
+-- no text of `list` or `audit` is longer than `text_room`
 abbrev pub TextsAreShort : Type 0
 TextsAreShort =
     (base : ℕ) (image : List ℕ) → base ≤ base_limit → length image ≤ image_limit

@@ -3,10 +3,10 @@ use Rattle.sha1.specs.declared.Sha1.{Sha1}
 use Rattle.sha1.specs.Sha1.{Holds}
 use Rattle.cd_c.specs.declared.state.DigestState.{DigestState}
 
--- the hasher that is in this state
+-- the hasher with this state
 abbrev pub hasher_of : DigestState → Sha1
 hasher_of state = record { h = state.hash; buffer = state.block; total = state.count }
 
--- the state has taken these bytes, in their order
+-- these bytes were added to the state, in their order
 abbrev pub HasTaken : DigestState → List ℕ → Type 0
 HasTaken state bytes = Holds (hasher_of state) bytes

@@ -1,5 +1,5 @@
--- What is found of sectors, as records of six bytes. The numbers of kinds are those of `enum
--- cdpatch_sector_kind`.
+-- The kind and the findings of sectors, as records of six bytes. The kinds have the numbers of
+-- `enum cdpatch_sector_kind`.
 use Rattle.std.specs.Prelude.{ℕ, ◌==◌, ◌+◌, Bool, if◌then◌else◌, List, [], ◌∷◌, ◌++◌, Option, Some, None}
 use Rattle.cd_sector.specs.Kind.{kind_number, kind_of}
 use Rattle.cd_sector.specs.declared.kinds.SectorKind.{SectorKind}
@@ -10,7 +10,7 @@ use Rattle.cd_report.specs.declared.findings.Findings.{Findings}
 use Rattle.cd_c.specs.Results.{as_byte}
 use Rattle.cd_c.specs.declared.surveying.SectorRecord.{SectorRecord}
 
--- the record of a kind's number, and of what is found
+-- the record with the number of a kind, and with findings
 abbrev pub told : ℕ → Option Findings → SectorRecord
 told kind None = record { kind = kind; address = 0; zeros = 0; edc = 0; p = 0; q = 0 }
 told kind (Some found) = record {
@@ -26,12 +26,12 @@ told kind (Some found) = record {
 unfoldable pub record_of : ℕ → List ℕ → SectorRecord
 record_of block sector = told (kind_number (kind_of sector)) (findings_of block sector)
 
--- the records of sectors, the first of which is `block`
+-- the records of sectors; the first sector is that of `block`
 abbrev pub survey : ℕ → List (List ℕ) → List SectorRecord
 survey block [] = []
 survey block (sector ∷ others) = record_of block sector ∷ survey (block + 1) others
 
--- the kind that a number stands for
+-- the kind with this number
 abbrev pub kind_at : ℕ → SectorKind
 kind_at number =
     if number == 0 then NoSync else if number == 1 then Mode0 else if number == 2 then Mode1
@@ -41,7 +41,7 @@ kind_at number =
 abbrev pub kind_in : SectorRecord → SectorKind
 kind_in r = kind_at r.kind
 
--- what a record says was found
+-- the findings in a record
 abbrev pub found_in : SectorRecord → Option Findings
 found_in r =
     if r.kind == 2 then Some (record {
@@ -49,7 +49,7 @@ found_in r =
       defect = record { zeros = r.zeros == 1; edc = r.edc == 1; p = r.p; q = r.q };
     }) else None
 
--- the lines of records, the first of which is of `block`
+-- the lines of records; the first record is that of `block`
 abbrev pub lines_in : ℕ → List SectorRecord → List (List ℕ)
 lines_in block [] = []
 lines_in block (r ∷ others) = line_of block (found_in r) ++ lines_in (block + 1) others

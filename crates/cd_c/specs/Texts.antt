@@ -1,8 +1,8 @@
--- Words for what a call of C returns.
+-- The texts for the results of calls of C.
 use Rattle.std.specs.Prelude.{ℕ, ◌==◌, if◌then◌else◌, List, [], codes}
 use Rattle.cd_c.specs.Results.{damaged, done, not_mode1, out_of_range}
 
--- the words for a result, the last three of a patch only; none for any other number
+-- the words for a result, the last three only for a patch; empty for any other number
 unfoldable pub result_text : ℕ → List ℕ
 result_text result =
     if result == done then codes "done"

@@ -1,3 +1,3 @@
-//! The functions whose bodies depend on the target: a native build has vectors.
+//! Functions with a different body for each target: native builds use vectors.
 
 pub(crate) use cd_sector::{defect, mark_columns, mark_diagonals};

@@ -1,4 +1,4 @@
-//! Which code words of a sector are broken.
+//! The call of C that marks the broken code words of a sector.
 
 ghost use Rattle.std.specs.Prelude.{◌≡◌, ℕ, ◌<◌, slice_index};
 ghost use Rattle.cd_code.specs.CodeWords.{column_of, diagonal_of};
@@ -7,8 +7,8 @@ ghost use Rattle.cd_sector.specs.Defect.{broken_mark};
 use crate::bodies::{mark_columns, mark_diagonals};
 use cd_sector::{COLUMNS, DIAGONALS, Sector};
 
-/// Marks the columns and diagonals of a sector of any kind, as [`mark_columns`] and
-/// [`mark_diagonals`].
+/// Marks which P columns and Q diagonals of a sector are not code words, as [`mark_columns`] and
+/// [`mark_diagonals`]. The sector may be of any kind.
 #[unsafe(no_mangle)]
 pub extern "C" fn cdpatch_find_broken(
     sector: &Sector,

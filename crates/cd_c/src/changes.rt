@@ -1,4 +1,4 @@
-//! Calls of C that change a sector. One that is refused leaves the sector as it was.
+//! Calls of C that change a sector. A refused call leaves the sector as it was.
 
 ghost use Rattle.std.specs.Prelude.{◌≡◌, ◌≢◌, ℕ, ◌++◌, ◌<◌, ◌≤◌, ◌⊎◌, List, bit_xor, drop, length, slice_index, slice_range, take, true};
 ghost use Rattle.std.specs.Int.{from_le_bytes, w32};
@@ -15,7 +15,8 @@ use cd_delta::{carry_header, carry_user, change_header, change_user};
 use cd_patch::result_numbers::OK;
 use cd_sector::{Sector, rebuild};
 
-/// Writes bytes into the user data of a sound sector, from `offset` on, as [`change_user`].
+/// Writes bytes into the user data of an undamaged Mode 1 sector at `offset`, and updates its EDC
+/// and parity, as [`change_user`]. Returns a number of `enum cdpatch_result`.
 #[unsafe(no_mangle)]
 pub extern "C" fn cdpatch_change_user(sector: &mut Sector, offset: usize, bytes: &[u8]) -> u32
     ensures result { result ≡ change_result sector.old (is_inside offset (length bytes.now)) }
@@ -38,7 +39,8 @@ pub extern "C" fn cdpatch_change_user(sector: &mut Sector, offset: usize, bytes:
     result
 }
 
-/// Writes bytes into the user data of a sector of Mode 1, from `offset` on, and carries its damage over, as [`carry_user`].
+/// Writes bytes into the user data of a Mode 1 sector at `offset`, and carries its damage over, as
+/// [`carry_user`].
 #[unsafe(no_mangle)]
 pub extern "C" fn cdpatch_carry_user(sector: &mut Sector, offset: usize, bytes: &[u8]) -> u32
     ensures result { result ≡ carry_result sector.old (is_inside offset (length bytes.now)) }
@@ -63,7 +65,8 @@ pub extern "C" fn cdpatch_carry_user(sector: &mut Sector, offset: usize, bytes: 
     result
 }
 
-/// Makes `bcd` the address in the header of a sound sector, as [`change_header`].
+/// Writes the address `bcd` into the header of an undamaged Mode 1 sector, and updates its EDC and
+/// parity, as [`change_header`].
 #[unsafe(no_mangle)]
 pub extern "C" fn cdpatch_change_address(sector: &mut Sector, bcd: &[u8; 3]) -> u32
     ensures result { result ≡ change_result sector.old true }
@@ -86,7 +89,8 @@ pub extern "C" fn cdpatch_change_address(sector: &mut Sector, bcd: &[u8; 3]) -> 
     result
 }
 
-/// Makes `bcd` the address in the header of a sector of Mode 1, and carries its damage over, as [`carry_header`].
+/// Writes the address `bcd` into the header of a Mode 1 sector, and carries its damage over, as
+/// [`carry_header`].
 #[unsafe(no_mangle)]
 pub extern "C" fn cdpatch_carry_address(sector: &mut Sector, bcd: &[u8; 3]) -> u32
     ensures result { result ≡ carry_result sector.old true }
@@ -111,7 +115,8 @@ pub extern "C" fn cdpatch_carry_address(sector: &mut Sector, bcd: &[u8; 3]) -> u
     result
 }
 
-/// Makes a sector of Mode 1 the one consistent sector with its header and its user data, as [`rebuild`].
+/// Rebuilds a Mode 1 sector from its header and user data, as [`rebuild`]. The result is the one
+/// consistent sector with this header and user data.
 #[unsafe(no_mangle)]
 pub extern "C" fn cdpatch_rebuild(sector: &mut Sector) -> u32
     ensures result { result ≡ carry_result sector.old true }

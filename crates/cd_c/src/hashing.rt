@@ -1,4 +1,4 @@
-//! SHA-1 (FIPS 180-4) of bytes as they come: begin, add any number of times, end.
+//! Incremental SHA-1 (FIPS 180-4): begin, add bytes any number of times, end.
 
 ghost use Rattle.std.specs.Prelude.{◌≡◌, ◌++◌, ℕ, List, []};
 ghost use Rattle.sha1.specs.Sha1.{sha1};
@@ -7,7 +7,7 @@ ghost use Rattle.cd_c.specs.State.{HasTaken};
 use crate::state::{DigestState, hasher_of, state_of};
 use sha1::{DIGEST_LEN, Sha1};
 
-/// Begins a message of no bytes, whatever `state` held.
+/// Begins an empty message, whatever `state` contained.
 #[unsafe(no_mangle)]
 pub extern "C" fn cdpatch_sha1_begin(state: &mut DigestState)
     ensures { HasTaken state.new [] }
@@ -25,7 +25,8 @@ pub extern "C" fn cdpatch_sha1_add(state: &mut DigestState, bytes: &[u8])
     *state = state_of(hasher);
 }
 
-/// Writes the SHA-1 of the message so far to `digest`. The state stays as it is, and more can be added.
+/// Writes the SHA-1 of the message so far to `digest`. The state does not change, and more bytes
+/// can be added.
 #[unsafe(no_mangle)]
 pub extern "C" fn cdpatch_sha1_end(state: &DigestState, digest: &mut [u8; DIGEST_LEN])
     ensures { (m : List ℕ) → HasTaken state.now m → digest.new ≡ sha1 m }

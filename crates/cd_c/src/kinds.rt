@@ -1,4 +1,4 @@
-//! The numbers by which calls of C name kinds of sectors, those of `enum cdpatch_sector_kind`.
+//! The numbers of the kinds of sectors, as in `enum cdpatch_sector_kind`.
 
 ghost use Rattle.std.specs.Prelude.{◌≡◌, ◌≤◌};
 ghost use Rattle.cd_sector.specs.Kind.{kind_number};
@@ -18,7 +18,7 @@ pub const MODE1: u32 = 2;
 /// The sector is of Mode 2.
 pub const MODE2: u32 = 3;
 
-/// The sector has another mode byte.
+/// The sector has a mode byte other than 0, 1 and 2.
 pub const OTHER: u32 = 4;
 
 /// The number of a kind.
@@ -35,7 +35,7 @@ pub(crate) fn kind_number(kind: SectorKind) -> u32
     }
 }
 
-/// The kind of a number, if it is that of one.
+/// Converts a number of `enum cdpatch_sector_kind` to a kind; `None` for any other number.
 pub(crate) fn kind_numbered(number: u32) -> Option<SectorKind>
     ensures { result ≡ kind_numbered number }
 {

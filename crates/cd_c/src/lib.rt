@@ -1,8 +1,8 @@
-//! The calls of C that know no script, `cdpatch_*` of `cdpatch.h`: on sectors, one or many, on lines
-//! and texts, SHA-1 of bytes as they come, and `list` and `audit` of an image in memory. Each passes
-//! on to functions of the crates below and states their clauses again. None takes memory. A call
-//! tests what C can get wrong, but not that pointers are valid and not null, and that what is written
-//! overlaps nothing else that is passed: C has to see to that.
+//! The calls of C that use no script (`cdpatch_*` of `cdpatch.h`): on one sector or many, on lines
+//! and texts, incremental SHA-1, and `list` and `audit` of an image in memory. Each call passes its
+//! arguments on to the crates below, and repeats their clauses. None allocates memory. A call
+//! checks its arguments, but not that pointers are valid and not null, and that its outputs overlap
+//! nothing else that is passed: the C program must ensure this.
 #![tactic(auto)]
 
 mod bodies;

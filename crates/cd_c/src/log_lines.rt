@@ -1,4 +1,4 @@
-//! The lines of a log, and the line of a script's fault.
+//! Calls of C that write a line of a log, or the line for an error in a script.
 
 ghost use Rattle.std.specs.Prelude.{◌≡◌, ◌<◌, ◌≤◌, ◌↔◌, IfSome, None, drop, length, take};
 ghost use Rattle.cd_run.specs.Messages.{script_fault_line};
@@ -12,8 +12,8 @@ use cd_run::{counts_line, outcome_line, script_fault_line};
 use cd_script::ScriptFault;
 
 /// Writes the line of a log for the patch in line `number` of a script to the front of `text`, as
-/// [`outcome_line`], and returns its size in bytes. The outcome is a number of `enum
-/// cdpatch_result`; for one that is none of an outcome it writes nothing, and returns 0.
+/// [`outcome_line`], and returns its size in bytes. The outcome is a number of
+/// `enum cdpatch_result`; for a number that is not an outcome, it writes nothing and returns 0.
 #[unsafe(no_mangle)]
 pub extern "C" fn cdpatch_outcome_line(
     number: u32,
@@ -47,9 +47,9 @@ pub extern "C" fn cdpatch_last_line(applied: u32, refused: u32, text: &mut [u8; 
     counts_line(applied, refused).write_to(text)
 }
 
-/// Writes the line of the fault in line `number` of a script to the front of `text`, as
-/// [`script_fault_line`], and returns its size in bytes. The fault is a number of `enum
-/// cdpatch_content`; for one that is none of a fault it writes nothing, and returns 0.
+/// Writes the line for the error in line `number` of a script to the front of `text`, as
+/// [`script_fault_line`], and returns its size in bytes. The error is a number of
+/// `enum cdpatch_content`; for any other number, it writes nothing and returns 0.
 #[unsafe(no_mangle)]
 pub extern "C" fn cdpatch_fault_line(number: u32, fault: u32, text: &mut [u8; LINE_SIZE]) -> usize
     ensures line { IfSome (fault_of fault number)

@@ -1,4 +1,4 @@
-//! The lines of `list` and of `audit`, of runs and of records.
+//! Calls of C that write a line of `list` or `audit`, from runs of sectors and records.
 
 ghost use Rattle.std.specs.Prelude.{◌≡◌, ◌<◌, ◌≤◌, ◌⊎◌, ◌↔◌, drop, false, length, take};
 ghost use Rattle.cd_report.specs.AuditText.{audit_end, is_any};
@@ -14,7 +14,7 @@ use cd_report::{
 };
 use cd_sector::DefectReport;
 
-/// What a record says was found; None if it is not that of a Mode 1 sector.
+/// The findings in a record; `None` if its sector is not of Mode 1.
 fn found_in(record: &SectorRecord) -> Option<Findings>
     ensures { result ≡ found_in record.now }
 {
@@ -33,8 +33,8 @@ fn found_in(record: &SectorRecord) -> Option<Findings>
 }
 
 /// Writes the line of `list` for a run of sectors of one kind, from the first to the last block, to
-/// the front of `text`, as [`run_line`], and returns its size in bytes. For a number that is none of
-/// a kind, and if `last` is below `first`, it writes nothing, and returns 0.
+/// the front of `text`, as [`run_line`], and returns its size in bytes. If `kind` is not the number
+/// of a kind, or `last` is below `first`, it writes nothing and returns 0.
 #[unsafe(no_mangle)]
 pub extern "C" fn cdpatch_list_line(
     first: u32,
@@ -67,8 +67,8 @@ pub extern "C" fn cdpatch_list_end(sectors: u32, tail: u16, text: &mut [u8; LINE
 }
 
 /// Writes the line of `audit` for the record of a block to the front of `text`, as
-/// [`finding_line`], and returns its size in bytes. For a record without a finding, and for one that
-/// is not of Mode 1, it writes nothing, and returns 0.
+/// [`finding_line`], and returns its size in bytes. If the record has no findings, or its sector is
+/// not of Mode 1, it writes nothing and returns 0.
 #[unsafe(no_mangle)]
 pub extern "C" fn cdpatch_audit_line(
     block: u32,
@@ -112,7 +112,7 @@ pub extern "C" fn cdpatch_audit_end(
         sectors,
         mode1,
         damaged,
-        findings: 0, // they are not in this line
+        findings: 0, // not in this line
         tail,
     };
     audit_end(tally).write_to(text)

@@ -1,4 +1,4 @@
-//! Calls of C that describe an image.
+//! The calls of C that list or audit an image in memory.
 
 ghost use Rattle.std.specs.Prelude.{◌≡◌, ◌≢◌};
 ghost use Rattle.cd_args.specs.Fault.{done_status, failed_status};
@@ -12,8 +12,8 @@ ghost use Rattle.cd_c.specs.EnoughRoom.{HasEnoughRoom};
 use cd_memory::{audit_image, list_image};
 use cd_stream::SliceSink;
 
-/// Lists an image to `text`, as the command `list`, and returns its status. `length` gets the
-/// number of bytes that were written.
+/// Writes to `text` what the command `list` prints for an image, and returns the status of the
+/// command. `length` gets the number of bytes that were written.
 #[unsafe(no_mangle)]
 pub extern "C" fn cdpatch_list(image: &[u8], base: u32, text: &mut [u8], length: &mut usize) -> u32
     ensures report { FillsCounted
@@ -29,12 +29,12 @@ pub extern "C" fn cdpatch_list(image: &[u8], base: u32, text: &mut [u8], length:
     let mut listing = SliceSink::new(text);
     let status = list_image(image, base, &mut listing);
     *length = listing.used;
-    let _text = listing.space; // so that the contract can name what it holds
+    let _text = listing.space; // so that the contract can refer to its contents
     u32::from(status)
 }
 
-/// Audits an image to `text`, as the command `audit`, and returns its status. `length` gets the
-/// number of bytes that were written.
+/// Writes to `text` what the command `audit` prints for an image, and returns the status of the
+/// command. `length` gets the number of bytes that were written.
 #[unsafe(no_mangle)]
 pub extern "C" fn cdpatch_audit(image: &[u8], base: u32, text: &mut [u8], length: &mut usize) -> u32
     ensures report { FillsCounted
@@ -50,6 +50,6 @@ pub extern "C" fn cdpatch_audit(image: &[u8], base: u32, text: &mut [u8], length
     let mut findings = SliceSink::new(text);
     let status = audit_image(image, base, &mut findings);
     *length = findings.used;
-    let _text = findings.space; // so that the contract can name what it holds
+    let _text = findings.space; // so that the contract can refer to its contents
     u32::from(status)
 }

@@ -1,4 +1,4 @@
-//! What calls of C return for changes.
+//! The results of the calls of C that change a sector.
 
 ghost use Rattle.std.specs.Prelude.{◌≡◌, ◌+◌, ◌≤◌, length, true};
 ghost use Rattle.cd_sector.specs.Kind.{kind_of};
@@ -8,7 +8,7 @@ ghost use Rattle.cd_c.specs.Results.{carry_result, change_result, is_inside};
 use cd_patch::result_numbers::{DAMAGED, NOT_MODE1, OK, OUT_OF_RANGE};
 use cd_sector::{Sector, SectorKind, USER_SIZE, is_consistent, kind};
 
-/// Whether as many bytes lie in the user data from `offset` on.
+/// Whether these bytes, written at `offset`, are within the 2048 bytes of user data.
 pub(crate) fn is_inside(offset: usize, bytes: &[u8]) -> bool
     ensures inside { result ≡ is_inside offset (length bytes.now) }
     ensures range { result ≡ true → offset + length bytes.now ≤ 2048 }
@@ -16,7 +16,8 @@ pub(crate) fn is_inside(offset: usize, bytes: &[u8]) -> bool
     offset <= USER_SIZE && bytes.len() <= USER_SIZE - offset
 }
 
-/// What a change of a sector returns that carries its damage.
+/// The result of a change that carries damage over; `inside` says whether the change is within the
+/// user data.
 pub(crate) fn carry_result(sector: &Sector, inside: bool) -> u32
     ensures result { result ≡ carry_result sector.now inside }
     ensures mode { result ≡ OK → kind_of sector.now ≡ Mode1 }
@@ -29,8 +30,8 @@ pub(crate) fn carry_result(sector: &Sector, inside: bool) -> u32
     }
 }
 
-/// What a change of a sector returns that refuses a damaged one. The kind is tested first, then
-/// damage, then the range: the order of `apply`.
+/// The result of a change that refuses a damaged sector. The kind is checked first, then damage,
+/// then the range, in the order of `apply`.
 pub(crate) fn change_result(sector: &Sector, inside: bool) -> u32
     ensures result { result ≡ change_result sector.now inside }
     ensures mode { result ≡ OK → kind_of sector.now ≡ Mode1 }

@@ -1,4 +1,4 @@
-//! Codes, and calls that describe or make a whole sector.
+//! Calls of C that compute EDC and parity, and that describe or encode a sector.
 
 ghost use Rattle.std.specs.Prelude.{◌≡◌, ℕ, ◌++◌, ◌≤◌, ◌<◌, ◌↔◌, [], ◌∷◌, IsTrue, List, Some, None, count_by, false, slice_index, true};
 ghost use Rattle.std.specs.List.{list_any};
@@ -15,8 +15,8 @@ use cd_address::address_of;
 use cd_lanes::edc_of;
 use cd_sector::{Sector, USER_SIZE, defect, encode_into, fill_parity, is_consistent, kind};
 
-/// Which parts of a sector are wrong, as C's `struct cdpatch_defect`. Its two `bool`s are bytes 0
-/// and 1 here, so that what C left in them unset is a value too.
+/// The defects of a sector, as C's `struct cdpatch_defect`. The two `bool`s of C are bytes here, 0
+/// or 1, so that whatever an uninitialized `bool` contains is a valid value.
 #[derive(Clone, Copy)]
 #[repr(C)]
 pub struct FoundDefect {
@@ -30,7 +30,7 @@ pub struct FoundDefect {
     pub q: u8,
 }
 
-/// The EDC word of any bytes, as [`edc_of`].
+/// The EDC of any bytes, a word of 32 bits, as [`edc_of`].
 #[unsafe(no_mangle)]
 pub extern "C" fn cdpatch_edc(bytes: &[u8]) -> u32
     ensures word { IsEdc bytes.now result }
@@ -39,7 +39,7 @@ pub extern "C" fn cdpatch_edc(bytes: &[u8]) -> u32
     edc_of(bytes)
 }
 
-/// The kind of a sector, as [`kind`], in the order of [`SectorKind`] from 0 on.
+/// The kind of a sector, as [`kind`]: a number of `enum cdpatch_sector_kind`.
 #[unsafe(no_mangle)]
 pub extern "C" fn cdpatch_kind(sector: &Sector) -> u32
     ensures { result ≡ kind_number (kind_of sector.now) }
@@ -47,7 +47,8 @@ pub extern "C" fn cdpatch_kind(sector: &Sector) -> u32
     kind_number(kind(sector))
 }
 
-/// Writes the address of a block to `bcd`, as [`address_of`], and returns whether it has one. Else `bcd` stays.
+/// Writes the address of a block to `bcd`, as [`address_of`], and returns whether the block has
+/// one. If it has none, `bcd` does not change.
 #[unsafe(no_mangle)]
 pub extern "C" fn cdpatch_address(block: u32, bcd: &mut [u8; 3]) -> bool
     ensures value { result ≡ true → address block ≡ Some bcd.new }
@@ -64,7 +65,8 @@ pub extern "C" fn cdpatch_address(block: u32, bcd: &mut [u8; 3]) -> bool
     }
 }
 
-/// Makes `sector` the one consistent sector with this address and user data, as [`encode_into`].
+/// Writes to `sector` the one consistent sector with this address and user data, as
+/// [`encode_into`].
 #[unsafe(no_mangle)]
 pub extern "C" fn cdpatch_encode(bcd: &[u8; 3], user: &[u8; USER_SIZE], sector: &mut Sector)
     ensures consistent { IsConsistent sector.new }
@@ -76,7 +78,7 @@ pub extern "C" fn cdpatch_encode(bcd: &[u8; 3], user: &[u8; USER_SIZE], sector: 
     encode_into(sector, *bcd, user);
 }
 
-/// Makes the P and Q parity, as [`fill_parity`].
+/// Computes the P and Q parity of a sector from its other bytes, as [`fill_parity`].
 #[unsafe(no_mangle)]
 pub extern "C" fn cdpatch_fill_parity(sector: &mut Sector)
     ensures words { AllCodeWords sector.new }
@@ -85,7 +87,7 @@ pub extern "C" fn cdpatch_fill_parity(sector: &mut Sector)
     fill_parity(sector);
 }
 
-/// Whether a sector is of Mode 1, without any defect, as [`is_consistent`].
+/// Whether a sector is a Mode 1 sector without any defect, as [`is_consistent`].
 #[unsafe(no_mangle)]
 pub extern "C" fn cdpatch_is_consistent(sector: &Sector) -> bool
     ensures { result ≡ consistent sector.now }
@@ -93,7 +95,8 @@ pub extern "C" fn cdpatch_is_consistent(sector: &Sector) -> bool
     is_consistent(sector)
 }
 
-/// Writes to `found` what is wrong with a sector, taken as one of Mode 1, as [`defect`].
+/// Writes the defects of a sector to `found`, as [`defect`]. The sector is treated as a Mode 1
+/// sector.
 #[unsafe(no_mangle)]
 pub extern "C" fn cdpatch_find_defect(sector: &Sector, found: &mut FoundDefect)
     ensures zeros { found.new.zeros ≡ as_byte (list_any is_nonzero (defect_of sector.now).zeros) }

@@ -2,7 +2,7 @@
 
 ghost use Rattle.cd_c.specs.EnoughRoom.{TextsAreShort};
 
-/// A text of `list` or of `audit` has at most 100 bytes, and 40 for each whole sector.
+/// A text of `list` or `audit` has at most 100 bytes, plus 40 for each whole sector.
 pub fn texts_are_short()
     ensures { TextsAreShort }
 {}

@@ -1,4 +1,4 @@
-//! What is found of many sectors, a record each.
+//! The call of C that examines many sectors, and writes a record for each.
 
 ghost use Rattle.std.specs.Prelude.{◌≡◌, ◌+◌, ◌<◌, ◌^◌, ◌↔◌, IsTrue, false, length, map, true};
 ghost use Rattle.cd_sector.specs.Kind.{kind_number, kind_of};
@@ -12,14 +12,14 @@ use crate::kinds::kind_number;
 use cd_report::{Findings, has_other_address};
 use cd_sector::{DefectReport, Sector, SectorKind, kind};
 
-/// What is found of a sector, as C's `struct cdpatch_record`. All but `kind` are 0 if it is not of
-/// Mode 1.
+/// The kind and the findings of a sector, as C's `struct cdpatch_record`. All fields but `kind` are
+/// 0 if the sector is not of Mode 1.
 #[derive(Clone, Copy)]
 #[repr(C)]
 pub struct SectorRecord {
-    /// The kind, in the order of [`SectorKind`] from 0 on.
+    /// The kind, a number of `enum cdpatch_sector_kind`.
     pub kind: u8,
-    /// 1 if the header's address is another than that of the block.
+    /// 1 if the address in the header is not the address of the block.
     pub address: u8,
     /// 1 if a byte of the Intermediate field is not `00`.
     pub zeros: u8,
@@ -31,7 +31,7 @@ pub struct SectorRecord {
     pub q: u8,
 }
 
-/// Proof step: what is wrong, by the definition that the text of an audit is stated in.
+/// Proof step: the defects of a sector, by the definition that the text of an audit uses.
 #[tactic(auto, unfolding(cd_report::specs::AuditText::report_of))]
 fn report_of(sector: &Sector) -> DefectReport
     ensures { result ≡ report_of sector.now }
@@ -39,7 +39,7 @@ fn report_of(sector: &Sector) -> DefectReport
     defect(sector)
 }
 
-/// What is found of the sector of a block, which is of this kind; None if it is not of Mode 1.
+/// The findings in the sector of a block, which is of this kind; `None` if it is not of Mode 1.
 #[tactic(auto, unfolding(cd_report::specs::AuditText::findings_of))]
 fn findings_of(sector: &Sector, kind: SectorKind, block: u32) -> Option<Findings>
     requires { kind ≡ kind_of sector.now }
@@ -81,9 +81,9 @@ fn record_of(sector: &Sector, block: u32) -> SectorRecord
     }
 }
 
-/// Writes a record of each sector, the first of which is that of `block`, and returns true. It
-/// returns false and writes nothing if there are not as many records as sectors, or if `block` and
-/// their number have a sum above 4,294,967,295.
+/// Writes a record for each sector, and returns whether this was possible. The first sector is that
+/// of `block`. If there are not as many records as sectors, or the sum of `block` and the number of
+/// sectors exceeds 4,294,967,295, it writes nothing and returns false.
 #[unsafe(no_mangle)]
 pub extern "C" fn cdpatch_survey(
     sectors: &[Sector],

@@ -1,4 +1,4 @@
-//! Words for what a call of C returns.
+//! The texts for the results of calls of C.
 
 ghost use Rattle.std.specs.Prelude.{◌≡◌, ◌++◌, ◌≤◌, drop, length};
 ghost use Rattle.cd_c.specs.Texts.{result_text};
@@ -6,7 +6,7 @@ ghost use Rattle.cd_c.specs.Texts.{result_text};
 use cd_line::LINE_SIZE;
 use cd_patch::result_numbers::{DAMAGED, DIFFERS, NO_BLOCK, NO_PATCH, NOT_MODE1, OK, OUT_OF_RANGE};
 
-/// The words for a result; none for any other number.
+/// The words for a result; empty for any other number.
 #[tactic(auto, unfolding(crate::specs::Texts::result_text))]
 fn words_for(number: u32) -> &'static [u8]
     ensures words { result.now ≡ result_text number }
@@ -24,8 +24,8 @@ fn words_for(number: u32) -> &'static [u8]
     }
 }
 
-/// Writes the words for a result to the front of `text`, and returns how many bytes they have: 0 for any other number. The rest
-/// of `text` stays.
+/// Writes the words for a result to the front of `text`, and returns their size in bytes: 0 for any
+/// other number. The rest of `text` does not change.
 #[unsafe(no_mangle)]
 pub extern "C" fn cdpatch_result_text(number: u32, text: &mut [u8; LINE_SIZE]) -> usize
     ensures count { result ≡ length (result_text number) }

@@ -2,7 +2,8 @@
 
 ghost use Rattle.std.specs.Prelude.{◌≡◌};
 
-/// The version as a number: 10000 times its first number, 100 times its second and its third.
+/// The version as one number: 10000 times its first part, plus 100 times its second, plus its
+/// third.
 pub const VERSION: u32 = 10300;
 
 /// The version of the library, [`VERSION`].

@@ -48,7 +48,7 @@ module _ {settings : Settings} {image text : List ℕ} {log middle log' : Outgoi
   applies-on done =
       AppliesInMemory.applied within patches takes.0 left (rw (fresh, takes.1) at done)
 
--- ---- each sink stands over the same slice
+-- ---- each sink keeps its slice
 
 module _ {settings : Settings} {image text : List ℕ} {status : ℕ} where
   pub checks-lent : {log log' : Outgoing} → ChecksInMemory settings image text log log' status

@@ -1,4 +1,4 @@
--- The clauses of the calls: the plain ones follow from the whole one.
+-- The clauses of the calls: the simple ones follow from the complete one.
 use Rattle.std.proofs.Common.{◌≡◌, ◌≢◌, ℕ, ◌+◌, ◌<◌, ◌⊎◌, false, List, [], length}
 use Rattle.std.proofs.Common.{inl, inr, refl, ap, ◌∙◌, arith}
 use Rattle.cd_args.specs.declared.settings.Settings.{Settings}

@@ -1,4 +1,4 @@
--- What an `apply` that failed has sent.
+-- The output of an `apply` that failed.
 use Rattle.std.proofs.Common.{◌≡◌, ◌≢◌, ℕ, ◌<◌, ◌==◌, ◌⊎◌, false, List, []}
 use Rattle.std.proofs.Common.{length, take, Some, Result, Ok, Err, inl, inr, refl, sym, ap, ◌∙◌}
 use Rattle.std.proofs.Common.{◌+◌, ◌≤◌, ◌++◌, subst, arith, length-append}
@@ -50,14 +50,14 @@ module _ (settings : Settings) (patches : List Patch) (image : List ℕ) (left :
       (subst (λ b. MayBeImage a.read (take image_limit b)) (sym a.consumes)
       (Fits-beyond a.read left.rest.now (omega (arith, a.answers.beyond)))) outcomes last patched).0
 
--- the image is too long, by what was read of it
+-- the image is too long, by the bytes that were read
 beyond-limit : (image read left : List ℕ) → image ≡ read ++ left
     → length read ≡ image_limit + 1 → image_limit < length image
 beyond-limit image read left is beyond =
     omega (arith, ap length is, length-append read left, beyond)
 
--- why a call failed: the image is too long; or a write to the output failed, and if its flush can't
--- fail, not all of the image was sent; or the log is too long for its memory
+-- why a call failed: the image is too long; or a write to the output failed, and if its flush
+-- cannot fail, not all of the image was sent; or the log is too long for its memory
 module _ (settings : Settings) (patches : List Patch) (image : List ℕ) (left : SliceSource)
     (out made : Outgoing) (lent : MutBor (List ℕ)) (middle after : Outgoing) (log log' : List ℕ)
     (size status : ℕ) (fills : FillsFront after log log') (counted : size ≡ length fills.text) where

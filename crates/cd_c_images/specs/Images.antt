@@ -1,4 +1,4 @@
--- What `check` and `apply` do on an image and a script in memory.
+-- The effects of `check` and `apply` for an image and a script in memory.
 use Rattle.std.specs.Prelude.{◌≡◌, ℕ, ◌<◌, ◌≤◌, List, length, Result, Ok}
 use Rattle.std.specs.Prelude.{Err}
 use Rattle.cd_args.specs.declared.settings.Settings.{Settings}
@@ -22,19 +22,19 @@ use Rattle.cd_stream.specs.declared.adapters.slice_source.SliceSource.{SliceSour
 
 -- ---- scripts
 
--- the patches of a script's text, in the order in which they are taken
+-- the patches of a script's text, in the order in which they are applied
 pub record HasScript (text : List ℕ) (patches : List Patch) : Type 0 where
   pub within : length text ≤ text_limit
   pub reads : (ps : List Patch) × (script text ≡ Ok ps) × (patches ≡ order ps)
 
--- why a text gives no patches, and the line that says so
+-- why a text is not a valid script, and the line that reports this
 pub data HasNoScript (text line : List ℕ) : Type 0 where
   too_long : text_limit < length text → line ≡ load_fault_line load_fault.TooLong
       → HasNoScript text line
   faulty : length text ≤ text_limit → (fault : ScriptFault) → IsFaultOf text fault
       → line ≡ script_fault_line fault → HasNoScript text line
 
--- the text is a script, and nothing is printed; or it is none, and a line is
+-- the text is a script, and nothing is printed; or it is not a valid script, and a line is printed
 abbrev pub TakesText : List ℕ → Outgoing → Outgoing → Result (List Patch) ℕ → Type 0
 TakesText text log log' (Ok patches) = HasScript text patches × (log' ≡ log)
 TakesText text log log' (Err status) =
@@ -42,8 +42,8 @@ TakesText text log log' (Err status) =
 
 -- ---- `check`
 
--- a base that no image has prints nothing; a text that is no script prints just why; else the
--- command runs, and `left` is what it leaves of the image
+-- a base that is too large prints nothing; a text that is not a valid script prints only the
+-- reason; otherwise, the command runs, and `left` is what it leaves of the image
 pub data ChecksInMemory (settings : Settings) (image text : List ℕ) (log log' : Outgoing)
     (status : ℕ) : Type 0 where
   outside : base_limit < settings.base → status ≡ failed_status → log' ≡ log
@@ -57,7 +57,7 @@ pub data ChecksInMemory (settings : Settings) (image text : List ℕ) (log log' 
 
 -- ---- `apply`
 
--- as `check`; without patches nothing goes out
+-- as for `check`; without patches, nothing is written to the output
 pub data AppliesInMemory (settings : Settings) (image text : List ℕ)
     (out out' log log' : Outgoing)
     (status : ℕ) : Type 0 where

@@ -1,4 +1,4 @@
--- What the calls that take a script to an image in memory do, in plain words.
+-- The effects of `cdpatch_check` and `cdpatch_apply`, in simpler terms.
 use Rattle.std.specs.Prelude.{◌≡◌, ℕ, ◌<◌, ◌⊎◌, List, length, take}
 use Rattle.cd_args.specs.declared.settings.Settings.{Settings}
 use Rattle.cd_image.specs.Applying.{patch_tally}
@@ -12,14 +12,14 @@ use Rattle.cd_script.specs.PatchForm.{Patch}
 use Rattle.cd_stream.specs.Stream.{IsBeginning}
 use Rattle.cd_c_images.specs.Images.{HasNoScript, HasScript}
 
--- the log of these outcomes was written, and the status is that of their counts
+-- the log of these outcomes was written, and the status follows from their counts
 pub record WritesLines (patches : List Patch) (image : List ℕ) (outcomes : List Outcome)
     (log log' : List ℕ) (size status : ℕ) : Type 0 where
   pub holds : Holds (log_text patches outcomes) log log'
   pub counted : size ≡ length (log_text patches outcomes)
   pub tally : status ≡ script_status (patch_tally image outcomes)
 
--- the text is a script, and this holds of the way in which its patches are taken on the image
+-- the text is a script, and this holds for each way of patching the image by it
 pub record TakesPatches (settings : Settings) (image text : List ℕ)
     (Does : List Patch → List Outcome → List ℕ → Type 0) : Type 0 where
   pub patches : List Patch
@@ -33,16 +33,16 @@ pub record HasShortLog (settings : Settings) (patches : List Patch) (image log :
   pub longer : EachPatching settings.carry patches settings.base image
       (λ outcomes last. length log < length (log_text patches outcomes))
 
--- why a check fails: no image has its base, the image is too long, the text is no script, or the
--- log of its patches is too long
+-- why a check fails: the base is too large, the image is too long, the text is not a valid script,
+-- or the log of its patches is too long
 abbrev pub CheckFails : Settings → List ℕ → List ℕ → List ℕ → ℕ → Type 0
 CheckFails settings image text log size =
     (base_limit < settings.base) ⊎ (image_limit < length image) ⊎ ((line : List ℕ) × HasNoScript text line)
     ⊎ ((patches : List Patch) × HasScript text patches
     × HasShortLog settings patches image log size)
 
--- what was sent to an output begins the patched image, in each way to patch the image, cut at the
--- largest size
+-- the bytes that were sent to an output are a prefix of the patched image, in each way of patching
+-- the image, cut at the largest size
 pub record SendsFront (settings : Settings) (patches : List Patch) (image out out' : List ℕ)
     : Type 0 where
   pub sent : List ℕ
@@ -50,9 +50,9 @@ pub record SendsFront (settings : Settings) (patches : List Patch) (image out ou
   pub begins : EachPatching settings.carry patches settings.base (take image_limit image)
       (λ outcomes last. IsBeginning sent last)
 
--- why an `apply` fails: no image has its base, or the text is no script, and then nothing was sent;
--- or the image is too long, or the output is full, and the image is longer than it, or the log of
--- the patches is too long
+-- why an `apply` fails: the base is too large, or the text is not a valid script, and then nothing
+-- was sent; or the image is too long, or the output is full, and the image is longer than it, or
+-- the log of the patches is too long
 pub data ApplyFails (settings : Settings) (image text out out' log : List ℕ) (size : ℕ)
     : Type 0 where
   outside : base_limit < settings.base → out' ≡ out → ApplyFails settings image text out out' log size

@@ -1,5 +1,5 @@
-//! The commands that take a script to an image in memory, each to memory that was lent. A base
-//! that no image has is a failure, with nothing written.
+//! The commands `check` and `apply` on an image in memory, with output to memory that the caller
+//! provides. A base above the last block with an address is a failure, and nothing is written.
 
 ghost use Rattle.std.specs.Prelude.{◌≡◌, ◌<◌};
 ghost use Rattle.cd_c_images.specs.Images.{AppliesInMemory, ChecksInMemory, TakesText};
@@ -13,8 +13,8 @@ use cd_program::{LoadFault, load_fault_line, print_and_fail, read_script, run_ap
 use cd_script::{MAX_TEXT, Script};
 use std::alloc::Global;
 
-/// The script of a text, as [`read_script`]. For one that is too long it prints the same line as
-/// for such a file.
+/// Reads a script from a text, as [`read_script`]. For a text that is too long, it prints the same
+/// line as for a file that is too long.
 fn script_of<L: Sink>(alloc: Global, text: &[u8], log: &mut L) -> Result<Script, u8>
     requires { CanCountFailure (L.seen log.old).failures }
     ensures { TakesText text.now (L.seen log.old) (L.seen log.new) result }
@@ -25,7 +25,7 @@ fn script_of<L: Sink>(alloc: Global, text: &[u8], log: &mut L) -> Result<Script,
     read_script(alloc, text, log)
 }
 
-/// The command `check`, as [`run_check`], after its script.
+/// Runs the command `check`, as [`run_check`], after reading its script.
 pub(crate) fn check_image(
     alloc: Global,
     image: &[u8],
@@ -51,7 +51,7 @@ pub(crate) fn check_image(
     }
 }
 
-/// The command `apply` over sinks, as [`run_apply`], after its script.
+/// Runs the command `apply` over sinks, as [`run_apply`], after reading its script.
 fn apply_to_sinks(
     alloc: Global,
     image: &[u8],
@@ -81,7 +81,7 @@ fn apply_to_sinks(
     }
 }
 
-/// The command `apply`, which writes the image to the front of `out`.
+/// Runs the command `apply`, and writes the image to the front of `out`.
 pub(crate) fn apply_image(
     alloc: Global,
     image: &[u8],
@@ -99,6 +99,6 @@ pub(crate) fn apply_image(
 {
     let mut made = SliceSink::new(out);
     let status = apply_to_sinks(alloc, image, script, settings, &mut made, log);
-    let _out = made.space; // so that the contract can name what it holds
+    let _out = made.space; // so that the contract can refer to its contents
     status
 }

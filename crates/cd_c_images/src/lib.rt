@@ -1,8 +1,9 @@
-//! The calls that take a script to a whole image in memory, `cdpatch_check` and `cdpatch_apply` of
-//! `cdpatch.h`. Each is the command of its name on that memory, and states the command's clauses
-//! again: the log goes to the front of what C lends for it, and so does the patched image. They
-//! take memory for the script. They test what C can get wrong, but not that pointers are valid and
-//! not null, and that what is written overlaps nothing else that is passed: C has to see to that.
+//! The calls of C that check or apply a script on an image in memory (`cdpatch_check` and
+//! `cdpatch_apply` of `cdpatch.h`). Each runs the command of its name on this memory, and repeats
+//! the clauses of the command. The log and the patched image are written to the front of the memory
+//! that the C program provides for them. The calls allocate memory for the script. They check their
+//! arguments, but not that pointers are valid and not null, and that their outputs overlap nothing
+//! else that is passed: the C program must ensure this.
 #![tactic(auto)]
 
 mod commands;

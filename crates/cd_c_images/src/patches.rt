@@ -1,4 +1,4 @@
-//! Calls of C that take a script to an image.
+//! The calls of C that check or apply a script on an image in memory.
 
 ghost use Rattle.std.specs.Prelude.{◌≡◌, ◌≢◌};
 ghost use Rattle.cd_args.specs.Fault.{failed_status};
@@ -12,8 +12,9 @@ use cd_args::Settings;
 use cd_image::SliceSink;
 use std::alloc::Global;
 
-/// Decides each patch of a script on an image, as the command `check`, and returns its status.
-/// `log` gets what the command prints, and `length` the number of bytes of it that were written.
+/// Reports what each patch of a script would do to an image, as the command `check`, and returns
+/// the status of the command. `log` gets the lines that the command prints, and `length` the number
+/// of bytes that were written to it.
 #[unsafe(no_mangle)]
 pub extern "C" fn cdpatch_check(
     alloc: Global,
@@ -37,12 +38,13 @@ pub extern "C" fn cdpatch_check(
     let settings = Settings::new(base, carry);
     let status = check_image(alloc, image, script, settings, &mut lines);
     *length = lines.used;
-    let _log = lines.space; // so that the contract can name what it holds
+    let _log = lines.space; // so that the contract can refer to its contents
     u32::from(status)
 }
 
-/// Patches an image to `out`, as the command `apply`, and returns its status. `log` gets what the
-/// command prints, and `length` the number of bytes of it that were written.
+/// Applies a script to an image, as the command `apply`, and returns the status of the command.
+/// `out` gets the patched image, `log` the lines that the command prints, and `length` the number
+/// of bytes that were written to `log`.
 #[unsafe(no_mangle)]
 pub extern "C" fn cdpatch_apply(
     alloc: Global,
@@ -67,6 +69,6 @@ pub extern "C" fn cdpatch_apply(
     let settings = Settings::new(base, carry);
     let status = apply_image(alloc, image, script, settings, out, &mut outcomes);
     *length = outcomes.used;
-    let _log = outcomes.space; // so that the contract can name what it holds
+    let _log = outcomes.space; // so that the contract can refer to its contents
     u32::from(status)
 }

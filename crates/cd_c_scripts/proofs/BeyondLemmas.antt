@@ -1,4 +1,4 @@
--- An image that goes on after its largest size.
+-- An image that is longer than the largest size.
 use Rattle.std.proofs.Common.{◌≡◌, ℕ, ◌+◌, ◌≤◌, Bool, List, [], ◌++◌, length, take, drop, None, refl, sym, ap, ◌∙◌, subst, arith, length-append, append-nil, take_all, take_at, take-append-drop}
 use Rattle.std.proofs.lemmas.List.{length-take-le}
 use Rattle.cd_script.specs.PatchForm.{Patch}

@@ -1,4 +1,5 @@
--- What a client has done with a step, and what it leaves where that fails: as `apply` of cd_image.
+-- The effects of a client that carries out a step, also if the step fails: as those of `apply` of
+-- cd_image.
 use Rattle.std.proofs.Common.{◌≡◌, ◌≢◌, ℕ, zero, suc, ◌+◌, ◌*◌, ◌/◌, ◌<◌, ◌≤◌, ◌⊎◌, inl, inr, Bool, true, false, List, [], ◌∷◌, ◌++◌, length, take, drop, Option, None, Some, Result, Ok, Err, refl, sym, ap, ◌∙◌, subst, arith, append_assoc, append-nil, length-append, take-append-drop, take_all}
 use Rattle.std.specs.Prelude.{All, IsSome, codes, decimal, ◌-◌, nat_eq}
 use Rattle.std.specs.List.{slice_index_or}
@@ -62,7 +63,7 @@ use Rattle.cd_c_scripts.proofs.InOrderLemmas.{whole_log-within}
 use Rattle.cd_c_scripts.proofs.MovedLemmas.{Found, asks_copy, asks_few, asks_read, asks_tail, asks_write, found}
 use Rattle.cd_c_scripts.proofs.TellingLemmas.{is_logged, not_logged, status_few}
 
--- ---- what a step asks for, by its kind
+-- ---- the request of a step, by its kind
 
 pub record ToRead (read : List ℕ) (run : ScriptRun) (step : RunStep) : Type 0 where
   pub asked : run.asked ≡ READING
@@ -115,7 +116,7 @@ module _ {patches : List Patch} {read sent : List ℕ} {run : ScriptRun} {step :
     | inr stopped ↦ (inr (omega (arith, stopped)), log.size)
   ]
 
--- ---- a client in the middle of a run has come as far as `apply`
+-- ---- a client in the middle of a run is as far as `apply`
 
 stage_some : (stage : ℕ) (bytes : List ℕ) → IsSome (tail_at stage bytes) → 0 < stage
 stage_some zero bytes some = never_some None refl some
@@ -144,7 +145,7 @@ module _ {carry : Bool} {patches : List Patch} {base : ℕ} {read sent log_bytes
     state = h.state;
   })
 
--- no more is in hand than may be
+-- no more sectors are in hand than may be
 sent_least : (done : List (List ℕ)) (end : Option (List ℕ)) (closed : Bool)
     → length (bytes_of done) ≤ length (sent_bytes done end closed)
 sent_least done end true = omega (arith, length-append (bytes_of done) (tail_bytes end))
@@ -168,11 +169,11 @@ going_few {machine = machine} h =
       h.state.counts.held,
     )
 
--- so many bytes at most
+-- at most n elements
 pub few_taken : (n : ℕ) (l : List ℕ) → length (take n l) ≤ n
 few_taken n l = omega (arith, length-take n l)
 
--- no more, and not as many
+-- a number that is at most another one, and is not equal to it, is less
 pub less_by : (a b : ℕ) → a ≤ b → nat_eq a b ≡ false → a < b
 less_by a b few differs = omega (arith, few, eqb-false a b differs)
 
@@ -191,7 +192,7 @@ line_short n size text less = omega (arith, less, length-take size text)
 module _ {carry : Bool} {text : List ℕ} {es : List Entry} {patches : List Patch} {base : ℕ}
     {start now : Streams} {run : ScriptRun} {hand : List (List ℕ)} {step : RunStep}
     (l : IsLed carry text es patches base start now run hand step) where
-  -- the state of a run that asks for bytes
+  -- the state of a run that requests bytes
   pub going : step.kind < log_kind → run.asked < OVER
       → Found text es patches base l.read l.sent l.log_bytes run hand
   going moves few =
@@ -216,7 +217,7 @@ module _ {carry : Bool} {text : List ℕ} {es : List Entry} {patches : List Patc
     ready : (run.machine.stage ≡ 0) × (run.machine.held < block_limit)
     ready = (asks_read f.asks told.asked).0.0
 
-    -- what may come: a sector, or after the largest size a byte
+    -- the bytes that may be read: a sector, or one byte after the largest size
     may_come : ((run.machine.sectors < sector_limit) ⊎ (run.size ≡ 1)) × (run.size ≤ SECTOR_SIZE)
     may_come = ((asks_read f.asks told.asked).2, (asks_read f.asks told.asked).1)
 
@@ -230,7 +231,7 @@ module _ {carry : Bool} {text : List ℕ} {es : List Entry} {patches : List Patc
         pass h l.moved (λ some. l.ended (inr some)) refl (tail_none run.machine.stage h.tail ready.0)
         (ap closed_at ready.0)
 
-    -- the client ends by a fault of the image
+    -- the client ends with a fault of the image
     ends : {image : Incoming} (fault : Fault)
         → ReadsSector run.machine.sectors [] now.image image (Err fault)
         → Applies carry patches base start (record now { image = image }) (Err fault)
@@ -279,7 +280,7 @@ module _ {carry : Bool} {text : List ℕ} {es : List Entry} {patches : List Patc
             full = omega (arith, full);
           })
 
-    -- the bytes have come
+    -- the bytes were read
     pub reads : {E : Type 0} {image : Incoming} {hand' : List (List ℕ)} {n : ℕ}
         → length (slice_index_or hand' run.machine.held []) ≡ SECTOR_SIZE
         → Fills {E = E} now.image image (take step.size (slice_index_or hand' run.machine.held [])) (Ok n)
@@ -442,7 +443,7 @@ module _ {carry : Bool} {text : List ℕ} {es : List Entry} {patches : List Patc
 
 -- ---- COPY
 
--- what was passed on
+-- the bytes that were copied
 pub record HasPassed (done : ℕ) (image image' : Incoming) (out out' : Outgoing) : Type 0 where
   pub bytes : List ℕ
   pub size : length bytes ≡ done
@@ -687,7 +688,7 @@ module _ {carry : Bool} {text : List ℕ} {es : List Entry} {patches : List Patc
 
 -- ---- LOG
 
--- the size of bytes by their sectors and their tail
+-- the size of bytes, from their sectors and their tail
 size_of : (bytes : List ℕ)
     → length bytes ≡ SECTOR_SIZE * length (sectors bytes) + length (tail bytes)
 size_of bytes =
@@ -711,7 +712,7 @@ patched_size image last p =
       ap length p.same_tail,
     )
 
--- an image that may be the one that is read may be coming
+-- an image that may be the one that is read may be the image of the run
 pub may_come_at : (left : Option (List ℕ)) (run : ScriptRun) (read whole : List ℕ)
     → length read ≤ image_limit → MayBeImageAtEnd left read whole
     → ((run.asked ≡ OVER) ⊎ (0 < run.machine.stage) → IsAtEnd left) → MayCome run read whole
@@ -734,7 +735,7 @@ may_come_at (Some (x ∷ xs)) run read whole within fits ended = record {
 module _ {carry : Bool} {text : List ℕ} {es : List Entry} {patches : List Patch} {base : ℕ}
     {start now : Streams} {run : ScriptRun} {hand : List (List ℕ)} {step : RunStep}
     (l : IsLed carry text es patches base start now run hand step) (kind : step.kind ≡ log_kind) where
-  -- no more is in hand than may be, whether or not the run is over
+  -- no more bytes are in hand than may be, whether or not the run is over
   in_hand_by : (log_bytes : List ℕ)
       → IsRunning text es patches base l.read l.sent log_bytes run hand
       → length l.read ≤ length l.sent + bytes_in_hand
@@ -884,7 +885,7 @@ led_next {text = text} {es = es} {patches = patches} {base = base} {now = now} {
     by_running (IsRunning.long stopped long) is =
         absurd (omega (arith, long.goes_beyond.beyond, t.within))
 
--- the first step: nothing was asked for before
+-- the first step: nothing was requested before
 pub led_first : {carry : Bool} {text : List ℕ} {es : List Entry} {patches : List Patch} {base : ℕ}
     {run : ScriptRun} {hand : List (List ℕ)} (start : Streams) → IsBegun text es patches base run
     → carries run.flags ≡ carry → run.image_size ≡ unknown_size
@@ -964,7 +965,7 @@ log_size : (ps : List Patch) (os : List Outcome)
 unfolding log_text
 log_size ps os = (_, length-append (log_lines ps os) _)
 
--- after the whole log the whole image has gone out
+-- once the whole log is written, the whole image is written
 sent_at_end : (ps : List Patch) (os : List Outcome) (base : ℕ) (image : List ℕ)
     → length os ≡ length ps
     → sent_when_log_fails ps os base image (length (log_text ps os)) ≡ length image
@@ -1008,7 +1009,7 @@ module _ {carry : Bool} {text : List ℕ} {es : List Entry} {patches : List Patc
   ended : HasEnded now.image
   ended = l.ended (inl over.0)
 
-  -- what holds of this run holds of each on each image that fits
+  -- a property of this run holds for each way of patching each image that matches it
   by_run : (Holds : List ℕ → List Outcome → List ℕ → Type 0) → Holds l.read d.outcomes l.sent
       → (whole : List ℕ) → MayBeImageAtEnd now.image.rest l.read whole
       → EachPatching carry patches base whole (Holds whole)

@@ -1,4 +1,4 @@
--- The patch that is next, by the entries of a script.
+-- The next patch, from the entries of a script.
 use Rattle.std.proofs.Common.{◌≡◌, ℕ, zero, suc, ◌<◌, ◌≤◌, ◌⊎◌, List, [], ◌∷◌, length, drop, get_or, Option, Some, Ok, refl, ap, ◌∙◌, subst, sym, arith, true, false}
 use Rattle.std.specs.List.{slice_get}
 use Rattle.std.specs.Prelude.{All, cond, take, Result}
@@ -30,7 +30,7 @@ cons_of : (ps : List Patch) → 0 < length ps → (p : Patch) × (others : List 
 cons_of [] some = absurd (omega arith)
 cons_of (p ∷ ps) some = (p, ps, refl)
 
--- the patch that is next, of an entry
+-- the next patch, which is the patch of an entry
 pub record Next (text : List ℕ) (version : Version) (flags : ℕ) (e : Entry) (ps : List Patch) (d : ℕ) : Type 0 where
   pub p : Patch
   pub others : List Patch
@@ -69,7 +69,7 @@ pub record Met (e : Entry) : Type 0 where
   pub some : 0 < e.blocks_met
   pub few : e.blocks_met ≤ block_limit
 
--- a patch begins and meets the same without its old bytes
+-- without its old bytes, a patch begins in the same block and touches the same blocks
 pub asked_block : (flags : ℕ) (p : Patch) → (as_asked flags p).block ≡ p.block
 asked_block flags p = grind arith
 
@@ -91,7 +91,7 @@ asked_met flags p = elim (compares flags) as (λ b. blocks_met (cond b p (withou
   | false ↦ met_without p
 ]
 
--- what an entry says of its patch
+-- the numbers of a patch in its entry
 pub record Said (e : Entry) (p : Patch) : Type 0 where
   pub block : p.block ≡ e.block
   pub line : p.line ≡ e.number
@@ -115,7 +115,7 @@ entry_meets {ps = ps} {d = d} list next =
       few = omega (arith, most, said.met);
     }
 
--- what was read of the line of an entry
+-- the line of an entry, read again, gives a patch
 pub patch_comes : {text : List ℕ} {named : Version} {flags : ℕ} {e : Entry} {p : Patch}
     {bytes : List ℕ} {read : Option (Option Version)} {v : Option Version}
     {result : Result LineContent ScriptFault}
@@ -127,7 +127,7 @@ patch_comes {text} {named} {flags} {e} {p} {bytes} {read} {v} {result} entry is 
     meaning ∙ ap (λ u. meaning_at u e.number 0 bytes) same
     ∙ ap (λ l. meaning_at (Some named) e.number 0 l) line ∙ entry.reads.1
 
--- what was read of the line of an entry is its patch
+-- the patch that was read from the line of an entry is the entry's patch
 pub same_patch : {text : List ℕ} {named : Version} {flags : ℕ} {e : Entry} {p found : Patch}
     {bytes : List ℕ} {read : Option (Option Version)} {v : Option Version}
     {result : Result LineContent ScriptFault}
@@ -150,7 +150,7 @@ looks_of left machine Send why = tt
 looks_of left machine SendTail why = tt
 looks_of left machine End why = tt
 
--- ---- the patches as the flags want them
+-- ---- the patches as the flags require them
 
 pub map_at : (flags : ℕ) (ps : List Patch) (k : ℕ) (d e : Patch) → k < length ps
     → get_or (all_as_asked flags ps) k d ≡ as_asked flags (get_or ps k e)
@@ -222,7 +222,7 @@ IsPatchList-asked flags ps list =
           );
     }
 
--- a step that moves bytes that have not come
+-- a step that needs bytes that were not read or copied yet
 pub record IsOpen (left : List Patch) (machine : PatchRun) : Type 0 where
   pub early : machine.stage ≡ 0
   pub ahead : All (λ p. machine.block ≤ p.block) left

@@ -1,4 +1,4 @@
--- How far a run of C's has come, step by step.
+-- The progress of a run in C, step by step.
 use Rattle.std.proofs.Common.{◌≡◌, ℕ, suc, ◌+◌, ◌*◌, ◌<◌, ◌≤◌, Bool, true, ◌⊎◌, inl, inr, List, [], ◌∷◌, ◌++◌, length, take, drop, Some, refl, sym, ap, ◌∙◌, subst, arith, length-append, append-nil, add-one}
 use Rattle.std.specs.Prelude.{All, ◌-◌}
 use Rattle.std.specs.List.{slice_get, slice_index_or}
@@ -26,7 +26,7 @@ use Rattle.cd_c_scripts.specs.Runs.{Going, IsDone, SameInHand, status_of}
 
 -- ---- the tail
 
--- a tail of the same size serves as well
+-- a tail can be replaced by one of the same size
 pub Reached-tail : {carry : Bool} {taken left : List Patch} {base : ℕ}
     {seen done window : List (List ℕ)} {outcomes : List Outcome} {block sectors applied : ℕ}
     {old : List ℕ} {closed : Bool} (new : List ℕ) → length new ≡ length old
@@ -62,7 +62,7 @@ module _ {carry : Bool} {patches : List Patch} {base : ℕ} {read sent log_bytes
         ∙ sym (tail_none machine.stage _ (omega (arith, none)))
   ]
 
-  -- until the tail has gone out, the hand has all that is known
+  -- until the tail is written, the hand contains everything that is known
   pub underway : machine.stage ≤ 1 → Underway carry patches base read sent log_bytes machine hand
   underway early = record {
     seen = h.seen;
@@ -79,7 +79,7 @@ module _ {carry : Bool} {patches : List Patch} {base : ℕ} {read sent log_bytes
     logged = h.logged;
   }
 
-  -- the hand may change where the run does not look
+  -- the hand may change where the run does not use it
   pub Going-hand : (hand' : List (List ℕ)) → SameInHand machine hand hand'
       → Going carry patches base read sent log_bytes machine hand'
   Going-hand hand' same = record {
@@ -97,7 +97,7 @@ module _ {carry : Bool} {patches : List Patch} {base : ℕ} {read sent log_bytes
     logged = h.logged;
   }
 
--- what the hand has is what is known
+-- the converse: the known tail is the one that the hand contains
 pub going : {carry : Bool} {patches : List Patch} {base : ℕ} {read sent log_bytes : List ℕ}
     {machine : PatchRun} {hand : List (List ℕ)}
     → Underway carry patches base read sent log_bytes machine hand
@@ -126,7 +126,7 @@ module _ {carry : Bool} {patches : List Patch} {base : ℕ} {read sent log_bytes
     {old : PatchRun} {hand : List (List ℕ)}
     (h : Going carry patches base read sent log_bytes old hand) (new : PatchRun)
     (sound : IsRun new) (decided : new.decided ≡ old.decided) where
-  -- a sector has come
+  -- a sector was read
   pub Going-sector : old.stage ≡ 0 → new.stage ≡ old.stage → (came : List ℕ)
       → ((u : Underway carry patches base read sent log_bytes old hand)
       → Holds carry (take old.decided patches) (drop old.decided patches) base
@@ -170,7 +170,7 @@ module _ {carry : Bool} {patches : List Patch} {base : ℕ} {read sent log_bytes
       (ap closed_at early) (ap closed_at early') (goes u))
       (λ some. absurd (omega (arith, some, early')))
 
-  -- a tail was copied, of which the machine knows the size
+  -- a tail was copied, and the machine knows its size
   pub Going-closed : old.stage ≡ 0 → new.stage ≡ 2 → (rest : List ℕ) → length rest ≡ new.tail
       → length (take new.tail (slice_index_or hand new.held [])) ≡ new.tail
       → ((u : Underway carry patches base read sent log_bytes old hand)
@@ -206,7 +206,7 @@ module _ {carry : Bool} {patches : List Patch} {base : ℕ} {read sent log_bytes
         logged = rw decided u.logged;
       }
 
-  -- the tail in hand has gone out
+  -- the tail in hand was written
   pub Going-sent_tail : old.stage ≡ 1 → new.stage ≡ 2 → new.tail ≡ old.tail → (hand' : List (List ℕ))
       → ((u : Underway carry patches base read sent log_bytes old hand)
       → Holds carry (take old.decided patches) (drop old.decided patches) base
@@ -238,7 +238,7 @@ module _ {carry : Bool} {patches : List Patch} {base : ℕ} {read sent log_bytes
         logged = rw decided u.logged;
       }
 
--- a sector has gone out
+-- a sector was written
 pub Going-sent : {carry : Bool} {patches : List Patch} {base : ℕ} {read sent log_bytes : List ℕ}
     {old : PatchRun} {hand : List (List ℕ)}
     (h : Going carry patches base read sent log_bytes old hand) (new : PatchRun)
@@ -265,12 +265,12 @@ Going-start carry patches base machine hand sound block held sectors decided app
     going (Underway-start carry patches base machine hand sound block held sectors decided applied stage)
     (λ some. absurd (omega (arith, some, stage)))
 
--- ---- what is known of the numbers
+-- ---- the numbers of the machine
 
 module _ {carry : Bool} {patches : List Patch} {base : ℕ} {read sent log_bytes : List ℕ}
     {machine : PatchRun} {hand : List (List ℕ)}
     (h : Going carry patches base read sent log_bytes machine hand) where
-  -- nothing has come, or no patch left begins before the front block
+  -- nothing was read, or no remaining patch begins before the front block
   pub Going-begun : ((machine.sectors ≡ 0) × (machine.stage ≡ 0))
       ⊎ All (λ p. machine.block ≤ p.block) (drop machine.decided patches)
   Going-begun = elim h.state.ahead [
@@ -294,7 +294,7 @@ module _ {carry : Bool} {patches : List Patch} {base : ℕ} {read sent log_bytes
   Going-small small =
       omega (arith, h.state.counts.front, h.state.counts.held, h.state.counts.count, small)
 
-  -- how much has come, while more may
+  -- the number of bytes that were read, while more may follow
   pub Going-read : machine.stage ≡ 0 → length read ≡ SECTOR_SIZE * machine.sectors
   Going-read early =
       omega (
@@ -305,7 +305,7 @@ module _ {carry : Bool} {patches : List Patch} {base : ℕ} {read sent log_bytes
         h.state.counts.count,
       )
 
-  -- how much has gone out, before the tail has
+  -- the number of bytes that were written, before the tail is
   pub Going-sent-size : machine.stage ≤ 1 → machine.held ≤ length hand
       → length sent ≡ SECTOR_SIZE * (machine.sectors - machine.held)
   Going-sent-size early room =
@@ -319,7 +319,7 @@ module _ {carry : Bool} {patches : List Patch} {base : ℕ} {read sent log_bytes
         length-take-le machine.held hand room,
       )
 
--- bytes in sectors and a rest
+-- bytes that are cut into sectors and a rest
 pub record Cut (bytes : List ℕ) (done : ℕ) : Type 0 where
   pub more : List (List ℕ)
   pub rest : List ℕ
@@ -353,11 +353,11 @@ none_of (b ∷ bs) size = absurd (omega (arith, size))
 
 -- ---- a patch is decided
 
--- the hand's tail in place of the one that is known, and back
+-- the tail in the hand in place of the known one, and back
 module _ {carry : Bool} {patches : List Patch} {base : ℕ} {read sent log_bytes : List ℕ}
     {machine : PatchRun} {hand : List (List ℕ)}
     (h : Going carry patches base read sent log_bytes machine hand) where
-  -- what the machine knows, by the hand alone
+  -- the state of the machine, from the hand alone
   pub by_hand : (0 < machine.stage → length (slice_index_or hand machine.held []) ≡ SECTOR_SIZE)
       → Holds carry (take machine.decided patches) (drop machine.decided patches) base h.seen h.done
       h.outcomes machine hand

@@ -1,4 +1,4 @@
--- How far the output and the log have come, whatever may still come of the image.
+-- The progress of output and log, whatever the rest of the image is.
 use Rattle.std.proofs.Common.{◌≡◌, ℕ, zero, suc, ◌+◌, ◌*◌, ◌/◌, ◌<◌, ◌≤◌, Bool, inl, inr, List, [], ◌∷◌, ◌++◌, length, take, drop, Option, Some, refl, sym, ap, ◌∙◌, subst, arith, length-append, add-one, append-nil, append_assoc, take_all, take_at, take-append-drop}
 use Rattle.std.specs.Prelude.{All, IsSome}
 use Rattle.std.specs.List.{slice_get}
@@ -28,9 +28,9 @@ use Rattle.cd_c_scripts.specs.InOrder.{Begins, whole_log}
 use Rattle.cd_c_scripts.specs.Runs.{Going, IsBeyond, IsDone}
 use Rattle.cd_c_scripts.proofs.GoingLemmas.{none_of as no_bytes}
 
--- ---- images that may be coming
+-- ---- images that the run may have
 
--- an image whose first sectors are those that have come; once it has ended it has no more
+-- an image whose first sectors are those that were read; once it has ended, it has no others
 pub record Extends (seen : List (List ℕ)) (end : Option (List ℕ)) (image : List ℕ) : Type 0 where
   pub more : List (List ℕ)
   pub cut : sectors image ≡ seen ++ more
@@ -58,7 +58,7 @@ extends_by (suc n) seen rest read image sized is short within begins ended = rec
   unended = λ some. refl;
 }
 
--- the sectors of an image, by its size
+-- the number of sectors of an image, from its size
 pub sectors-size : (image : List ℕ) → length image / SECTOR_SIZE ≡ length (sectors image)
 sectors-size image =
     let cut = IsCut-sectors image in
@@ -78,7 +78,7 @@ bytes_of-begins front others last cut = (
   sym (IsCut-sectors last).joined ∙ simp (cut, bytes_of-append, append_assoc),
 )
 
--- the lines of the first patches begin the log
+-- the lines of the first patches are a prefix of the log
 log_text-begins : (taken left : List Patch) (front back : List Outcome)
     → length front ≡ length taken
     → Begins (log_lines taken front) (log_text (taken ++ left) (front ++ back))
@@ -88,7 +88,7 @@ log_text-begins taken left front back same = (
   rw (log_lines-append taken left front back same, append_assoc),
 )
 
--- the whole log, of an image that is not too long
+-- the whole log of an image that is not too long
 pub whole_log-within : (patches : List Patch) (outcomes : List Outcome) (base : ℕ) (read : List ℕ)
     → length read ≤ image_limit → whole_log patches outcomes base read ≡ log_text patches outcomes
 whole_log-within patches outcomes base read within =
@@ -96,7 +96,7 @@ whole_log-within patches outcomes base read within =
 
 -- ---- a run that is over
 
--- all was done
+-- everything was done
 pub done-in-order : {carry : Bool} {patches : List Patch} {base : ℕ} {read sent log_bytes : List ℕ}
     {status : ℕ} → IsDone carry patches base read sent log_bytes status → {image : List ℕ}
     → length image ≤ image_limit → image ≡ read → {os : List Outcome} {last : List ℕ}
@@ -114,7 +114,7 @@ done-in-order {carry = carry} {patches = patches} {base = base} {read = read} {s
       ),
     )
 
--- the image goes on after its largest size
+-- the image is longer than the largest size
 pub beyond-in-order : {carry : Bool} {patches : List Patch} {base : ℕ} {read sent log_bytes : List ℕ}
     → IsBeyond carry patches base read sent log_bytes → {image : List ℕ}
     → length image ≤ image_limit → Begins (take image_limit read) image → {os : List Outcome}
@@ -139,9 +139,9 @@ beyond-in-order {carry} {patches} {base} {read} {sent} {log_bytes} h {image} wit
           ∙ ap (λ l. l ++ long_image) (sym made.1),
     )
 
--- ---- what a run knows of each way to patch them
+-- ---- the known part of each way of patching them
 
--- the outcomes after those that are known, and the last sectors after those that are settled
+-- the outcomes after the known ones, and the last sectors after the settled ones
 pub record Known (settled : List (List ℕ)) (outcomes os : List Outcome) (last : List ℕ) : Type 0 where
   pub back : List Outcome
   pub others : List (List ℕ)
@@ -188,7 +188,7 @@ module _ {carry : Bool} {patches : List Patch} {base : ℕ} {read sent log_bytes
       extends_by machine.stage h.seen h.tail read image h.state.seen_sizes h.came h.state.counts.short
       Going-within begins ended
 
-  -- what is left of a run, after the patches taken
+  -- the rest of a run, after the decided patches
   rest_of : {image : List ℕ} (x : Extends h.seen end image) {os : List Outcome} {last : List ℕ}
       → IsPatched carry patches os base image last
       → (back : List Outcome) × (os ≡ h.outcomes ++ back)
@@ -202,7 +202,7 @@ module _ {carry : Bool} {patches : List Patch} {base : ℕ} {read sent log_bytes
       (h.state.run x.more x.unended) in
       (split.1, split.3 ∙ ap (λ f. f ++ split.1) same.0, rw same.1 at split.5)
 
-  -- nothing has gone out, or no patch left begins in what has
+  -- nothing was written, or no remaining patch begins in the part that was written
   pub known_now : {image : List ℕ} → Extends h.seen end image → {os : List Outcome} {last : List ℕ}
       → IsPatched carry patches os base image last → Known h.done h.outcomes os last
   known_now x {last = last} patched =
@@ -223,7 +223,7 @@ module _ {carry : Bool} {patches : List Patch} {base : ℕ} {read sent log_bytes
             record { back = rest.0; others = front.0; all = rest.1; cut = front.1 }
       ]
 
-  -- what was told begins the log
+  -- the lines that were logged are a prefix of the log
   pub log-begins : {image : List ℕ} → Extends h.seen end image → {os : List Outcome} {last : List ℕ}
       → IsPatched carry patches os base image last
       → Begins log_bytes (whole_log patches os base read)
@@ -236,7 +236,7 @@ module _ {carry : Bool} {patches : List Patch} {base : ℕ} {read sent log_bytes
             ∙ begun.1 ∙ ap (λ l. l ++ begun.0) (sym h.logged),
       )
 
-  -- what has gone out, before the tail has
+  -- the bytes that were written, before the tail is
   open_sent : machine.stage ≤ 1 → sent ≡ bytes_of h.done
   open_sent early =
       h.went ∙ ap (λ c. sent_bytes h.done end c) (unclosed_at machine.stage early)
@@ -245,7 +245,7 @@ module _ {carry : Bool} {patches : List Patch} {base : ℕ} {read sent log_bytes
   open_size early =
       omega (arith, ap length (open_sent early), length-bytes_of h.done h.state.done_sizes)
 
-  -- once all has gone out, it is the patched image
+  -- once everything is written, it is the patched image
   module _ (closed : machine.stage ≡ 2) where
     is_end : end ≡ Some h.tail
     is_end = tail_some machine.stage h.tail (omega (arith, closed))
@@ -303,7 +303,7 @@ module _ {carry : Bool} {patches : List Patch} {base : ℕ} {read sent log_bytes
         (patched.same_tail ∙ ap tail shut_read ∙ sym cut.1)
         ∙ sym shut_sent
 
-  -- what has gone out begins the patched image
+  -- the bytes that were written are a prefix of the patched image
   pub sent-begins : {image : List ℕ} → Extends h.seen end image → (0 < machine.stage → image ≡ read)
       → {os : List Outcome} {last : List ℕ} → IsPatched carry patches os base image last
       → Begins sent last
@@ -322,7 +322,8 @@ module _ {carry : Bool} {patches : List Patch} {base : ℕ} {read sent log_bytes
 
   -- ---- before bytes that are sent
 
-  -- if all that were taken begin below the block of these bytes or at it, and all left after it
+  -- if all decided patches begin at the block of these bytes or below it, and all remaining ones
+  -- after it
   pub lines-at : {image : List ℕ} → Extends h.seen end image → {os : List Outcome} {last : List ℕ}
       → IsPatched carry patches os base image last → (now number : ℕ) → now / SECTOR_SIZE ≡ number
       → now < length image
@@ -354,7 +355,8 @@ module _ {carry : Bool} {patches : List Patch} {base : ℕ} {read sent log_bytes
             ∙ lines_below-cut (base + number) taken left h.outcomes k.back outcomes-length r.0 r.1)
       ]
 
-  -- until the tail has gone out, those taken begin at sectors that came, or below the first
+  -- until the tail is written, the decided patches begin in sectors that were read, or below the
+  -- first
   pub due : machine.stage ≤ 1 → All (λ p. (p.block ≤ machine.block) × (p.block < base + machine.sectors)) taken
   due early = h.state.due (unclosed_at machine.stage early)
 
@@ -433,7 +435,7 @@ module _ {carry : Bool} {patches : List Patch} {base : ℕ} {read sent log_bytes
 
   -- ---- before a line
 
-  -- how many bytes belong before the line of a patch that is decided
+  -- the number of bytes that are written before the line of a patch that is decided
   bytes-at : {image : List ℕ} → Extends h.seen end image → (p : Patch)
       → MayDecide p machine.held machine.block machine.sectors machine.stage
       → machine.held ≤ length hand → (0 < machine.stage → image ≡ read)
@@ -454,7 +456,7 @@ module _ {carry : Bool} {patches : List Patch} {base : ℕ} {read sent log_bytes
       ∙ sym (bytes_before-after image base p.block
       (omega (arith, from, h.state.counts.front, shut_sectors closed, ap (λ i. length (sectors i)) is)))
 
-  -- the line of a patch that is decided, whose outcome gives it its size
+  -- the line of a patch that is decided; its size follows from the outcome
   pub line-in-order : {image : List ℕ} → Extends h.seen end image → {os : List Outcome}
       {last : List ℕ} → IsPatched carry patches os base image last → (p : Patch) (others : List Patch)
       → left ≡ p ∷ others → MayDecide p machine.held machine.block machine.sectors machine.stage
@@ -502,7 +504,7 @@ module _ {carry : Bool} {patches : List Patch} {base : ℕ} {read sent log_bytes
       h.logged
       ∙ sent_when_log_fails-later image base taken [] h.outcomes rest.0 k outcomes-length)
 
--- the line of a patch, by the run before it and the run after it
+-- the line of a patch, from the run before it and the run after it
 pub told-size : {carry : Bool} {patches : List Patch} {base : ℕ}
     {read sent sent' log_bytes : List ℕ} (line : List ℕ) {old new : PatchRun}
     {hand hand' : List (List ℕ)} (h : Going carry patches base read sent log_bytes old hand)

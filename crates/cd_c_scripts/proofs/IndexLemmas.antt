@@ -1,4 +1,4 @@
--- Making an index of a script, line by line.
+-- Indexing a script, line by line.
 use Rattle.std.proofs.Common.{◌≡◌, ℕ, zero, suc, ◌+◌, ◌<◌, ◌≤◌, Bool, List, [], ◌∷◌, ◌++◌, length, take, drop, get_or, Option, None, Some, Result, Ok, Err, refl, sym, ap, ◌∙◌, subst, arith, append_assoc, append-nil, length-append, add-one}
 use Rattle.std.specs.Prelude.{All, IfOk, cond, nat_le, true, false}
 use Rattle.std.proofs.Math.Nat.{add-zero}
@@ -31,7 +31,7 @@ use Rattle.std.specs.List.{slice_set}
 use Rattle.cd_c_scripts.specs.Entries.{AllBelow, AreEntries, IsEntry, IsIndexed, LinesRise}
 use Rattle.cd_script.specs.Order.{order}
 
--- ---- how far it has come: `front` was read, and `rest` is left
+-- ---- the progress: `front` was read, and `rest` is left
 
 regroup : (front : List Patch) (found : Option Patch) (read : Result (List Patch) ScriptFault)
     → with_front front (read >>= λ ps. Ok (cons_option found ps))
@@ -67,7 +67,7 @@ Indexing-start text entries = record {
     first (Ok ps) = refl
     first (Err e) = refl
 
--- what a line says goes on
+-- the content of a line, and then the rest
 pub by_line-step : (version : Option Version) (number count : ℕ) (line : List ℕ)
     (rest all : List (List ℕ)) (meaning : LineContent) (front : List Patch)
     → all ≡ line ∷ rest → meaning_at version number count line ≡ Ok meaning
@@ -143,7 +143,7 @@ then_keeps line earlier (Ok q) p at is = kept (nat_le patch_limit earlier) refl 
         let same : q ≡ p = cc in
         (subst (λ x. x.line ≡ line) same at, is)
 
--- a patch of a line, after however many others
+-- the patch of a line does not depend on the number of patches before it
 pub patch_read : (v : Version) (line earlier : ℕ) (text : List ℕ) (p : Patch)
     → meaning_at (Some v) line earlier text ≡ Ok (content.Patch p)
     → (p.line ≡ line) × (meaning_at (Some v) line 0 text ≡ Ok (content.Patch p))
@@ -160,7 +160,7 @@ patch_read v line earlier text p = by_passed (is_passed_over (words text))
     by_passed false is =
         then_keeps line earlier (patch_by v line (words text)) p (patch_by-line v line (words text)) is
 
--- no head line after one
+-- there is no head line after a head line
 no_head_below : (v w : Version) (line earlier : ℕ) (text : List ℕ) {A : Type 0}
     → meaning_at (Some v) line earlier text ≡ Ok (content.Head w) → A
 no_head_below v w line earlier text = go (line_at v line earlier text)
@@ -171,7 +171,7 @@ no_head_below v w line earlier text = go (line_at v line earlier text)
     go (Ok (Some p)) is = absurd cc
     go (Err e) is = absurd cc
 
--- no patch above one
+-- there is no patch before a head line
 no_patch_above : (line earlier : ℕ) (text : List ℕ) (p : Patch) {A : Type 0}
     → meaning_at None line earlier text ≡ Ok (content.Patch p) → A
 no_patch_above line earlier text p = go (head_at line text)
@@ -321,7 +321,7 @@ module _ {text : List ℕ} {version : Option Version} {number count start : ℕ}
             (AreEntries-push text v e p (take count es) h.front (h.each v is more.0) entry));
       }
 
--- a head line comes above, and a patch below it
+-- a head line is the first one, and a patch is after it
 pub head_above : (version : Option Version) (w : Version) (line earlier : ℕ) (text : List ℕ)
     → meaning_at version line earlier text ≡ Ok (content.Head w) → version ≡ None
 head_above None w line earlier text is = refl
@@ -365,7 +365,7 @@ Index-entries {count = count} {es = es} h v sorted size none is small sorts = re
       (h.each v is before);
 }
 
--- ---- a step by what its line says
+-- ---- a step, by the content of its line
 
 pub record Stepped (text : List ℕ) (found : Found) (number start : ℕ) (es es' : List Entry)
     (next : Found) : Type 0 where

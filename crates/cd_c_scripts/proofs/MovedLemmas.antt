@@ -1,4 +1,4 @@
--- What a client may have moved, by what was asked for.
+-- The bytes that a client may have moved, by its request.
 use Rattle.std.proofs.Common.{◌≡◌, ℕ, ◌+◌, ◌-◌, ◌*◌, ◌<◌, ◌≤◌, ◌⊎◌, ◌++◌, Bool, List, [], length, take, drop, inl, inr, arith, ap, sym, ◌∙◌}
 use Rattle.std.specs.List.{slice_index_or}
 use Rattle.std.proofs.lemmas.Bool.{cases_lt}
@@ -15,7 +15,7 @@ use Rattle.cd_c_scripts.specs.declared.run_state.ScriptRun.{ScriptRun}
 use Rattle.cd_c_scripts.specs.declared.run_state.TheConstants.{COPYING, FAULTY, NOTHING, OVER, READING, WRITING, WRITING_TAIL}
 use Rattle.cd_c_scripts.proofs.GoingLemmas.{Going-hand}
 
--- a run that is not over, by the hand that is passed
+-- a run that is not over, with the hand that is passed
 pub record Found (text : List ℕ) (es : List Entry) (patches : List Patch) (base : ℕ)
     (read sent log_bytes : List ℕ) (run : ScriptRun) (hand : List (List ℕ)) : Type 0 where
   pub about : About text es patches base run
@@ -35,7 +35,7 @@ found hand (IsRunning.going about state asks) same few = record {
 found hand (IsRunning.over is done) same few = absurd (omega (arith, is, few))
 found hand (IsRunning.long is long) same few = absurd (omega (arith, is, few))
 
--- what it is about does not depend on how far it has come
+-- the script of a run does not depend on its progress
 pub about_as : {text : List ℕ} {es : List Entry} {patches : List Patch} {base : ℕ}
     {old : ScriptRun} (new : ScriptRun) → About text es patches base old
     → new.version ≡ old.version → new.count ≡ old.count → new.flags ≡ old.flags
@@ -49,21 +49,21 @@ about_as new about version count flags = record {
   list = about.list;
 }
 
--- the same bytes
+-- the same, for equal bytes
 pub going_as : {carry : Bool} {patches : List Patch} {base : ℕ}
     {read sent read' sent' log_bytes : List ℕ} {machine : PatchRun} {hand : List (List ℕ)}
     → read' ≡ read → sent' ≡ sent → Going carry patches base read sent log_bytes machine hand
     → Going carry patches base read' sent' log_bytes machine hand
 going_as is_read is_sent h = rw (is_read, is_sent) h
 
--- the same, of an image that is too long
+-- the same, for an image that is too long
 pub beyond_as : {carry : Bool} {patches : List Patch} {base : ℕ}
     {read sent read' sent' log_bytes : List ℕ} → read' ≡ read → sent' ≡ sent
     → IsBeyond carry patches base read sent log_bytes
     → IsBeyond carry patches base read' sent' log_bytes
 beyond_as is_read is_sent h = rw (is_read, is_sent) h
 
--- ---- by what was asked for
+-- ---- by the request
 
 pub record WasCopied (run : ScriptRun) (done : ℕ) (read sent read' sent' : List ℕ) : Type 0 where
   pub bytes : List ℕ
@@ -140,7 +140,7 @@ module _ {patches : List Patch} {run : ScriptRun} where
   asks_tail (Asks.writing asked steps size) is = absurd (omega (arith, asked, is))
   asks_tail (Asks.writing_tail asked steps size) is = (steps, size)
 
--- ---- a run that asks for no more
+-- ---- a run that requests nothing more
 
 pub asks_few : {patches : List Patch} {run : ScriptRun} → Asks patches run → run.asked < OVER
 asks_few (Asks.nothing asked) = omega (arith, asked)
@@ -156,7 +156,7 @@ not_faulty (IsRunning.going about state asks) is = omega (arith, asks_few asks, 
 not_faulty (IsRunning.over asked done) is = omega (arith, asked, is)
 not_faulty (IsRunning.long asked long) is = omega (arith, asked, is)
 
--- the last line was told
+-- the last line was returned
 pub record IsOver (patches : List Patch) (base : ℕ) (read' sent' log_bytes : List ℕ) (run : ScriptRun)
     (done : ℕ) : Type 0 where
   pub is_done : IsDone (carries run.flags) patches base read' sent' log_bytes run.most
@@ -186,7 +186,7 @@ is_stopped (IsRunning.long asked long) moved is =
 
 -- ---- an image that ends
 
--- what a client has moved is not short
+-- a client has not moved too few bytes
 pub not_short : {run : ScriptRun} {hand : List (List ℕ)} {done : ℕ}
     {read sent read' sent' : List ℕ} → Moved run hand done read sent read' sent'
     → IsShort run done → ⊥
@@ -199,7 +199,7 @@ not_short (Moved.written asked size is_read is_sent) short = omega (arith, size,
 
 module _ {before : ScriptRun} {done : ℕ} (now : ScriptRun) (few : done ≤ before.size)
     (open_end : AsksForImage before → done < before.size → before.image_size ≡ unknown_size) where
-  -- fewer came than a sector has
+  -- fewer bytes were read than a sector has
   pub ends_read : before.asked ≡ READING → ReadsWhole before → done < SECTOR_SIZE
       → (before.machine.sectors ≡ sector_limit → done ≡ 0) → MayEnd before now done
   ends_read asked whole short last = elim (cases_lt done before.size) [
@@ -213,7 +213,7 @@ module _ {before : ScriptRun} {done : ℕ} (now : ScriptRun) (few : done ≤ bef
     ]
   ]
 
-  -- fewer came than could be copied
+  -- fewer bytes were copied than may be
   pub ends_copy : before.asked ≡ COPYING → CopiesWhole before → done < SECTOR_SIZE * before.most
       → MayEnd before now done
   ends_copy asked whole short = elim (cases_lt done before.size) [
@@ -224,7 +224,7 @@ module _ {before : ScriptRun} {done : ℕ} (now : ScriptRun) (few : done ≤ bef
     ]
   ]
 
--- the same of a later state to which no more has come
+-- the same for a later state without further bytes
 pub ends_as : {before now later : ScriptRun} {done : ℕ}
     → later.machine.sectors ≡ now.machine.sectors → MayEnd before now done
     → MayEnd before later done
@@ -232,7 +232,7 @@ ends_as same (MayEnd.fewer asked few unknown) = MayEnd.fewer asked few unknown
 ends_as same (MayEnd.whole asked all) = MayEnd.whole asked all
 ends_as same (MayEnd.known none) = MayEnd.known (omega (arith, same, none))
 
--- ---- the hand behind what a run holds
+-- ---- the part of the hand after all that a run holds
 
 pub drop_more : {A : Type 0} (n place : ℕ) (xs ys : List A) → n ≤ place → drop n xs ≡ drop n ys
     → drop place xs ≡ drop place ys

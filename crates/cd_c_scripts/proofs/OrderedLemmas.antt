@@ -1,4 +1,4 @@
--- The order of application, by keys of block and line: what a sort by these keys gives.
+-- The order of application is the result of a sort by keys of block and line.
 use Rattle.std.proofs.Common.{◌≡◌, ℕ, zero, suc, ◌+◌, ◌*◌, ◌<◌, ◌≤◌, ◌⊎◌, inl, inr, cond, List, [], ◌∷◌, length, get_or, refl, sym, ap, ◌∙◌, subst, arith}
 use Rattle.std.specs.Prelude.{All, ◌==◌}
 use Rattle.std.specs.List.{sum_by}
@@ -22,11 +22,11 @@ use Rattle.std.proofs.lemmas.List.Elements.{All-map}
 use Rattle.std.proofs.lemmas.List.Sums.{sum_by-cons}
 use Rattle.std.proofs.lemmas.List.Sorted.{IsPermutation-map}
 
--- what the entries are sorted by
+-- the key by which the entries are sorted
 abbrev pub key : Patch → ℕ
 key p = p.block * 4294967296 + p.line
 
--- ---- lists whose keys rise
+-- ---- lists whose keys do not decrease
 
 abbrev pub Rises : List Patch → Type 0
 Rises [] = Unit {0}
@@ -70,7 +70,7 @@ rises_insert p (q ∷ qs) rises after small below = elim (cases_lt q.block p.blo
       )
 ]
 
--- ---- lines that rise along a script
+-- ---- line numbers that increase along a script
 
 order_rises : (ps : List Patch) → LinesRise ps → AllBelow ps → Rises (order ps)
 unfolding order
@@ -108,7 +108,7 @@ same_line (p ∷ ps) a b lines (inr m) (inl is) same =
     absurd (omega (arith, same, of_all (λ q. p.line < q.line) a ps lines.0 m, ap (λ (q : Patch). q.line) is))
 same_line (p ∷ ps) a b lines (inr m) (inr n) same = same_line ps a b lines.1 m n same
 
--- ---- two lists that rise and have the same elements are the same
+-- ---- two lists with the same elements whose keys do not decrease are equal
 
 sum_cons : (f : Patch → ℕ) (x : Patch) (xs : List Patch)
     → sum_by f (x ∷ xs) ≡ f x + sum_by f xs
@@ -157,7 +157,7 @@ unique In' same (x ∷ xs) (y ∷ ys) a b m n sums =
     (λ f. omega (arith, sums f, ap f first, sum_cons f x xs, sum_cons f y ys)) in
     cc
 
--- patches of a script whose keys rise are in the order of application
+-- patches of a script whose keys do not decrease are in the order of application
 pub order_by_key : (ps qs : List Patch) → LinesRise ps → AllBelow ps → IsPermutation ps qs
     → Rises qs → qs ≡ order ps
 order_by_key ps qs lines below moved rising =

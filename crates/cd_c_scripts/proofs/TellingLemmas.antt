@@ -1,4 +1,4 @@
--- The relation, kept by what a run asks for and tells.
+-- The requests and the steps of a run keep the relation.
 use Rattle.std.proofs.Common.{◌≡◌, ℕ, ◌+◌, ◌*◌, ◌<◌, ◌≤◌, ◌⊎◌, inl, inr, Bool, true, false, List, [], ◌++◌, length, take, drop, refl, sym, ap, ◌∙◌, subst, arith, append-nil}
 use Rattle.std.specs.Prelude.{◌-◌, cond, nat_eq}
 use Rattle.std.specs.List.{slice_get}
@@ -26,14 +26,14 @@ use Rattle.cd_c_scripts.proofs.GoingLemmas.{Going-done, Going-read, Going-sent-s
 use Rattle.cd_c_scripts.proofs.InOrderLemmas.{Extends, beyond-in-order, copy-in-order, done-in-order, extends, last-in-order, line-in-order, log-begins, sector-in-order, sent-begins, tail-in-order, told-size}
 use Rattle.cd_c_scripts.proofs.MovedLemmas.{about_as}
 
--- a step that is no line
+-- a step that is not a line
 pub not_logged : (step : RunStep) (kind : ℕ) → step.kind ≡ kind → kind < log_kind → logged_by step ≡ []
 not_logged step kind is few = grind arith
 
 pub is_logged : (step : RunStep) → step.kind ≡ log_kind → logged_by step ≡ take step.size step.text
 is_logged step is = rw is refl
 
--- two states of one machine that differ in what they ask for
+-- two states of one machine with different requests
 pub record SameRun (old new : ScriptRun) : Type 0 where
   pub machine : new.machine ≡ old.machine
   pub version : new.version ≡ old.version
@@ -54,7 +54,7 @@ same_stage old new same = ap (λ m. m.stage) same.machine
 
 -- ---- in order
 
--- what has to stand in the log before each byte of a step that sends some
+-- the log before each byte that a step sends
 abbrev LinesBefore : Bool → List Patch → ℕ → List ℕ → List ℕ → List ℕ → ScriptRun → RunStep → Type 0
 LinesBefore carry patches base read sent log_bytes run step =
     (step.kind ≡ write_kind) ⊎ (step.kind ≡ copy_kind)
@@ -62,7 +62,7 @@ LinesBefore carry patches base read sent log_bytes run step =
     → length sent + k < length image
     → log_bytes ≡ log_when_out_fails patches outcomes base (length image) (length sent + k))
 
--- an image that may be coming, to a state of a run that goes on
+-- an image that a run may have, in a state that continues
 module _ {carry : Bool} {patches : List Patch} {base : ℕ} {read sent log_bytes : List ℕ}
     {machine : PatchRun} {hand : List (List ℕ)}
     (h : Going carry patches base read sent log_bytes machine hand) (run : ScriptRun)

@@ -1,5 +1,5 @@
--- A client of the two calls of a run over a source and two sinks: what it has moved, and what it has
--- done when it ends.
+-- A client of the two calls of a run, over a source and two sinks: its state between two calls, and
+-- its effects when it ends.
 use Rattle.std.specs.Prelude.{◌≡◌, ◌↔◌, ℕ, ◌+◌, ◌*◌, ◌<◌, ◌≤◌, ◌⊎◌, Bool, false, true, List, Result, Ok, Err, OnOk, IfOk, length, take}
 use Rattle.std.specs.Io.KnownBytes.{IsAtEnd}
 use Rattle.cd_script.specs.PatchForm.{Patch}
@@ -20,9 +20,9 @@ use Rattle.cd_c_scripts.specs.declared.run_state.RunStep.{RunStep}
 use Rattle.cd_c_scripts.specs.declared.run_state.ScriptRun.{ScriptRun}
 use Rattle.cd_c_scripts.specs.declared.run_state.TheConstants.{OVER, STOPPED}
 
--- ---- what a client does, whole
+-- ---- the effects of a client
 
--- what `apply` returns where a client ends so: the status is 0 if no patch was refused, else 1
+-- the result of `apply` for the result of a client: the status is 0 if no patch was refused, else 1
 abbrev pub EndsAs : Result ℕ Fault → Result Tally Fault → Type 0
 EndsAs (Ok status) (Ok tally) = status ≡ status_of tally.refused
 EndsAs (Ok status) (Err told) = ⊥
@@ -50,41 +50,41 @@ pub record AppliesWhole (carry : Bool) (patches : List Patch) (base : ℕ) (imag
   pub holds_few : HoldsFew (streams image out log) (streams image' out' log')
   pub holds_few_counted : HoldsFewCounted (streams image out log) (streams image' out' log')
 
--- a client has done what `apply` does, and returned what fits it
+-- a client has done what `apply` does, and has returned the matching result
 abbrev pub AppliesAs : Bool → List Patch → ℕ → Incoming → Incoming → Outgoing → Outgoing
     → Outgoing → Outgoing → Result ℕ Fault → Type 0
 AppliesAs carry patches base image image' out out' log log' result =
     (told : Result Tally Fault) × EndsAs result told
     × AppliesWhole carry patches base image image' out out' log log' told
 
--- the same, by the report alone
+-- the same, with the report alone
 abbrev pub ReportsAs : Bool → List Patch → ℕ → Streams → Streams → Result ℕ Fault → Type 0
 ReportsAs carry patches base start now result =
     (told : Result Tally Fault) × EndsAs result told × Applies carry patches base start now told
 
--- the log after the line of a text that is not a script, by what was returned
+-- the log after the line for a text that is not a script, for each result
 abbrev pub RefusesBy : List ℕ → Outgoing → Outgoing → Result ℕ Fault → Type 0
 RefusesBy line log log' (Ok status) = (status ≡ 2) × Takes log log' line × (log'.finished ≡ true)
 RefusesBy line log log' (Err f) = (f ≡ fault.Log) × (log'.failures ≡ log.failures + 1)
 
--- a text that is not a script: nothing was read, nothing has gone out, and the log has got the line,
--- or a front of it if it has failed
+-- a text that is not a script: nothing was read, nothing was written to the output, and the log has
+-- the line, or has failed
 abbrev pub Refuses : List ℕ → Streams → Streams → Result ℕ Fault → Type 0
 Refuses line start now result =
     (now.image ≡ start.image) × (now.out ≡ start.out) × RefusesBy line start.log now.log result
 
--- the source has nothing left, and has said so
+-- the source has nothing left, and has reported its end
 abbrev pub HasEnded : Incoming → Type 0
 HasEnded image = IsAtEnd image.rest × (image.ended ≡ true)
 
--- a line has gone to the log, or the log has failed
+-- a line was written to the log, or the log has failed
 abbrev pub Says : {X : Type 0} → List ℕ → Outgoing → Outgoing → Result X Fault → Type 0
 Says line log log' (Ok done) =
     Takes log log' line × (log'.failures ≡ log.failures) × (log'.flushes ≡ log.flushes)
 Says line log log' (Err f) = (f ≡ fault.Log) × (log'.failures ≡ log.failures + 1)
 
--- some bytes have gone from the image to the output, fewer than asked for only at its end; or a part of
--- them, where one of the two has failed
+-- bytes were copied from the image to the output, fewer than requested only at the end of the
+-- image; or only a part of them, if one of the two has failed
 abbrev pub Passes : ℕ → Incoming → Incoming → Outgoing → Outgoing → Result ℕ Fault → Type 0
 Passes asked image image' out out' (Ok done) =
     (bytes : List ℕ) × (length bytes ≡ done) × (done ≤ asked) × Gives image image' bytes
@@ -102,7 +102,8 @@ Passes asked image image' out out' (Err fault.TooLong) = ⊥
 
 -- ---- between two calls
 
--- what came, went out and was logged since `start`: nothing failed, and no sink was flushed
+-- the bytes that were read, sent and logged since `start`; nothing has failed, and no sink was
+-- flushed
 pub record HasMoved (start now : Streams) (read sent log_bytes : List ℕ) : Type 0 where
   pub gives : Gives start.image now.image read
   pub sends : Takes start.out now.out sent
@@ -110,7 +111,7 @@ pub record HasMoved (start now : Streams) (read sent log_bytes : List ℕ) : Typ
   pub unfailed : Failed start now 0 0 0
   pub unflushed : Flushed start now 0 0
 
--- a call has told a step of a run, and its client has moved what the steps before it asked for
+-- a call has returned a step of a run, and its client has moved the bytes of all steps before it
 pub record IsLed (carry : Bool) (text : List ℕ) (es : List Entry) (patches : List Patch) (base : ℕ)
     (start now : Streams) (run : ScriptRun) (hand : List (List ℕ)) (step : RunStep) : Type 0 where
   pub read : List ℕ
@@ -123,7 +124,7 @@ pub record IsLed (carry : Bool) (text : List ℕ) (es : List Entry) (patches : L
   pub carried : carries run.flags ≡ carry
   pub unknown : run.image_size ≡ unknown_size
 
--- and it has moved what this step asks for: `done` bytes
+-- the client has also moved `done` bytes for this step
 pub record HasTaken (carry : Bool) (text : List ℕ) (es : List Entry) (patches : List Patch)
     (base : ℕ) (start now : Streams) (run : ScriptRun) (hand hand' : List (List ℕ)) (done : ℕ)
     : Type 0 where
@@ -143,7 +144,7 @@ pub record HasTaken (carry : Bool) (text : List ℕ) (es : List Entry) (patches 
   pub carried : carries run.flags ≡ carry
   pub unknown : run.image_size ≡ unknown_size
 
--- nothing was begun: the line of the script's error is told, and then its end
+-- no run has begun: the line for the error of the script is returned, and then the end
 pub data IsSaying (line : List ℕ) (start now : Streams) (run : ScriptRun) (step : RunStep)
     : Type 0 where
   to_say : run.asked ≡ STOPPED → step.kind ≡ log_kind → take step.size step.text ≡ line
@@ -152,7 +153,7 @@ pub data IsSaying (line : List ℕ) (start now : Streams) (run : ScriptRun) (ste
   said : step.kind ≡ end_kind → step.status ≡ 2 → now.image ≡ start.image → now.out ≡ start.out
       → Says {X = ℕ} line start.log now.log (Ok 0) → IsSaying line start now run step
 
--- by what leading returned: the line was said, or the log has failed
+-- for each result of `lead`: the line was logged, or the log has failed
 abbrev pub LeadsToLine : List ℕ → Streams → Streams → Result ℕ Fault → Type 0
 LeadsToLine line start now (Ok status) =
     (status ≡ 2) × (now.image ≡ start.image) × (now.out ≡ start.out)
@@ -161,7 +162,7 @@ LeadsToLine line start now (Err f) =
     (f ≡ fault.Log) × (now.image ≡ start.image) × (now.out ≡ start.out)
     × (now.log.failures ≡ start.log.failures + 1)
 
--- by what a step returned: it was taken, or the client ends by a fault as `apply` does
+-- for each result of a step: it was carried out, or the client ends with an error as `apply` does
 abbrev pub TakesStep : Bool → List ℕ → List Entry → List Patch → ℕ → Streams → Streams → ScriptRun
     → List (List ℕ) → List (List ℕ) → Result ℕ Fault → Type 0
 TakesStep carry text es patches base start now run hand hand' (Ok done) =
@@ -169,7 +170,7 @@ TakesStep carry text es patches base start now run hand hand' (Ok done) =
 TakesStep carry text es patches base start now run hand hand' (Err fault) =
     Applies carry patches base start now (Err fault)
 
--- by what leading returned: the run has ended, or the client ends by a fault as `apply` does
+-- for each result of `lead`: the run has ended, or the client ends with an error as `apply` does
 abbrev pub LeadsTo : Bool → List ℕ → List Entry → List Patch → ℕ → Streams → Streams → ScriptRun
     → List (List ℕ) → RunStep → Result ℕ Fault → Type 0
 LeadsTo carry text es patches base start now run hand step (Ok status) =

@@ -1,4 +1,4 @@
--- The patches of a script in entries, one for each, in the order of application.
+-- The entries of the patches of a script, one for each patch, in the order of application.
 use Rattle.std.specs.Prelude.{◌≡◌, ℕ, ◌+◌, ◌*◌, ◌<◌, ◌≤◌, List, [], ◌∷◌, All, Some, Ok, drop, take, length}
 use Rattle.std.specs.List.{slice_get, slice_index_or}
 use Rattle.cd_script.specs.ByLine.{meaning_at}
@@ -12,13 +12,13 @@ use Rattle.cd_c_scripts.specs.Flags.{as_asked}
 use Rattle.cd_c_scripts.specs.Lines.{version_of}
 use Rattle.cd_c_scripts.specs.declared.entries.Entry.{Entry}
 
--- the line of an entry stands in a text, and read again in this version it has a patch
+-- the line of an entry is in a text, and is this patch if it is read again in this version
 abbrev pub HasLine : List ℕ → Version → Entry → Patch → Type 0
 HasLine text version e p =
     (e.start + e.size ≤ length text)
     × (meaning_at (Some version) e.number 0 (take e.size (drop e.start text)) ≡ Ok (content.Patch p))
 
--- the entry of a patch as the flags want it
+-- the entry of a patch that is as the flags require it
 pub record IsEntry (text : List ℕ) (version : Version) (flags : ℕ) (e : Entry) (p : Patch)
     : Type 0 where
   pub found : Patch
@@ -35,8 +35,8 @@ pub record AreEntries (text : List ℕ) (version : Version) (flags : ℕ) (es : 
   pub each : (k : ℕ) (e : Entry) (p : Patch) → k < length es
       → IsEntry text version flags (slice_index_or es k e) (slice_index_or ps k p)
 
--- a script that was read to its end: how many patches it has, and if there was room, their entries in
--- the order of application
+-- a script that was read to its end: the number of its patches and, if there was room, their
+-- entries in the order of application
 pub record IsIndexed (text : List ℕ) (version : Version) (count : ℕ) (es : List Entry)
     : Type 0 where
   pub patches : List Patch
@@ -44,8 +44,8 @@ pub record IsIndexed (text : List ℕ) (version : Version) (count : ℕ) (es : L
   pub counted : count ≡ length patches
   pub entries : count ≤ length es → AreEntries text version 0 (take count es) (order patches)
 
--- the entry at a place has this line number; its line, read again, has a patch of its block, which
--- meets as many
+-- the entry at a place has this line number; its line, read again, is a patch that begins in its
+-- block, and touches the same number of blocks
 pub record Rereads (text : List ℕ) (version : ℕ) (es : List Entry) (place number : ℕ) : Type 0 where
   pub e : Entry
   pub p : Patch
@@ -57,15 +57,15 @@ pub record Rereads (text : List ℕ) (version : ℕ) (es : List Entry) (place nu
   pub met : blocks_met p ≡ e.blocks_met
   pub number_is : number ≡ e.number
 
--- the lines of patches rise along a script
+-- the line numbers of patches increase along a script
 abbrev pub LinesRise : List Patch → Type 0
 LinesRise [] = Unit {0}
 LinesRise (p ∷ ps) = All (λ q. p.line < q.line) ps × LinesRise ps
 
--- their numbers have 32 bits
+-- the line numbers of patches have 32 bits
 abbrev pub AllBelow : List Patch → Type 0
 AllBelow = All (λ p. p.line < 4294967296)
 
--- what entries are sorted by
+-- the key by which entries are sorted
 abbrev pub entry_key : Entry → ℕ
 entry_key e = e.block * 4294967296 + e.number

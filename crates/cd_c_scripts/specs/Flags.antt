@@ -1,9 +1,9 @@
--- What the flags of a run mean: 1 that damage is carried, 2 that COPY is not asked for, 4 that old
--- bytes are not compared. The numbers are those of `cdpatch.h`.
+-- The flags of a run: 1 if damage is carried, 2 if COPY is not requested, 4 if old bytes are not
+-- compared. `cdpatch.h` has the same numbers.
 use Rattle.std.specs.Prelude.{ℕ, ◌/◌, ◌%◌, ◌==◌, Bool, List, map, if◌then◌else◌}
 use Rattle.cd_script.specs.PatchForm.{Patch, without_old}
 
--- flags are below this number
+-- all flags are below this number
 abbrev pub flag_limit : ℕ
 flag_limit = 8
 
@@ -11,7 +11,7 @@ flag_limit = 8
 abbrev pub carries : ℕ → Bool
 carries flags = flags / 1 % 2 == 1
 
--- whether COPY may be asked for
+-- whether COPY may be requested
 abbrev pub copies : ℕ → Bool
 copies flags = flags / 2 % 2 == 0
 
@@ -19,10 +19,10 @@ copies flags = flags / 2 % 2 == 0
 abbrev pub compares : ℕ → Bool
 compares flags = flags / 4 % 2 == 0
 
--- a patch as the flags want it
+-- a patch as the flags require it
 abbrev pub as_asked : ℕ → Patch → Patch
 as_asked flags p = if compares flags then p else without_old p
 
--- the patches of a run
+-- the patches of a run, as the flags require them
 abbrev pub all_as_asked : ℕ → List Patch → List Patch
 all_as_asked flags ps = map (as_asked flags) ps

@@ -1,4 +1,4 @@
--- A patch without memory of its own: a flat record, and bytes at the front of two rooms.
+-- A patch as a flat record, with its bytes at the front of two buffers.
 use Rattle.std.specs.Prelude.{ℕ, ◌==◌, nat_lt, List, [], ◌∷◌, ◌++◌, drop, length, take, Option, Some, None, option_map, unwrap_or, if◌then◌else◌}
 use Rattle.cd_script.specs.declared.patch.Edit.TheVariants.{Put, Fill, Rebuild, Address}
 use Rattle.cd_script.specs.Limits.{bytes_limit}
@@ -6,10 +6,10 @@ use Rattle.cd_script.specs.Patch.{IsPatch}
 use Rattle.cd_script.specs.PatchForm.{Edit, Patch}
 use Rattle.cd_c_scripts.specs.declared.flat_patch.FlatPatch.{FlatPatch}
 
--- ---- the patch of a record: of any bytes that may stand in it
+-- ---- the patch of a record, whatever the record contains
 
--- the edit of a `set`: new bytes, and as many old ones if `has_old` is 1; none if there are more than
--- a room holds, or `has_old` is another number
+-- the edit of a `set`: new bytes, and the same number of old bytes if `has_old` is 1; none if there
+-- are more than a buffer holds, or `has_old` is neither 0 nor 1
 abbrev pub set_edit : ℕ → ℕ → List ℕ → List ℕ → Option Edit
 set_edit count has_old new old =
     if nat_lt bytes_limit count then None
@@ -17,7 +17,7 @@ set_edit count has_old new old =
     else if has_old == 1 then Some (Put (take count new) (Some (take count old)))
     else None
 
--- the edit of a record by its verb: `set`, `fill`, `rebuild`, `address`; none for another one
+-- the edit of a record by its verb: `set`, `fill`, `rebuild`, `address`; none for any other verb
 abbrev pub flat_edit : FlatPatch → List ℕ → List ℕ → Option Edit
 flat_edit r new old =
     if r.verb == 0 then set_edit r.count r.has_old new old
@@ -26,7 +26,7 @@ flat_edit r new old =
     else if r.verb == 3 then Some (Address r.address)
     else None
 
--- the patch of a record, as that of this line
+-- the patch of a record, with this line number
 abbrev pub flat_patch : ℕ → FlatPatch → List ℕ → List ℕ → Option Patch
 flat_patch line r new old =
     option_map (λ edit. record { line = line; block = r.block; offset = r.offset; edit = edit })
@@ -37,14 +37,14 @@ abbrev pub IsSomePatch : Option Patch → Type 0
 IsSomePatch None = ⊥
 IsSomePatch (Some p) = IsPatch p
 
--- ---- what is written of a patch
+-- ---- the record of a patch
 
--- whether there are old bytes, as a record has it
+-- 1 if there are old bytes, else 0
 abbrev pub flag_of : Option (List ℕ) → ℕ
 flag_of None = 0
 flag_of (Some old) = 1
 
--- what each record begins with
+-- the record at this place in which all other fields are 0
 abbrev pub blank : ℕ → ℕ → FlatPatch
 blank block offset = record {
   block = block;
@@ -56,7 +56,7 @@ blank block offset = record {
   address = 0 ∷ 0 ∷ 0 ∷ [];
 }
 
--- the record of an edit at a place: what its verb does not use is 0
+-- the record of an edit at a place; the fields that its verb does not use are 0
 abbrev pub record_of : ℕ → ℕ → Edit → FlatPatch
 record_of block offset (Put bytes was) =
     record (blank block offset) { count = length bytes; has_old = flag_of was }
@@ -65,20 +65,20 @@ record_of block offset (Fill count value) =
 record_of block offset Rebuild = record (blank block offset) { verb = 2 }
 record_of block offset (Address bcd) = record (blank block offset) { verb = 3; address = bcd }
 
--- the bytes that an edit has to be written into the room for new ones: those of a `set`
+-- the bytes that are written to the buffer for new bytes: those of a `set`
 abbrev pub new_of : Edit → List ℕ
 new_of (Put bytes was) = bytes
 new_of (Fill count value) = []
 new_of Rebuild = []
 new_of (Address bcd) = []
 
--- the same of old bytes
+-- the same for old bytes
 abbrev pub old_of : Edit → List ℕ
 old_of (Put bytes was) = unwrap_or was []
 old_of (Fill count value) = []
 old_of Rebuild = []
 old_of (Address bcd) = []
 
--- a room with these bytes at its front; the rest is as it was
+-- a buffer with these bytes at its front; the rest does not change
 abbrev pub with_front : List ℕ → List ℕ → List ℕ
 with_front bytes room = bytes ++ drop (length bytes) room

@@ -1,5 +1,5 @@
--- How far the output and the log of a run have come at each step, whatever may still come of the
--- image: as far as those of the command `apply`.
+-- The order of output and log: at each step of a run, both are as far as those of the command
+-- `apply`, whatever the rest of the image is.
 use Rattle.std.specs.Prelude.{◌≡◌, ℕ, ◌+◌, ◌==◌, ◌<◌, ◌≤◌, ◌⊎◌, ◌++◌, nat_lt, Bool, List, [], length, take, if◌then◌else◌}
 use Rattle.cd_script.specs.PatchForm.{Patch}
 use Rattle.cd_sector.specs.Image.{image_limit}
@@ -12,7 +12,7 @@ use Rattle.cd_c_scripts.specs.declared.run_state.RunStep.{RunStep}
 use Rattle.cd_c_scripts.specs.declared.run_state.ScriptRun.{ScriptRun}
 use Rattle.cd_c_scripts.specs.declared.run_state.TheConstants.{OVER}
 
--- one list begins another
+-- `front` is a prefix of `whole`
 abbrev pub Begins : List ℕ → List ℕ → Type 0
 Begins front whole = (rest : List ℕ) × (whole ≡ front ++ rest)
 
@@ -20,31 +20,31 @@ Begins front whole = (rest : List ℕ) × (whole ≡ front ++ rest)
 abbrev pub logged_by : RunStep → List ℕ
 logged_by step = if step.kind == log_kind then take step.size step.text else []
 
--- `image` may be the image that is coming: it is not too long, it begins with what has come, and once
--- the run knows that the image has ended it is that
+-- `image` may be the image of the run: it is not too long, and it begins with the bytes that were
+-- read; once the run knows that the image has ended, it is these bytes
 pub record MayCome (run : ScriptRun) (read image : List ℕ) : Type 0 where
   pub within : length image ≤ image_limit
   pub begins : Begins (take image_limit read) image
   pub ended : (run.asked ≡ OVER) ⊎ (0 < run.machine.stage) → image ≡ read
 
--- this holds of each way to patch each image that may be coming
+-- this holds for each way of patching each image that the run may have
 abbrev pub EachComing : Bool → List Patch → ℕ → ScriptRun → List ℕ
     → (List ℕ → List Outcome → List ℕ → Type 0) → Type 0
 EachComing carry patches base run read Holds =
     (image : List ℕ) → MayCome run read image → EachPatching carry patches base image (Holds image)
 
--- the log that `apply` leaves: that of the patches, or of an image that goes on after its largest size
--- the lines that it prints then, and the line that says so
+-- the log of `apply`: the log of the patches, or for an image above the largest size, the lines
+-- that it prints then, and the line for this error
 abbrev pub whole_log : List Patch → List Outcome → ℕ → List ℕ → List ℕ
 whole_log patches outcomes base read =
     if nat_lt image_limit (length read)
     then log_when_too_long patches outcomes base ++ long_image
     else log_text patches outcomes
 
--- what has gone out begins the patched image, and what was told, with the line of this step, begins
--- the log. Before each byte that this step sends the log has the lines that `apply` has printed when
--- its output fails there; and before each byte of this step's line there has gone out what `apply`
--- has sent when its log fails there
+-- the bytes that were sent are a prefix of the patched image, and the bytes that were logged, with
+-- the line of this step, are a prefix of the log. Before each byte that this step sends, the log
+-- has the lines that `apply` has printed if its output fails there. Before each byte of the line of
+-- this step, the output has the bytes that `apply` has sent if its log fails there
 pub record IsInOrder (carry : Bool) (patches : List Patch) (base : ℕ)
     (read sent log_bytes : List ℕ) (run : ScriptRun) (step : RunStep) : Type 0 where
   pub sent_begins : EachComing carry patches base run read (λ image outcomes last. Begins sent last)

@@ -1,4 +1,4 @@
--- Plumbing of `index_script`: what reading one line does.
+-- Plumbing of `index_script`: the effect of reading one line.
 use Rattle.std.specs.Prelude.{◌≡◌, ℕ, ◌+◌, List, Some, Result, Ok, Err}
 use Rattle.std.specs.List.{slice_set}
 use Rattle.cd_script.specs.PatchForm.{Patch}
@@ -9,7 +9,7 @@ use Rattle.cd_patch.specs.Blocks.{blocks_met}
 use Rattle.cd_c_scripts.specs.declared.entries.Entry.{Entry}
 use Rattle.cd_c_scripts.specs.declared.entries.Found.{Found}
 
--- a patch was counted, and its entry made if there was room
+-- a patch was counted, and its entry was written if there was room
 pub record Makes (p : Patch) (found : Found) (number start size : ℕ) (old new : List Entry)
     (result : Result Found ScriptFault) : Type 0 where
   pub is : result ≡ Ok (record { version = found.version; count = found.count + 1 })
@@ -21,7 +21,7 @@ pub record Makes (p : Patch) (found : Found) (number start size : ℕ) (old new 
   pub size_is : entry.size ≡ size
   pub met : entry.blocks_met ≡ blocks_met p
 
--- by what the line says
+-- the effect of a line, by its content
 abbrev pub IndexesBy : Result LineContent ScriptFault → Found → ℕ → ℕ → ℕ → List Entry → List Entry
     → Result Found ScriptFault → Type 0
 IndexesBy (Ok content.PassedOver) found number start size old new result =

@@ -1,4 +1,4 @@
--- A run that C leads by two calls: how far it has come, what it asks for, and what its client may have
+-- A run in two calls of C: its progress, its requests, and the bytes that its client may have
 -- moved.
 use Rattle.std.specs.Prelude.{◌≡◌, ◌≢◌, ℕ, ◌+◌, ◌-◌, ◌*◌, ◌==◌, ◌<◌, ◌≤◌, ◌⊎◌, ◌++◌, nat_lt, Bool, true, false, List, [], ◌∷◌, Option, None, Some, length, take, drop, if◌then◌else◌}
 use Rattle.std.specs.List.{slice_get, slice_index_or}
@@ -31,10 +31,11 @@ use Rattle.cd_c_scripts.specs.declared.run_state.RunStep.{RunStep}
 use Rattle.cd_c_scripts.specs.declared.run_state.ScriptRun.{ScriptRun}
 use Rattle.cd_c_scripts.specs.declared.run_state.TheConstants.{COPYING, FAULTY, NOTHING, OVER, READING, STOPPED, TOO_LONG, WRITING, WRITING_TAIL}
 
--- ---- how far a run has come
+-- ---- the progress of a run
 
--- `read` of the image has come, `sent` has gone out, and the lines `log_bytes` were told. The tail
--- stands in the hand until it has gone out; one that was copied only the client has seen
+-- the bytes `read` of the image were read, `sent` were written, and the lines `log_bytes` were
+-- logged. The tail is in the hand until it is written; the bytes of a tail that was copied are
+-- known only to the client
 pub record Going (carry : Bool) (patches : List Patch) (base : ℕ) (read sent log_bytes : List ℕ)
     (machine : PatchRun) (hand : List (List ℕ)) : Type 0 where
   pub seen : List (List ℕ)
@@ -53,20 +54,20 @@ pub record Going (carry : Bool) (patches : List Patch) (base : ℕ) (read sent l
   pub went : sent ≡ sent_bytes done (tail_at machine.stage tail) (closed_at machine.stage)
   pub logged : log_bytes ≡ log_lines (take machine.decided patches) outcomes
 
--- two hands are the same to a run: the sectors in hand, and the tail until it has gone out. What else
--- stands there is the client's
+-- two hands are the same for a run: they have the same sectors in hand, and the same tail until it
+-- is written. The rest of a hand belongs to the client
 pub record SameInHand (machine : PatchRun) (hand hand' : List (List ℕ)) : Type 0 where
   pub window : take machine.held hand' ≡ take machine.held hand
   pub tail : machine.stage ≡ 1
       → take machine.tail (slice_index_or hand' machine.held [])
       ≡ take machine.tail (slice_index_or hand machine.held [])
 
--- this step is next in a run over patches
+-- this step is the next one of a run with these patches
 abbrev pub Steps : List Patch → PatchRun → Step → Type 0
 Steps patches machine step =
     IsReady machine step × IsNext (drop machine.decided patches) machine step
 
--- what a run is about: these entries are those of its patches, which stand in the text
+-- the script of a run: these entries are those of its patches, which are in the text
 pub record About (text : List ℕ) (es : List Entry) (patches : List Patch) (base : ℕ)
     (run : ScriptRun) : Type 0 where
   pub small : base ≤ base_limit
@@ -76,27 +77,27 @@ pub record About (text : List ℕ) (es : List Entry) (patches : List Patch) (bas
   pub entries : AreEntries text named run.flags (take run.count es) patches
   pub list : IsPatchList patches
 
--- the size of an image that is not known before its end: `CDPATCH_UNKNOWN_SIZE`
+-- the size of an image whose size is unknown before its end: `CDPATCH_UNKNOWN_SIZE`
 abbrev pub unknown_size : ℕ
 unknown_size = 18446744073709551615
 
--- all that is left of the image is asked for
+-- all bytes that are left of the image are requested
 abbrev pub AsksForRest : ScriptRun → Type 0
 AsksForRest run =
     (0 < run.size) × (SECTOR_SIZE * run.machine.sectors + run.size ≡ run.image_size)
 
--- all that may be read at once is asked for: a sector, what is left of the image, or the byte after its
--- largest size
+-- as many bytes are requested as may be read at once: a sector, the rest of the image, or the byte
+-- after its largest size
 abbrev pub ReadsWhole : ScriptRun → Type 0
 ReadsWhole run =
     (run.size ≡ SECTOR_SIZE)
     ⊎ (AsksForRest run ⊎ ((run.machine.sectors ≡ sector_limit) × (run.size ≡ 1)))
 
--- all that may be copied at once is asked for: as many sectors as may be, or what is left of the image
+-- as many bytes are requested as may be copied at once: all sectors, or the rest of the image
 abbrev pub CopiesWhole : ScriptRun → Type 0
 CopiesWhole run = (run.size ≡ SECTOR_SIZE * run.most) ⊎ AsksForRest run
 
--- what a state asks for: the step that is next
+-- the request of a state: the next step
 pub data Asks (patches : List Patch) (run : ScriptRun) : Type 0 where
   nothing : run.asked ≡ NOTHING → Asks patches run
   copying : run.asked ≡ COPYING → Steps patches run.machine (Copy run.most)
@@ -109,12 +110,12 @@ pub data Asks (patches : List Patch) (run : ScriptRun) : Type 0 where
   writing_tail : run.asked ≡ WRITING_TAIL → Steps patches run.machine SendTail
       → run.size ≡ run.machine.tail → Asks patches run
 
--- the status of a run, by how many patches were refused
+-- the status of a run, from the number of refused patches
 abbrev pub status_of : ℕ → ℕ
 status_of refused = if refused == 0 then 0 else 1
 
--- at the end: the image is not too long, what was sent is the patched image, and what was logged its
--- log
+-- at the end: the image is not too long, the bytes that were sent are the patched image, and the
+-- bytes that were logged are its log
 pub record IsDone (carry : Bool) (patches : List Patch) (base : ℕ) (read sent log_bytes : List ℕ)
     (status : ℕ) : Type 0 where
   pub within : length read ≤ image_limit
@@ -123,8 +124,8 @@ pub record IsDone (carry : Bool) (patches : List Patch) (base : ℕ) (read sent 
   pub log_right : log_bytes ≡ log_text patches outcomes
   pub status_right : status ≡ status_of (refused_count outcomes)
 
--- one byte has come after the millionth sector: what was sent begins the patched image of what came
--- before it, and the log has the lines that `apply` prints then
+-- one byte was read after the millionth sector: the bytes that were sent are a prefix of the
+-- patched image of the bytes before it, and the log has the lines that `apply` prints in this case
 pub record IsBeyond (carry : Bool) (patches : List Patch) (base : ℕ) (read sent log_bytes : List ℕ)
     : Type 0 where
   pub beyond : length read ≡ image_limit + 1
@@ -132,15 +133,15 @@ pub record IsBeyond (carry : Bool) (patches : List Patch) (base : ℕ) (read sen
   pub as_applied : EachPatching carry patches base (take image_limit read)
       (λ outcomes last. Begins sent last × (log_bytes ≡ log_when_too_long patches outcomes base))
 
--- and then it says so
+-- the same, after the line for this error was logged
 pub record IsTooLong (carry : Bool) (patches : List Patch) (base : ℕ) (read sent log_bytes : List ℕ)
     : Type 0 where
   pub before : List ℕ
   pub ends : log_bytes ≡ before ++ long_image
   pub goes_beyond : IsBeyond carry patches base read sent before
 
--- the relation: of the image `read` has come, `sent` has gone out, `log_bytes` was told, and the
--- state asks for the step that is next
+-- the relation: `read` was read of the image, `sent` was written, `log_bytes` was logged, and the
+-- state requests the next step
 pub data IsRunning (text : List ℕ) (es : List Entry) (patches : List Patch) (base : ℕ)
     (read sent log_bytes : List ℕ) (run : ScriptRun) (hand : List (List ℕ)) : Type 0 where
   going : About text es patches base run
@@ -151,11 +152,11 @@ pub data IsRunning (text : List ℕ) (es : List Entry) (patches : List Patch) (b
   long : run.asked ≡ STOPPED → IsTooLong (carries run.flags) patches base read sent log_bytes
       → IsRunning text es patches base read sent log_bytes run hand
 
--- all that was asked for has come, or the size of the image is not known: then it may end with fewer
+-- all requested bytes were moved, or the size of the image is unknown: then it may end with fewer
 abbrev pub IsAllToCome : ScriptRun → ℕ → Type 0
 IsAllToCome run done = (done ≡ run.size) ⊎ (run.image_size ≡ unknown_size)
 
--- what a client did with the step of a state: `done` bytes were moved, and it passes this hand.
+-- the work of a client for the step of a state: it has moved `done` bytes, and passes this hand.
 -- `read` and `sent` have become `read'` and `sent'`
 pub data Moved (run : ScriptRun) (hand : List (List ℕ)) (done : ℕ)
     (read sent read' sent' : List ℕ) : Type 0 where
@@ -171,17 +172,17 @@ pub data Moved (run : ScriptRun) (hand : List (List ℕ)) (done : ℕ)
       → sent' ≡ sent ++ take done (slice_index_or hand 0 [])
       → Moved run hand done read sent read' sent'
 
--- ---- what is told
+-- ---- the steps that are returned
 
--- a sector is read only if a patch looks at it, or a byte to see whether the image goes on after its
--- largest size; without COPY each sector is read
+-- a sector is read only if a patch looks at it, and a single byte only to see whether the image is
+-- longer than its largest size; without COPY, each sector is read
 pub data IsLookedAt (patches : List Patch) (run : ScriptRun) : Type 0 where
   by_patch : (p : Patch) (others : List Patch) → drop run.machine.decided patches ≡ p ∷ others
       → p.block ≡ run.machine.block → run.machine.held < blocks_met p → IsLookedAt patches run
   beyond : run.machine.sectors ≡ sector_limit → run.size ≡ 1 → IsLookedAt patches run
   no_copy : copies run.flags ≡ false → IsLookedAt patches run
 
--- a line is told
+-- the step logs a line
 pub record IsLog (run : ScriptRun) (step : RunStep) : Type 0 where
   pub kind : step.kind ≡ log_kind
   pub size : step.size ≡ run.size
@@ -193,7 +194,7 @@ abbrev pub IsLineOf : List Patch → ℕ → ℕ → Type 0
 IsLineOf patches place number =
     (p : Patch) × (slice_get patches place ≡ Some p) × (number ≡ p.line)
 
--- it is the line of the patch that was decided, with what became of it
+-- the step logs the line of the patch that was decided, and has its outcome
 pub record TellsPatch (patches : List Patch) (run : ScriptRun) (step : RunStep) : Type 0 where
   pub p : Patch
   pub o : Outcome
@@ -204,7 +205,7 @@ pub record TellsPatch (patches : List Patch) (run : ScriptRun) (step : RunStep) 
   pub block : step.block ≡ outcome_block o
   pub offset : step.offset ≡ outcome_offset o
 
--- the step tells what the state asks for
+-- the step is the one that the state requests
 pub data Tells (patches : List Patch) (read sent : List ℕ) (run : ScriptRun) (step : RunStep)
     : Type 0 where
   to_end : step.kind ≡ end_kind → run.asked ≡ OVER → step.status ≡ run.most
@@ -225,7 +226,7 @@ pub data Tells (patches : List Patch) (read sent : List ℕ) (run : ScriptRun) (
   to_log_last : IsLog run step → (run.asked ≡ OVER) ⊎ (run.asked ≡ STOPPED) → step.number ≡ 0
       → Tells patches read sent run step
 
--- what a call leaves: the run goes on, with the step that it tells, and in the order of `apply`
+-- the result of a call: the run continues with the step that it returns, in the order of `apply`
 pub record Goes (text : List ℕ) (es : List Entry) (patches : List Patch) (base : ℕ)
     (read sent log_bytes : List ℕ) (run : ScriptRun) (hand : List (List ℕ)) (step : RunStep)
     : Type 0 where
@@ -233,36 +234,37 @@ pub record Goes (text : List ℕ) (es : List Entry) (patches : List Patch) (base
   pub tells : Tells patches read sent run step
   pub in_order : IsInOrder (carries run.flags) patches base read sent log_bytes run step
 
--- ---- a run that is not begun
+-- ---- a run that has not begun
 
--- what is returned in place of a number of entries: `CDPATCH_REFUSED`, which is `SIZE_MAX`
+-- the result in place of a number of entries: `CDPATCH_REFUSED`, which is `SIZE_MAX`
 abbrev pub refusal : ℕ
 refusal = 18446744073709551615
 
--- the line of an error, by its number and the script's line
+-- the line for an error of a script; empty if there is none
 abbrev pub some_line : Option ScriptFault → List ℕ
 some_line None = []
 some_line (Some fault) = script_fault_line fault
 
--- the same of a script that is too long
+-- the line for an error, by its number and the script's line; a script that is too long has a
+-- number of its own
 abbrev pub error_line : ℕ → ℕ → List ℕ
 error_line number line =
     if number == TOO_LONG then long_script else some_line (fault_of number line)
 
--- nothing was begun, since there is an error of this line
+-- no run has begun, because the script has the error of this line
 abbrev pub IsFaulty : List ℕ → ScriptRun → Type 0
 IsFaulty line run = (run.asked ≡ FAULTY) × (error_line run.most run.line ≡ line) × (run.size ≡ 0)
 
--- ---- how many steps are left
+-- ---- the number of steps that are left
 
--- those that the patches may still ask for: each sector comes and goes out, each patch is decided,
--- and the image ends
+-- the steps that the patches may still need: each sector is read and written, each patch is
+-- decided, and the image ends
 abbrev pub machine_steps : ℕ → PatchRun → ℕ
 machine_steps count machine =
     2 * (sector_limit - machine.sectors) + machine.held + (count - machine.decided)
     + (2 - machine.stage)
 
--- what the step that was told adds
+-- the further steps that the last request adds
 abbrev pub told_steps : ℕ → ℕ
 told_steps asked =
     if asked == NOTHING then 2
@@ -270,13 +272,13 @@ told_steps asked =
     else if asked == FAULTY then 1
     else 0
 
--- at most so many steps are left before the end
+-- the largest number of steps that are left before the end
 abbrev pub steps_left : ScriptRun → ℕ
 steps_left run = machine_steps run.count run.machine + told_steps run.asked
 
 -- ---- plumbing of the calls
 
--- whether a step moves bytes of the image that have not come
+-- whether a step needs bytes of the image that were not read or copied yet
 abbrev pub is_coming : Step → Bool
 is_coming (Copy count) = true
 is_coming Read = true
@@ -294,13 +296,13 @@ is_tail Send = false
 is_tail SendTail = true
 is_tail End = false
 
--- the first patch left begins at the front block, and meets more than is in hand
+-- the first patch that is left begins at the front block, and touches more sectors than are in hand
 abbrev pub MeetsMore : List Patch → PatchRun → Type 0
 MeetsMore left machine =
     (p : Patch) × (others : List Patch) × (left ≡ p ∷ others) × (p.block ≡ machine.block)
     × (machine.held < blocks_met p)
 
--- a step looks at what it reads, or the image has its largest size
+-- a sector is read because a patch looks at it, or the image has its largest size
 abbrev pub Looks : List Patch → PatchRun → Step → Type 0
 Looks left machine Read = (machine.sectors ≡ sector_limit) ⊎ MeetsMore left machine
 Looks left machine (Copy count) = Unit {0}
@@ -309,25 +311,25 @@ Looks left machine Send = Unit {0}
 Looks left machine SendTail = Unit {0}
 Looks left machine End = Unit {0}
 
--- the step that is next, and why
+-- the next step, and its reason
 abbrev pub Comes : List Patch → PatchRun → Step → Type 0
 Comes patches machine step =
     Steps patches machine step × Looks (drop machine.decided patches) machine step
 
--- a state in which nothing but this differs
+-- the state with a different request
 abbrev pub with_asked : ScriptRun → ℕ → ℕ → ℕ → ScriptRun
 with_asked run asked most size = record run { asked = asked; most = most; size = size }
 
--- the run has come to this stage, or is no run
+-- the run has reached this stage, or has stopped
 abbrev pub EndsOr : ScriptRun → ℕ → Type 0
 EndsOr run stage = (run.asked ≡ STOPPED) ⊎ (stage ≤ run.machine.stage)
 
--- bytes of the image were asked for
+-- bytes of the image are requested
 abbrev pub AsksForImage : ScriptRun → Type 0
 AsksForImage run = (run.asked ≡ READING) ⊎ (run.asked ≡ COPYING)
 
--- why the image may have ended: its size was not known, and fewer bytes came than were asked for; or
--- what was left of its size has come; or nothing is left of it
+-- why the image may have ended: its size was unknown, and fewer bytes were moved than requested; or
+-- the rest of its size was moved; or nothing is left of its size
 pub data MayEnd (before now : ScriptRun) (done : ℕ) : Type 0 where
   fewer : AsksForImage before → done < before.size → before.image_size ≡ unknown_size
       → MayEnd before now done
@@ -335,29 +337,29 @@ pub data MayEnd (before now : ScriptRun) (done : ℕ) : Type 0 where
       → MayEnd before now done
   known : before.image_size ≤ SECTOR_SIZE * now.machine.sectors → MayEnd before now done
 
--- fewer bytes came than were asked for of an image whose size was known
+-- fewer bytes were moved than requested, although the size of the image is known
 abbrev pub IsShort : ScriptRun → ℕ → Type 0
 IsShort run done = AsksForImage run × (done < run.size) × (run.image_size ≢ unknown_size)
 
--- the run says that reading the image failed, and ends with 2
+-- the run logs that reading the image failed, and then ends with status 2
 pub record FailsRead (run : ScriptRun) (step : RunStep) : Type 0 where
   pub kind : step.kind ≡ log_kind
   pub line : take step.size step.text ≡ failed_read
   pub asked : run.asked ≡ STOPPED
 
--- the run ends with 2
+-- the run ends with status 2
 pub record Stops (run : ScriptRun) (step : RunStep) : Type 0 where
   pub kind : step.kind ≡ end_kind
   pub status : step.status ≡ 2
   pub asked : run.asked ≡ STOPPED
 
--- no more is asked for than the image has
+-- no more bytes are requested than the image has
 abbrev pub KeepsToSize : ScriptRun → RunStep → Type 0
 KeepsToSize run step =
     (step.kind ≡ read_kind) ⊎ (step.kind ≡ copy_kind) → step.at + step.size ≤ run.image_size
 
--- a step asks for all that may come: a sector, or what is left of the image, or a byte after its largest
--- size; or as many sectors as may be copied, or what is left
+-- a step requests as many bytes as it may: to read, a sector, the rest of the image, or the byte
+-- after its largest size; to copy, as many sectors as may be copied, or the rest of the image
 abbrev pub AsksWhole : ScriptRun → RunStep → Type 0
 AsksWhole run step =
     (step.kind ≡ read_kind → (step.size ≡ SECTOR_SIZE) ⊎ (step.at + step.size ≡ run.image_size)
@@ -365,15 +367,15 @@ AsksWhole run step =
     × (step.kind ≡ copy_kind
     → (step.size ≡ SECTOR_SIZE * run.most) ⊎ (step.at + step.size ≡ run.image_size))
 
--- the step reports no patch
+-- the step does not report a patch
 pub record IsPlain (step : RunStep) : Type 0 where
   pub number : step.number ≡ 0
   pub result : step.result ≡ 0
   pub block : step.block ≡ 0
   pub offset : step.offset ≡ 0
 
--- a run over patches has begun: nothing was asked for, and nothing has come, gone out or been logged,
--- whatever hand it is lent. The image has not ended
+-- a run with these patches has begun: nothing was requested, read, written or logged, whatever hand
+-- it gets. The image has not ended
 abbrev pub IsBegun : List ℕ → List Entry → List Patch → ℕ → ScriptRun → Type 0
 IsBegun text es patches base run =
     (run.size ≡ 0) × (run.asked ≡ NOTHING) × (run.machine.stage ≡ 0)

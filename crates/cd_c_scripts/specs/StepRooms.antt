@@ -1,4 +1,4 @@
--- The rooms that a step needs. The numbers are those of `cdpatch.h`.
+-- The sizes of the buffers of a step, as in `cdpatch.h`.
 use Rattle.std.specs.Prelude.{◌≡◌, ℕ, ◌+◌, ◌*◌, ◌<◌, ◌≤◌, ◌⊎◌}
 use Rattle.cd_c_scripts.specs.StepKinds.{end_kind, log_kind, read_kind, write_kind}
 use Rattle.cd_c_scripts.specs.declared.run_state.RunStep.{RunStep}
@@ -11,8 +11,8 @@ hand_room = 3 * 2352
 abbrev pub line_room : ℕ
 line_room = 96
 
--- the step is one of the five. What it moves stands in the first three sectors of the hand, at most a
--- sector of it, and its line in its text; only the end moves nothing
+-- the step is one of the five kinds. The bytes that it moves are in the first three sectors of the
+-- hand, at most a sector of them, and its line is in its text; only the end moves nothing
 pub record KeepsToRooms (step : RunStep) : Type 0 where
   pub known : step.kind ≤ log_kind
   pub hand : (step.kind ≡ read_kind) ⊎ (step.kind ≡ write_kind)

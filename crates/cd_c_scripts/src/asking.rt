@@ -1,4 +1,4 @@
-//! What a run asks for next.
+//! Finds the next step of a run.
 
 ghost use Rattle.std.specs.Prelude.{◌≡◌, ℕ, ◌<◌, ◌≤◌, Bool, IfNone, IfSome, IsSomeAnd, List, Some, length, true};
 ghost use Rattle.cd_script.specs.Patch.{IsPatchList};
@@ -17,7 +17,8 @@ use cd_patch::MAX_BLOCKS_MET;
 use cd_run::{Ahead, PatchRun, Step};
 use cd_sector::Sector;
 
-/// The patch of an entry, as the machine has to know it; none if it is the entry of no patch.
+/// The first block of an entry's patch, and the number of blocks that it touches; `None` if no
+/// patch has such an entry.
 fn ahead_of(entry: &Entry) -> Option<Ahead>
     ensures few { IfSome result (λ a. (0 < a.blocks_met) × (a.blocks_met ≤ block_limit)) }
     ensures block { IfSome result (λ a. a.block ≡ entry.now.block) }
@@ -34,7 +35,8 @@ fn ahead_of(entry: &Entry) -> Option<Ahead>
     })
 }
 
-/// What is next of the machine, by the entry of the next patch; none if it is the entry of no patch.
+/// The next step of the machine, from the entry of the next patch; `None` if no patch has such an
+/// entry.
 fn next_step(machine: &PatchRun, entries: &[Entry]) -> Option<Step>
     requires sound { IsRun machine.now }
     ensures ready { IfSome result (IsReady machine.now) }
@@ -55,7 +57,7 @@ fn next_step(machine: &PatchRun, entries: &[Entry]) -> Option<Step>
     Some(machine.next(Some(ahead)))
 }
 
-/// Whether a step moves bytes of the image that have not come.
+/// Whether a step needs bytes of the image that were not read or copied yet.
 fn is_coming(step: Step) -> bool
     ensures { result ≡ is_coming step }
 {
@@ -83,7 +85,8 @@ fn is_tail(step: Step) -> bool
     }
 }
 
-/// What is next; if that needs more of an image of which nothing is left, after its end.
+/// The next step. If it needs more of the image and nothing is left, marks the end of the image
+/// first.
 fn step_after_end(
     machine: &mut PatchRun,
     entries: &[Entry],
@@ -123,8 +126,8 @@ fn step_after_end(
     next_step(machine, entries)
 }
 
-/// What is next, and asks for bytes that there are: neither for more of an image of which nothing is
-/// left, nor that a tail without bytes goes out.
+/// The next step. It does not need more of the image if nothing is left, and it does not send a
+/// tail without bytes.
 pub(crate) fn some_step(
     machine: &mut PatchRun,
     entries: &[Entry],

@@ -1,6 +1,7 @@
-//! A client of the two calls of a run, over any source and any two sinks: it moves the bytes that each
-//! step asks for, as the client that `cdpatch.h` prints. It is proved from the contracts of the calls
-//! alone, so these are enough for whoever moves what he is asked for: he has done what `apply` does.
+//! A client of the two calls of a run, over any source and any two sinks. It moves the bytes that
+//! each step requests, like the client in `cdpatch.h`. It is proved from the contracts of the calls
+//! alone, so these are sufficient: every client that moves the requested bytes has done what
+//! `apply` does.
 
 ghost use Rattle.std.specs.Prelude.{◌≡◌, ◌≢◌, ℕ, ◌+◌, ◌*◌, ◌<◌, ◌≤◌, [], Bool, Err, List, Ok, OnOk, length, take, true};
 ghost use Rattle.cd_script.specs.Limits.{text_limit};
@@ -33,7 +34,7 @@ use cd_script::MAX_BYTES;
 use cd_sector::Sector;
 use cd_stream::{Sink, Source};
 
-/// Moves the bytes that a step asks for, and returns how many.
+/// Moves the bytes that a step requests, and returns their number.
 fn take_step<I: Source, O: Sink, L: Sink>(
     step: &RunStep,
     hand: &mut [Sector],
@@ -69,7 +70,7 @@ fn take_step<I: Source, O: Sink, L: Sink>(
     }
 }
 
-/// Takes each step and asks for the next, up to the end, and returns the status.
+/// Carries out each step and requests the next, until the end, and returns the status.
 fn lead<I: Source, O: Sink, L: Sink>(
     run: &mut ScriptRun,
     script: &[u8],
@@ -107,7 +108,7 @@ fn lead<I: Source, O: Sink, L: Sink>(
     Ok(step.status)
 }
 
-/// The flags of a run: damage is carried or not, COPY may be asked for, and old bytes are compared.
+/// The flags of a run: damage is carried or not, COPY may be requested, and old bytes are compared.
 fn flags_of(carry: bool) -> u32
     ensures carries { carries result ≡ carry }
     ensures asked { (ps : List ThePatch) → all_as_asked result ps ≡ ps }
@@ -116,7 +117,7 @@ fn flags_of(carry: bool) -> u32
     if carry { CARRY } else { 0 }
 }
 
-/// Begins a run, and asks for its first step.
+/// Begins a run, and requests its first step.
 fn begin(
     run: &mut ScriptRun,
     script: &[u8],
@@ -146,7 +147,7 @@ fn begin(
     cdpatch_run_next(run, 0, script, entries, hand, rooms, step);
 }
 
-/// Ends a run of this status: passes on what the sinks hold back.
+/// Ends a run with this status: flushes the output, unless the status is above 1, and the log.
 fn close<O: Sink, L: Sink>(status: u32, out: &mut O, log: &mut L) -> Result<u32, Fault>
     requires out_countable { CanCountFailure (O.seen out.old).failures }
     requires log_countable { CanCountFailure (L.seen log.old).failures }
@@ -169,7 +170,7 @@ fn close<O: Sink, L: Sink>(status: u32, out: &mut O, log: &mut L) -> Result<u32,
     Ok(status)
 }
 
-/// The state of no run.
+/// The state before a run has begun.
 fn no_run() -> ScriptRun {
     ScriptRun {
         machine: PatchRun::new(0),
@@ -184,7 +185,7 @@ fn no_run() -> ScriptRun {
     }
 }
 
-/// A step that asks for nothing.
+/// A step that requests nothing.
 fn no_step() -> RunStep {
     RunStep {
         kind: END,
@@ -200,12 +201,12 @@ fn no_step() -> RunStep {
     }
 }
 
-/// Applies a script to an image as the calls of a run lead it, sends the patched image to `out` and the
+/// Applies a script to an image by the calls of a run, writes the patched image to `out` and the
 /// log to `log`, and returns the status: 0, or 1 if a patch was refused.
 ///
-/// `entries` has room for as many as the script has patches, and `hand` three sectors. For a text that is
-/// not a script, `log` gets the line that says so, nothing is read, and the status is 2. It is 2 too where
-/// the entries have not room for all.
+/// `entries` has room for as many entries as the script has patches, and `hand` for three sectors.
+/// For a text that is not a script, `log` gets the line for its error, nothing is read, and the
+/// status is 2. The status is also 2 if there is not enough room for all entries.
 ///
 /// # Errors
 ///
@@ -231,7 +232,7 @@ pub fn run_script<I: Source, O: Sink, L: Sink>(
         → patches_in script.now ≡ Ok ps → length ps ≤ length entries.old
         → AppliesAs carry (order ps) base (I.seen image.old) (I.seen image.new)
         (O.seen out.old) (O.seen out.new) (L.seen log.old) (L.seen log.new) result }
-    // For another text, its line.
+    // For a text that is not a script, the line for its error.
     ensures too_long { text_limit < length script.now
         → Refuses long_script (streams (I.seen image.old) (O.seen out.old) (L.seen log.old))
         (streams (I.seen image.new) (O.seen out.new) (L.seen log.new)) result }

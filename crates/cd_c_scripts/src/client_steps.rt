@@ -1,4 +1,5 @@
-//! The steps of a run that a client takes: each moves the bytes that it asks for.
+//! The steps of a run, as a client carries them out: each function moves the bytes that a step
+//! requests.
 
 ghost use Rattle.std.specs.Prelude.{◌≡◌, ◌≢◌, ℕ, ◌+◌, ◌*◌, ◌<◌, ◌≤◌, ◌⊎◌, [], Bool, List, OnOk, length, take};
 ghost use Rattle.std.specs.List.{slice_index_or};
@@ -18,10 +19,11 @@ use cd_read::Fault;
 use cd_sector::{MAX_SECTORS, SECTOR_SIZE, Sector};
 use cd_stream::{Sink, SinkFailed, Source, SourceFailed, fill_buffer, write_all};
 
-/// The largest size of an image.
+/// The largest size of an image, in bytes.
 const LARGEST: u64 = 2_352_000_000;
 
-/// A write to the log failed, or its flush. A separate type, so that `?` maps it to `Fault::Log`.
+/// A write to the log, or its flush, has failed. A separate type, so that `?` maps it to
+/// `Fault::Log`.
 #[derive(Clone, Copy, Debug)]
 pub(crate) struct LogFailed;
 
@@ -39,8 +41,8 @@ impl From<LogFailed> for Fault {
     }
 }
 
-/// Proof step: reads `size` bytes to one of the places, so that a clause can say that those before it
-/// stay.
+/// Proof step: reads `size` bytes to the sector at `place`, so that a clause can say that the
+/// sectors before it do not change.
 fn read_to<I: Source>(
     hand: &mut [Sector],
     place: usize,
@@ -59,7 +61,7 @@ fn read_to<I: Source>(
     read_part(&mut hand[place], size, image)
 }
 
-/// Proof step: reads to the first bytes of a sector.
+/// Proof step: reads to the first `size` bytes of a sector.
 fn read_part<I: Source>(
     sector: &mut Sector,
     size: usize,
@@ -73,8 +75,8 @@ fn read_part<I: Source>(
     sector.with_bytes_mut(image, |image, bytes| fill_buffer(image, &mut bytes[..size]))
 }
 
-/// READ: the bytes come to the place in the hand. A byte that comes after the millionth sector ends the
-/// client as it ends `apply`.
+/// READ: reads bytes of the image to their place in the hand. A byte after the millionth sector is
+/// an error, as for `apply`.
 pub(crate) fn read_step<I: Source>(
     step: &RunStep,
     hand: &mut [Sector],
@@ -101,7 +103,7 @@ pub(crate) fn read_step<I: Source>(
     Ok(done)
 }
 
-/// How many of the bytes that are left are passed on next: at most a sector.
+/// The size of the next part of the bytes that are left to copy: at most a sector.
 fn next_part(left: usize) -> usize
     ensures few { result ≤ left }
     ensures sector { result ≤ SECTOR_SIZE }
@@ -114,7 +116,7 @@ fn next_part(left: usize) -> usize
     }
 }
 
-/// Passes on some bytes of the image, at most a sector, by way of the first place in the hand.
+/// Copies at most a sector of the image to the output, through the first sector of the hand.
 fn copy_part<I: Source, O: Sink>(
     asked: usize,
     hand: &mut [Sector],
@@ -134,7 +136,7 @@ fn copy_part<I: Source, O: Sink>(
     Ok(came)
 }
 
-/// COPY: the bytes go from the image to the output as they are.
+/// COPY: copies bytes from the image to the output as they are.
 pub(crate) fn copy_step<I: Source, O: Sink>(
     step: &RunStep,
     hand: &mut [Sector],
@@ -166,7 +168,7 @@ pub(crate) fn copy_step<I: Source, O: Sink>(
     Ok(done)
 }
 
-/// WRITE: the first bytes of the hand go out.
+/// WRITE: writes the first bytes of the hand to the output.
 pub(crate) fn write_step<O: Sink>(
     step: &RunStep,
     hand: &[Sector],
@@ -188,7 +190,7 @@ pub(crate) fn write_step<O: Sink>(
     Ok(step.size)
 }
 
-/// Proof step: writes to the log, whose failure is a `LogFailed`.
+/// Proof step: writes to the log. An error is a `LogFailed`.
 fn write_log<L: Sink>(log: &mut L, line: &[u8]) -> Result<(), LogFailed>
     requires { CanCountFailure (L.seen log.old).failures }
     ensures { Sends (L.seen log.old) (L.seen log.new) line.now result }
@@ -196,7 +198,7 @@ fn write_log<L: Sink>(log: &mut L, line: &[u8]) -> Result<(), LogFailed>
     Ok(write_all(log, line)?)
 }
 
-/// LOG: the line goes to the log.
+/// LOG: writes the line of the step to the log.
 pub(crate) fn log_step<L: Sink>(
     step: &RunStep,
     hand: &[Sector],
@@ -217,7 +219,7 @@ pub(crate) fn log_step<L: Sink>(
     Ok(step.size)
 }
 
-/// Proof step: the flush of the output, apart.
+/// Proof step: flushes the output.
 pub(crate) fn finish_output<O: Sink>(out: &mut O) -> Result<(), SinkFailed>
     requires { CanCountFailure (O.seen out.old).failures }
     ensures { Flushes (O.seen out.old) (O.seen out.new) result }
@@ -225,7 +227,7 @@ pub(crate) fn finish_output<O: Sink>(out: &mut O) -> Result<(), SinkFailed>
     out.finish()
 }
 
-/// Proof step: the flush of the log, whose failure is a `LogFailed`.
+/// Proof step: flushes the log. An error is a `LogFailed`.
 pub(crate) fn finish_log<L: Sink>(log: &mut L) -> Result<(), LogFailed>
     requires { CanCountFailure (L.seen log.old).failures }
     ensures { Flushes (L.seen log.old) (L.seen log.new) result }

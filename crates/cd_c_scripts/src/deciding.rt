@@ -1,4 +1,4 @@
-//! Deciding the patch of an entry: its line is read again.
+//! Decides the patch of an entry, after reading its line again.
 
 ghost use Rattle.std.specs.Prelude.{◌≡◌, ◌≢◌, ℕ, ◌+◌, ◌<◌, ◌≤◌, ◌↔◌, ◌++◌, [], IfNone, IfOk, IfSome, List, Ok, Some, drop, length, take, true};
 ghost use Rattle.std.specs.List.{slice_get, slice_index_or};
@@ -29,12 +29,12 @@ use cd_script::{
 };
 use cd_sector::Sector;
 
-/// What became of a patch, and the number of its line.
+/// The outcome of a patch, and the number of its line.
 #[derive(Clone, Copy)]
 pub(crate) struct Decided {
     /// The number of its line.
     pub number: u32,
-    /// What became of it.
+    /// The outcome of the patch.
     pub outcome: Outcome,
 }
 
@@ -47,7 +47,7 @@ pub(crate) fn see_place(hand: &[Sector], place: u32)
     }
 }
 
-/// The entry at a place, if there are so many.
+/// The entry at an index, if there is one.
 pub(crate) fn entry_at(entries: &[Entry], place: u32) -> Option<&Entry>
     ensures some { IfSome result (λ e. slice_get entries.now place ≡ Some e.now) }
     ensures none { IfNone result (length entries.now ≤ place) }
@@ -55,7 +55,7 @@ pub(crate) fn entry_at(entries: &[Entry], place: u32) -> Option<&Entry>
     entries.get(place as usize)
 }
 
-/// The bytes of a line in a text.
+/// The bytes of a line in a text; `None` if the text is too short.
 fn line_at<'a>(text: &'a [u8], start: u32, size: u32) -> Option<&'a [u8]>
     ensures some { IfSome result (λ line. line.now ≡ take size (drop start text.now)) }
     ensures within { IfSome result (λ _. start + size ≤ length text.now) }
@@ -86,7 +86,7 @@ fn patch_in(read: Result<LineContent<'_>, ScriptFault>) -> Option<HexPatch<'_>>
     }
 }
 
-/// The patch of a line, with the bytes that were written of it.
+/// The patch of a line, with its bytes in the buffers to which they were written.
 fn patch_with<'a>(
     found: &HexPatch<'_>,
     flat: &FlatPatch,
@@ -105,7 +105,7 @@ fn patch_with<'a>(
     })
 }
 
-/// A patch as the flags want it.
+/// A patch as the flags require it: without its old bytes if they are not compared.
 fn as_asked(patch: Patch<LentBytes<'_>>, flags: u32) -> Patch<LentBytes<'_>>
     ensures { result ≡ as_asked flags patch.entry }
 {
@@ -115,7 +115,7 @@ fn as_asked(patch: Patch<LentBytes<'_>>, flags: u32) -> Patch<LentBytes<'_>>
     without_old(patch)
 }
 
-/// Whether a patch is that of an entry.
+/// Whether a patch has the block and the number of blocks of an entry.
 fn is_of(found: &HexPatch<'_>, entry: &Entry) -> bool
     requires { IsPatch found.now }
     ensures { result ≡ true ↔ (found.now.block ≡ entry.now.block)
@@ -124,8 +124,8 @@ fn is_of(found: &HexPatch<'_>, entry: &Entry) -> bool
     found.block == entry.block && blocks_met(found) == entry.blocks_met
 }
 
-/// Decides the next patch. None is decided if a number of the state, or the entry, is not a run's:
-/// if there is no entry, or if its line, read again, is none of its patch.
+/// Decides the next patch. Returns `None` if a number of the state cannot be that of a run, if
+/// there is no entry, or if re-reading its line no longer gives a patch that matches the entry.
 pub(crate) fn decide(
     run: &mut ScriptRun,
     script: &[u8],

@@ -1,4 +1,4 @@
-//! The entries of a script's patches, in the order of application.
+//! Reads a script into entries, one for each patch, in the order of application.
 
 ghost use Rattle.std.specs.Prelude.{◌≡◌, ℕ, ◌<◌, ◌≤◌, Err, IfErr, IfOk, List, Some, drop, length, take};
 ghost use Rattle.std.specs.List.{slice_set};
@@ -18,32 +18,32 @@ ghost use Rattle.cd_patch.specs.Blocks.{block_limit, blocks_met};
 use cd_patch::blocks_met_spelled;
 use cd_script::{HexPatch, LineContent, ScriptFault, Version, first_line, read_line};
 
-/// A patch of a script, as C's `struct cdpatch_entry`.
+/// The entry of a patch in the index of a script, as C's `struct cdpatch_entry`.
 #[derive(Clone, Copy)]
 #[repr(C)]
 pub struct Entry {
-    /// The block in which it begins.
+    /// The block in which the patch begins.
     pub block: u32,
-    /// The number of its line.
+    /// The number of its line in the script.
     pub number: u32,
-    /// Where its line begins in the text.
+    /// The offset of its line in the text.
     pub start: u32,
-    /// How many bytes its line has, without its end.
+    /// The size of its line in bytes, without its end.
     pub size: u32,
-    /// How many blocks it meets.
+    /// The number of blocks that it touches.
     pub blocks_met: u32,
 }
 
-/// What a script's text is.
+/// The result of indexing a script.
 #[derive(Clone, Copy)]
 pub(crate) struct ScriptIndex {
-    /// The version that its head line names.
+    /// The version in its head line.
     pub version: Version,
-    /// How many patches it has.
+    /// The number of its patches.
     pub count: usize,
 }
 
-/// How many blocks a patch meets.
+/// The number of blocks that a patch touches.
 pub(crate) fn blocks_met(patch: &HexPatch<'_>) -> u32
     requires { IsPatch patch.now }
     ensures number { result ≡ blocks_met patch.now }
@@ -79,7 +79,7 @@ fn put_in_order(entries: &mut [Entry])
     sort(entries);
 }
 
-/// Proof step: a text from a place on.
+/// Proof step: the rest of a text from a place on.
 fn rest_of(text: &[u8], start: usize) -> &[u8]
     requires { start ≤ length text.now }
     ensures { result.now ≡ drop start text.now }
@@ -87,14 +87,14 @@ fn rest_of(text: &[u8], start: usize) -> &[u8]
     &text[start..]
 }
 
-/// What was found before a line: the version of the head line, and how many patches.
+/// The state before a line: the version of the head line, and the number of patches so far.
 #[derive(Clone, Copy)]
 struct Found {
     version: Option<Version>,
     count: usize,
 }
 
-/// Writes an entry, if there is a place for it.
+/// Writes an entry, if there is room for it.
 fn put_entry(entries: &mut [Entry], place: usize, entry: Entry)
     ensures { entries.new ≡ slice_set entries.old place entry }
 {
@@ -103,8 +103,8 @@ fn put_entry(entries: &mut [Entry], place: usize, entry: Entry)
     }
 }
 
-/// Reads the line of this number, which begins at `start`, and makes the entry of its patch, if there
-/// is a place for it.
+/// Reads line `number`, which begins at `start` in the text. If it is a patch, counts it, and
+/// writes its entry if there is room.
 fn index_line(
     found: Found,
     number: u32,
@@ -142,7 +142,7 @@ fn index_line(
     }
 }
 
-/// Puts the first entries in the order of application, if there are so many.
+/// Puts the first `count` entries in the order of application, if there are that many.
 fn put_first_in_order(entries: &mut [Entry], count: usize)
     ensures size { length entries.new ≡ length entries.old }
     ensures order { count ≤ length entries.old → (text : List ℕ) (version : TheVersion)
@@ -155,7 +155,7 @@ fn put_first_in_order(entries: &mut [Entry], count: usize)
     }
 }
 
-/// Makes an index of a script: an entry for each of its patches, as far as there are places.
+/// Indexes a script: writes an entry for each of its patches, as far as there is room.
 pub(crate) fn index_script(text: &[u8], entries: &mut [Entry]) -> Result<ScriptIndex, ScriptFault>
     requires { length text.now ≤ text_limit }
     ensures indexed { IfOk result (λ index.

@@ -1,6 +1,6 @@
-//! A patch as a flat record: the patch that such a record is, and writing a patch into what C has
-//! lent, its record and its bytes to the front of two rooms. The one place here in which the edits
-//! are told apart.
+//! Converts patches to and from flat records. The new and old bytes of a patch are at the front of
+//! two buffers that the C program provides. Only this file of the crate distinguishes the kinds of
+//! edits.
 
 ghost use Rattle.std.specs.Prelude.{◌≡◌, ◌≤◌, List, ℕ, IfSome, Some, [], length, take, unwrap_or};
 ghost use Rattle.cd_script.specs.declared.patch.Edit.TheVariants.{Put};
@@ -22,28 +22,28 @@ const REBUILD: u8 = 2;
 /// The verb `address`.
 const ADDRESS: u8 = 3;
 
-/// A patch, as C's `struct cdpatch_patch`. The new and the old bytes of a `set` stand at the front of
-/// two rooms.
+/// A patch, as C's `struct cdpatch_patch`. The new and the old bytes of a `set` are at the front of
+/// two buffers.
 #[derive(Clone, Copy)]
 #[repr(C)]
 pub struct FlatPatch {
-    /// The block in which it begins.
+    /// The block in which the patch begins.
     pub block: u32,
-    /// The user byte of that block at which it begins.
+    /// The offset in the user data of that block at which the patch begins.
     pub offset: u16,
-    /// How many bytes a `set` or a `fill` changes.
+    /// The number of bytes that a `set` or `fill` writes.
     pub count: u16,
-    /// What it does: 0 `set`, 1 `fill`, 2 `rebuild`, 3 `address`.
+    /// The verb: 0 `set`, 1 `fill`, 2 `rebuild`, 3 `address`.
     pub verb: u8,
-    /// Whether a `set` names old bytes: 1, else 0.
+    /// 1 if a `set` has old bytes, else 0.
     pub has_old: u8,
-    /// What each byte of a `fill` becomes.
+    /// The value that a `fill` writes to each byte.
     pub value: u8,
-    /// Minute, second and fraction of an `address`, each in BCD.
+    /// The minute, second and fraction of an `address`, each in BCD.
     pub address: [u8; 3],
 }
 
-/// As many bytes at the front of a room.
+/// The first `count` bytes of a buffer.
 fn front(count: u16, room: &[u8; MAX_BYTES]) -> LentBytes<'_>
     requires { count ≤ bytes_limit }
     ensures { result ≡ take count room.now }
@@ -51,7 +51,7 @@ fn front(count: u16, room: &[u8; MAX_BYTES]) -> LentBytes<'_>
     LentBytes::new(&room[..usize::from(count)])
 }
 
-/// The edit of a `set`.
+/// The edit of a `set`; `None` if `count` is above [`MAX_BYTES`], or `has_old` is neither 0 nor 1.
 fn set_of<'a>(
     count: u16,
     has_old: u8,
@@ -74,7 +74,7 @@ fn set_of<'a>(
     }
 }
 
-/// The edit of a record.
+/// The edit of a record; `None` if the record is malformed.
 pub(crate) fn edit_of<'a>(
     flat: &FlatPatch,
     new: &'a [u8; MAX_BYTES],
@@ -94,7 +94,7 @@ pub(crate) fn edit_of<'a>(
     }
 }
 
-/// The patch of a record, if it is that of one. The record has no line: it is 0.
+/// Decodes a record; `None` if it is malformed. A record has no line number, so the line is 0.
 pub(crate) fn patch_of<'a>(
     flat: &FlatPatch,
     new: &'a [u8; MAX_BYTES],
@@ -111,7 +111,7 @@ pub(crate) fn patch_of<'a>(
     })
 }
 
-/// Writes the bytes of a hex word to the front of a room, and returns how many they are.
+/// Writes the bytes of a hex word to the front of a buffer, and returns their number.
 fn lend_bytes(word: &HexWord<'_>, room: &mut [u8]) -> u16
     requires most { length word.now ≤ bytes_limit }
     requires room { bytes_limit ≤ length room.old }
@@ -123,7 +123,7 @@ fn lend_bytes(word: &HexWord<'_>, room: &mut [u8]) -> u16
     word.len() as u16
 }
 
-/// Writes `count` old bytes, if there are some, and returns `has_old`.
+/// Writes the `count` old bytes, if there are any, and returns `has_old`.
 fn lend_old(was: &Option<HexWord<'_>>, count: u16, room: &mut [u8]) -> u8
     requires same { IfSome was.now (λ old. length old ≡ count) }
     requires most { count ≤ bytes_limit }
@@ -142,7 +142,7 @@ fn lend_old(was: &Option<HexWord<'_>>, count: u16, room: &mut [u8]) -> u8
     }
 }
 
-/// What each record begins with.
+/// A record in which all fields are 0.
 const BLANK: FlatPatch = FlatPatch {
     block: 0,
     offset: 0,
@@ -153,7 +153,7 @@ const BLANK: FlatPatch = FlatPatch {
     address: [0; 3],
 };
 
-/// The record of an edit at a place, whose new and old bytes go to the front of the rooms.
+/// The record of an edit at a place. Its new and old bytes are written to the front of the buffers.
 fn lend_edit(
     block: u32,
     offset: u16,
@@ -205,7 +205,7 @@ fn lend_edit(
     }
 }
 
-/// The record of a patch, whose new and old bytes go to the front of the rooms.
+/// The record of a patch. Its new and old bytes are written to the front of the buffers.
 pub(crate) fn lend_patch(patch: &HexPatch<'_>, new: &mut [u8], old: &mut [u8]) -> FlatPatch
     requires patch { IsPatch patch.now }
     requires new { bytes_limit ≤ length new.old }

@@ -2,8 +2,8 @@
 
 ghost use Rattle.cd_c_scripts.specs.NumberLaws.{OutcomesAreRead};
 
-/// What `cdpatch_apply_patch` returns and writes of an outcome, `cdpatch_outcome_line` takes for this
-/// outcome.
+/// The number and the place that `cdpatch_apply_patch` gives for an outcome mean the same outcome
+/// to `cdpatch_outcome_line`.
 pub fn outcome_numbers_agree()
     ensures { OutcomesAreRead }
 {}

@@ -1,9 +1,9 @@
-//! The calls on a script's lines and patches that C programs make, `cdpatch_*` of `cdpatch.h`: a text
-//! is cut into lines, a line is read, and a patch is taken on the sectors in hand. Each passes on to a
-//! function of the crates below and states its clauses again. None takes memory: a patch is a flat
-//! record, whose bytes stand in rooms that C lends. Each tests what C can get wrong, but not that
-//! pointers are valid and not null, and that what is written overlaps nothing else that is passed: C
-//! has to see to that.
+//! The calls of C that read and run a script (`cdpatch_*` of `cdpatch.h`): they cut a text into
+//! lines, read a line, apply a patch to the sectors in hand, and run a script step by step. Each
+//! call passes its arguments on to the crates below, and repeats their clauses. None allocates
+//! memory: a patch is a flat record, whose bytes are in buffers that the C program provides. A call
+//! checks its arguments, but not that pointers are valid and not null, and that its outputs overlap
+//! nothing else that is passed: the C program must ensure this.
 #![tactic(auto)]
 
 mod asking;

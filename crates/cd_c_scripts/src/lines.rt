@@ -7,13 +7,14 @@ ghost use Rattle.cd_c_scripts.specs.Lines.{answer_number, content_number, line_r
 use crate::flat_patch::{FlatPatch, lend_patch};
 use cd_script::{LineContent, MAX_BYTES, Version, read_line};
 
-/// The line has a patch.
+/// The result for a line that is a patch.
 const PATCH: u32 = 3;
 
-/// The number means no version.
+/// The result if the number of the version is not valid.
 const NO_VERSION: u32 = 14;
 
-/// The version that a number means, 0 that there was no head line.
+/// Converts the number of a version, where 0 means that there was no head line yet; `None` for a
+/// number that is not valid.
 pub(crate) fn version_of(version: u32) -> Option<Option<Version>>
     ensures { result ≡ version_of version }
 {
@@ -23,10 +24,11 @@ pub(crate) fn version_of(version: u32) -> Option<Option<Version>>
     Version::of_number(version).map(Some)
 }
 
-/// Reads one line of a script without its end, as [`read_line`], and returns a number of `enum
-/// cdpatch_content`. `version` is 0 while there was no head line, then what that returned;
-/// `earlier` is how many patches were read before. A patch goes to `patch`, and its new and old
-/// bytes to the front of `new_bytes` and `old_bytes`; if the line has none, nothing is written.
+/// Reads one line of a script, without its end, as [`read_line`], and returns a number of
+/// `enum cdpatch_content`. `version` is 0 before the head line, and then the number that was
+/// returned for the head line. `earlier` is the number of patches before this line. A patch is
+/// written to `patch`, and its new and old bytes to the front of `new_bytes` and `old_bytes`. If
+/// the line is not a patch, nothing is written.
 #[unsafe(no_mangle)]
 pub extern "C" fn cdpatch_read_line(
     version: u32,

@@ -1,4 +1,4 @@
-//! What was moved of the step that was told last.
+//! Records the bytes that the client moved for the last step of a run.
 
 ghost use Rattle.std.specs.Prelude.{◌≡◌, ◌≢◌, ℕ, ◌+◌, ◌*◌, ◌<◌, ◌≤◌, ◌⊎◌, ◌↔◌, ◌++◌, [], Bool, List, drop, false, length, take, true};
 ghost use Rattle.std.specs.List.{slice_index_or};
@@ -21,21 +21,21 @@ use cd_patch::MAX_BLOCKS_MET;
 use cd_run::PatchRun;
 use cd_sector::{MAX_SECTORS, SECTOR_SIZE, Sector};
 
-/// What came of a step.
+/// The result of recording a step.
 #[derive(Clone, Copy, Debug, PartialEq, Eq)]
 pub(crate) enum Noted {
-    /// It was noted.
+    /// The step was recorded.
     Done,
-    /// The image goes on after its largest size.
+    /// The image is longer than the largest size.
     TooLong,
-    /// Fewer bytes came than were asked for, of an image whose size was known.
+    /// Fewer bytes were moved than requested, although the size of the image is known.
     Short,
-    /// No run has told such a step.
+    /// No run has requested such a step.
     Wrong,
 }
 
-/// Notes that `done` bytes have come to the place after the sectors in hand: fewer than a sector at
-/// the end of the image.
+/// Records that `done` bytes were read to the place after the sectors in hand. Fewer bytes than a
+/// sector are the end of the image.
 fn note_given(machine: &mut PatchRun, hand: &[Sector], done: usize) -> Noted
     requires sound { IsRun machine.old }
     requires hand { block_limit ≤ length hand.now }
@@ -84,8 +84,8 @@ fn note_given(machine: &mut PatchRun, hand: &[Sector], done: usize) -> Noted
     Noted::Done
 }
 
-/// Notes that `done` bytes were passed on as they are, at most `most` sectors: fewer bytes at the end
-/// of the image.
+/// Records that `done` bytes, at most `most` sectors, were copied as they are. Fewer bytes are the
+/// end of the image.
 fn note_copied(machine: &mut PatchRun, hand: &[Sector], most: u32, done: usize) -> Noted
     requires sound { IsRun machine.old }
     requires hand { block_limit ≤ length hand.now }
@@ -142,7 +142,7 @@ fn note_copied(machine: &mut PatchRun, hand: &[Sector], most: u32, done: usize) 
     Noted::Done
 }
 
-/// Notes that the first sector in hand has gone out.
+/// Records that the first sector in hand was written to the output.
 fn note_sent(machine: &mut PatchRun, hand: &mut [Sector]) -> Noted
     requires sound { IsRun machine.old }
     requires hand { block_limit ≤ length hand.old }
@@ -177,7 +177,7 @@ fn note_sent(machine: &mut PatchRun, hand: &mut [Sector]) -> Noted
     Noted::Done
 }
 
-/// Notes that the tail has gone out.
+/// Records that the tail was written to the output.
 fn note_tail(machine: &mut PatchRun) -> Noted
     requires sound { IsRun machine.old }
     ensures sound { IsRun machine.new }
@@ -206,7 +206,7 @@ fn note_tail(machine: &mut PatchRun) -> Noted
     Noted::Done
 }
 
-/// Whether all that is left of the image is asked for.
+/// Whether all bytes that are left of the image are requested.
 fn asks_for_rest(run: &ScriptRun) -> bool
     requires { IsRun run.now.machine }
     ensures { result ≡ true ↔ AsksForRest run.now }
@@ -215,7 +215,7 @@ fn asks_for_rest(run: &ScriptRun) -> bool
     left > 0 && run.size == left
 }
 
-/// Whether all that may be read at once is asked for.
+/// Whether as many bytes are requested as may be read at once.
 fn reads_whole(run: &ScriptRun) -> bool
     requires { IsRun run.now.machine }
     ensures { result ≡ true ↔ ReadsWhole run.now }
@@ -225,7 +225,7 @@ fn reads_whole(run: &ScriptRun) -> bool
         || (run.machine.sectors == MAX_SECTORS && run.size == 1)
 }
 
-/// Whether all that may be copied at once is asked for.
+/// Whether as many bytes are requested as may be copied at once.
 fn copies_whole(run: &ScriptRun) -> bool
     requires { IsRun run.now.machine }
     ensures { result ≡ true ↔ CopiesWhole run.now }
@@ -233,7 +233,7 @@ fn copies_whole(run: &ScriptRun) -> bool
     run.size == SECTOR_SIZE as u64 * u64::from(run.most) || asks_for_rest(run)
 }
 
-/// Whether fewer bytes came than were asked for, of an image whose size is known.
+/// Whether fewer bytes were moved than requested, although the size of the image is known.
 fn is_short(run: &ScriptRun, done: usize) -> bool
     ensures short { result ≡ true → IsShort run.now done }
     ensures other { result ≡ false → AsksForImage run.now → done < run.now.size
@@ -244,7 +244,7 @@ fn is_short(run: &ScriptRun, done: usize) -> bool
         && run.image_size != UNKNOWN_SIZE
 }
 
-/// Notes that `done` bytes were moved of the step that was told last.
+/// Records that `done` bytes were moved for the last step.
 pub(crate) fn note(run: &mut ScriptRun, hand: &mut [Sector], done: usize) -> Noted
     requires sound { IsRun run.old.machine }
     requires hand { block_limit ≤ length hand.old }

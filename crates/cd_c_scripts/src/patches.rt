@@ -1,4 +1,4 @@
-//! The call of C that takes a patch on the sectors in hand.
+//! The call of C that applies a patch to the sectors in hand.
 
 ghost use Rattle.std.specs.Prelude.{◌≡◌, ◌≢◌, ◌↔◌, IfSome};
 ghost use Rattle.cd_script.specs.Patch.{IsPatch};
@@ -14,17 +14,17 @@ use cd_patch::{Outcome, apply_lent};
 use cd_script::{MAX_BYTES, is_patch};
 use cd_sector::Sector;
 
-/// Where a patch was refused, as C's `struct cdpatch_place`.
+/// The place at which a patch was refused, as C's `struct cdpatch_place`.
 #[derive(Clone, Copy)]
 #[repr(C)]
 pub struct Place {
-    /// The block that refuses it.
+    /// The block at which the patch was refused.
     pub block: u32,
-    /// The user byte of that block that differs, else 0.
+    /// The offset in its user data of the byte that differs, else 0.
     pub offset: u16,
 }
 
-/// Writes where a patch was refused, if it was.
+/// Writes the place at which a patch was refused, if it was refused.
 fn note_place(outcome: Outcome, place: &mut Place)
     ensures { place.new ≡ place_after outcome place.old }
 {
@@ -37,11 +37,11 @@ fn note_place(outcome: Outcome, place: &mut Place)
     }
 }
 
-/// Decides a patch on the sectors from its first block on, and makes it if it is accepted, as
-/// [`apply_lent`]; `sectors` has as many as the image has from there, of which at most three are
-/// looked at. The patch is that of `patch`, with its bytes at the front of `new_bytes` and
-/// `old_bytes`, as `cdpatch_read_line` writes them. Returns a number of `enum cdpatch_result`;
-/// `place` gets the block and the byte if the patch is refused. A record of no patch changes nothing.
+/// Decides a patch on sectors, and applies it if it is accepted, as [`apply_lent`]. `sectors` has
+/// the sectors of the image from the patch's first block on; at most three of them are used. The
+/// patch is `patch`, with its bytes at the front of `new_bytes` and `old_bytes`, as
+/// `cdpatch_read_line` writes them. Returns a number of `enum cdpatch_result`. If the patch is
+/// refused, `place` gets the block and the byte. A record that is not a patch changes nothing.
 #[unsafe(no_mangle)]
 pub extern "C" fn cdpatch_apply_patch(
     patch: &FlatPatch,

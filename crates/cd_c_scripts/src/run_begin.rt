@@ -16,12 +16,12 @@ use cd_address::MAX_BLOCK;
 use cd_run::PatchRun;
 use cd_script::MAX_TEXT;
 
-/// No run begins from such a block, or with such flags.
+/// The result if the base or the flags are not valid: no run has begun.
 const REFUSED: usize = 18_446_744_073_709_551_615;
 
-/// Begins a run of a script over an image of which `image_size` bytes come at most, and whose first
-/// sector is block `base`. Puts an entry for each patch into `entries`, and returns how many these
-/// are; if there is not room for all, nothing was begun.
+/// Begins a run of a script on an image of at most `image_size` bytes, whose first sector is block
+/// `base`. Writes an entry for each patch to `entries`, and returns the number of patches. If there
+/// is not enough room for all entries, no run has begun.
 #[unsafe(no_mangle)]
 pub extern "C" fn cdpatch_run_begin(
     run: &mut ScriptRun,

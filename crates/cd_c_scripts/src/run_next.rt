@@ -1,4 +1,5 @@
-//! The call of C that leads a run: what was moved is noted, and the next step is told.
+//! The call of C that advances a run: it records the bytes that were moved, and returns the next
+//! step.
 
 ghost use Rattle.std.specs.Prelude.{◌≡◌, ◌≢◌, ℕ, ◌+◌, ◌-◌, ◌*◌, ◌<◌, ◌≤◌, ◌⊎◌, IfNone, IfSome, List, Some, drop, length, take, true};
 ghost use Rattle.cd_script.specs.PatchForm.{Patch as ThePatch};
@@ -32,7 +33,7 @@ use cd_patch::MAX_BLOCKS_MET;
 use cd_run::{Step, counts_line, failed_read_line, long_image_line};
 use cd_sector::{SECTOR_SIZE, Sector};
 
-/// The entries that are used.
+/// The first `count` entries; `None` if there are fewer.
 fn used(entries: &[Entry], count: u32) -> Option<&[Entry]>
     ensures some { IfSome result (λ es. es.now ≡ take count entries.now) }
     ensures size { IfSome result (λ es. length es.now ≡ count) }
@@ -44,7 +45,7 @@ fn used(entries: &[Entry], count: u32) -> Option<&[Entry]>
     Some(&entries[..count as usize])
 }
 
-/// Decides the next patch, and tells its line.
+/// Decides the next patch, and returns its log line as the next step.
 fn tell_decided(
     run: &mut ScriptRun,
     script: &[u8],
@@ -90,7 +91,7 @@ fn tell_decided(
     ask(run, NOTHING, 0, step.size);
 }
 
-/// Tells the last line of the log.
+/// Returns the last line of the log as the next step.
 fn tell_last_line(run: &mut ScriptRun, step: &mut RunStep)
     ensures machine { run.new.machine ≡ run.old.machine }
     ensures flags { run.new.flags ≡ run.old.flags }
@@ -118,7 +119,7 @@ fn tell_last_line(run: &mut ScriptRun, step: &mut RunStep)
     ask(run, OVER, status(refused), step.size);
 }
 
-/// Tells the line that says why the run fails.
+/// Returns the line that says why the run fails as the next step.
 fn tell_failure(run: &mut ScriptRun, line: &Line, step: &mut RunStep)
     requires some { 0 < length line.now }
     requires few { length line.now ≤ LINE_SIZE }
@@ -136,7 +137,7 @@ fn tell_failure(run: &mut ScriptRun, line: &Line, step: &mut RunStep)
     ask(run, STOPPED, 0, step.size);
 }
 
-/// Says what is wrong with the script.
+/// Returns the line for the error of the script as the next step.
 fn tell_error(run: &mut ScriptRun, done: usize, step: &mut RunStep)
     ensures asked { run.new.asked ≡ STOPPED }
     ensures machine { run.new.machine ≡ run.old.machine }
@@ -166,7 +167,7 @@ fn tell_error(run: &mut ScriptRun, done: usize, step: &mut RunStep)
     tell_failure(run, &line, step);
 }
 
-/// Tells the end, once the last line was logged.
+/// Returns the end as the next step, after the last line was logged.
 fn tell_over(run: &mut ScriptRun, done: usize, step: &mut RunStep)
     requires { run.old.asked ≡ OVER }
     ensures machine { run.new.machine ≡ run.old.machine }
@@ -192,7 +193,7 @@ fn tell_over(run: &mut ScriptRun, done: usize, step: &mut RunStep)
     run.size = 0;
 }
 
-/// Tells the step that was found to be next.
+/// Converts the next step of the machine to a step for the client.
 fn tell_step(
     run: &mut ScriptRun,
     script: &[u8],
@@ -253,7 +254,7 @@ fn tell_step(
     }
 }
 
-/// Tells what is next.
+/// Finds the next step, and returns it in `step`.
 fn tell_next(
     run: &mut ScriptRun,
     script: &[u8],
@@ -301,7 +302,7 @@ fn tell_next(
     tell_step(run, script, used, hand, rooms, next, step);
 }
 
-/// Notes that `done` bytes of the last step were moved, and tells the next.
+/// Records that `done` bytes were moved for the last step, and returns the next step in `step`.
 #[unsafe(no_mangle)]
 pub extern "C" fn cdpatch_run_next(
     run: &mut ScriptRun,
@@ -312,33 +313,35 @@ pub extern "C" fn cdpatch_run_next(
     rooms: &mut Rooms,
     step: &mut RunStep,
 )
-    // The relation, kept by what was moved.
+    // The relation still holds if the client moved the bytes of the step.
     ensures goes { (patches : List ThePatch) (base : ℕ) (before : List (List ℕ))
         (read sent log_bytes read' sent' : List ℕ) → block_limit ≤ length hand.old
         → IsRunning script.now entries.now patches base read sent log_bytes run.old before
         → SameInHand run.old.machine before hand.old
         → Moved run.old hand.old done read sent read' sent'
         → Goes script.now entries.now patches base read' sent' log_bytes run.new hand.new step.new }
-    // The image ends where fewer bytes came than were asked for, if its size was not known, or where
-    // nothing is left of its size, and only there. Fewer of a known size mean that a read has failed.
+    // The image ends where fewer bytes were moved than requested, if its size is unknown, or where
+    // nothing is left of its size, and only there. If its size is known, fewer bytes mean that a
+    // read has failed.
     ensures ends { run.old.asked ≡ READING → done < SECTOR_SIZE → EndsOr run.new 1 }
     ensures ends_copy { run.old.asked ≡ COPYING → done < SECTOR_SIZE * run.old.most
         → EndsOr run.new 2 }
     ensures closes { run.old.asked ≡ WRITING_TAIL → EndsOr run.new 2 }
     ensures ends_only { run.old.machine.stage ≡ 0 → 0 < run.new.machine.stage
         → MayEnd run.old run.new done }
-    // It is over only once the image has ended.
+    // The run is over only after the image has ended.
     ensures over { run.new.asked ≡ OVER → (run.old.asked ≡ OVER)
         ⊎ ((run.new.machine.stage ≡ 2) × (run.new.machine.sectors ≤ sector_limit)) }
     ensures short { IsShort run.old done → IsRun run.old.machine → block_limit ≤ length hand.old
         → FailsRead run.new step.new }
-    // What stays: the image, the flags, and what stands in the hand behind all that the run holds.
+    // Unchanged: the size of the image, the flags, and the part of the hand after all that the run
+    // holds.
     ensures image_size { run.new.image_size ≡ run.old.image_size }
     ensures flags { run.new.flags ≡ run.old.flags }
     ensures rest { drop block_limit hand.new ≡ drop block_limit hand.old }
     ensures behind { (place : ℕ) → run.old.machine.held + run.old.machine.stage ≤ place
         → run.new.machine.held ≤ place → drop place hand.new ≡ drop place hand.old }
-    // What each state, hand and count of bytes gives.
+    // These clauses hold for every state, hand and number of bytes.
     ensures goes_on { run.old.machine.stage ≤ run.new.machine.stage }
     ensures falls { step.new.kind ≢ end_kind → steps_left run.new < steps_left run.old }
     ensures status { step.new.status ≤ 2 }

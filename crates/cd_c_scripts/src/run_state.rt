@@ -1,5 +1,5 @@
-//! What C lends for a run of patches: the state, which is numbers only, the rooms for a patch's bytes,
-//! and the step that is told.
+//! The memory that the C program provides for a run: the state, which has only numbers, buffers for
+//! the bytes of a patch, and the next step.
 
 ghost use Rattle.std.specs.Prelude.{◌≡◌};
 ghost use Rattle.cd_c_scripts.specs.Flags.{carries, compares, copies};
@@ -8,46 +8,46 @@ use cd_line::LINE_SIZE;
 use cd_run::PatchRun;
 use cd_script::MAX_BYTES;
 
-/// Nothing is asked for, or a line of the log was told.
+/// No bytes are requested, or the step is a line of the log.
 pub(crate) const NOTHING: u32 = 0;
 
-/// Bytes are to be passed on as they are.
+/// Bytes are to be copied as they are.
 pub(crate) const COPYING: u32 = 1;
 
 /// Bytes are to be read to the hand.
 pub(crate) const READING: u32 = 2;
 
-/// The first sector in hand is to go out.
+/// The first sector in hand is to be written.
 pub(crate) const WRITING: u32 = 4;
 
-/// The tail is to go out.
+/// The tail is to be written.
 pub(crate) const WRITING_TAIL: u32 = 5;
 
-/// The last line of the log was told.
+/// The last line of the log was returned.
 pub(crate) const OVER: u32 = 6;
 
-/// No call goes on with this state.
+/// The run has stopped: no call continues it.
 pub(crate) const STOPPED: u32 = 7;
 
-/// A line says what is wrong with the script: nothing was begun.
+/// The script has an error: no run has begun, and the next step is the line for the error.
 pub(crate) const FAULTY: u32 = 8;
 
-/// The number of a script that is too long: no content of a line has it.
+/// The error number of a script that is too long. No content of a line has this number.
 pub(crate) const TOO_LONG: u32 = 16;
 
-/// The size of an image that is not known before its end.
+/// The size of an image whose size is unknown before its end.
 pub(crate) const UNKNOWN_SIZE: u64 = u64::MAX;
 
-/// Damage is carried.
+/// The flag that damage is carried.
 pub(crate) const CARRY: u32 = 1;
 
-/// COPY is not asked for.
+/// The flag that COPY is not requested.
 const NO_COPY: u32 = 2;
 
-/// Old bytes are not compared.
+/// The flag that old bytes are not compared.
 const WITHOUT_OLD: u32 = 4;
 
-/// Flags are below this number.
+/// All flags are below this number.
 pub(crate) const FLAGS: u32 = 8;
 
 /// The kinds of a step, as C's `enum cdpatch_step_kind`.
@@ -61,61 +61,63 @@ pub(crate) const WRITE: u32 = 3;
 
 pub(crate) const LOG: u32 = 4;
 
-/// How far a run of a script has come, and what it asks for. Any numbers may stand in it.
+/// The progress of a run of a script, and its current request. It may contain any numbers.
 #[derive(Clone, Copy)]
 #[repr(C)]
 pub struct ScriptRun {
-    /// How far the patches have come.
+    /// The progress of the patches.
     pub machine: PatchRun,
-    /// What it asks for.
+    /// The current request, one of the numbers from [`NOTHING`] on.
     pub asked: u32,
-    /// How many sectors may be copied; at the end the status; of a script with an error its number.
+    /// The number of sectors that may be copied; at the end, the status; for a script with an
+    /// error, the number of the error.
     pub most: u32,
     /// The line of the script that has the error.
     pub line: u32,
     /// The version of the script.
     pub version: u32,
-    /// How many patches it has.
+    /// The number of patches of the script.
     pub count: u32,
-    /// Whether damage is carried, COPY is not asked for, and old bytes are not compared: 1, 2 and 4.
+    /// The sum of the flags: 1 if damage is carried, 2 if COPY is not requested, 4 if old bytes are
+    /// not compared.
     pub flags: u32,
-    /// How many bytes the step has that was told last.
+    /// The number of bytes of the last step.
     pub size: u64,
-    /// How many bytes the image has at most.
+    /// The number of bytes that the image has at most.
     pub image_size: u64,
 }
 
-/// Rooms for the new and the old bytes of a patch, as C's `struct cdpatch_rooms`.
+/// Buffers for the new and the old bytes of a patch, as C's `struct cdpatch_rooms`.
 #[derive(Clone, Copy)]
 #[repr(C)]
 pub struct Rooms {
-    /// What it sets.
+    /// The bytes that the patch writes.
     pub new_bytes: [u8; MAX_BYTES],
-    /// What it finds.
+    /// The bytes that the patch expects.
     pub old_bytes: [u8; MAX_BYTES],
 }
 
-/// What a client does next, as C's `struct cdpatch_step`.
+/// The next step of a client, as C's `struct cdpatch_step`.
 #[derive(Clone, Copy)]
 #[repr(C)]
 pub struct RunStep {
-    /// An `enum cdpatch_step_kind`.
+    /// The kind, a number of `enum cdpatch_step_kind`.
     pub kind: u32,
     /// The status at the end.
     pub status: u32,
     /// The line of the script whose patch was decided, else 0.
     pub number: u32,
-    /// What became of that patch, an `enum cdpatch_result`.
+    /// The outcome of that patch, a number of `enum cdpatch_result`.
     pub result: u32,
-    /// The block that refuses it.
+    /// The block at which that patch was refused, else 0.
     pub block: u32,
-    /// The user byte of that block that differs.
+    /// The offset in its user data of the byte that differs, else 0.
     pub offset: u32,
-    /// Where in the image the bytes stand.
+    /// The offset of the bytes in the image.
     pub at: u64,
-    /// Where in the hand they stand.
+    /// The offset of the bytes in the hand.
     pub place: usize,
-    /// How many bytes.
+    /// The number of bytes.
     pub size: usize,
     /// The line to log.
     pub text: [u8; LINE_SIZE],
@@ -128,7 +130,7 @@ pub(crate) fn carries(flags: u32) -> bool
     flags / CARRY % 2 == 1
 }
 
-/// Whether COPY may be asked for.
+/// Whether COPY may be requested.
 pub(crate) fn copies(flags: u32) -> bool
     ensures { result ≡ copies flags }
 {

@@ -1,4 +1,4 @@
-//! The steps that a run tells, one by one.
+//! Builds the steps that a run returns.
 
 ghost use Rattle.std.specs.Prelude.{◌≡◌, ◌+◌, ◌-◌, ◌*◌, ◌<◌, ◌≤◌, ◌⊎◌, length, take};
 ghost use Rattle.cd_script.specs.FaultNumbers.{fault_of};
@@ -19,7 +19,7 @@ use cd_run::{long_script_line, outcome_line, script_fault_line};
 use cd_script::ScriptFault;
 use cd_sector::{MAX_SECTORS, SECTOR_SIZE};
 
-/// Tells a step that moves bytes.
+/// Sets the fields of a step, except its text.
 fn tell(step: &mut RunStep, kind: u32, at: u64, place: usize, size: usize)
     ensures kind { step.new.kind ≡ kind }
     ensures at { step.new.at ≡ at }
@@ -40,7 +40,7 @@ fn tell(step: &mut RunStep, kind: u32, at: u64, place: usize, size: usize)
     step.size = size;
 }
 
-/// Tells a line that is no patch's.
+/// Builds a step that logs a line, and does not report a patch.
 pub(crate) fn tell_line(step: &mut RunStep, line: &Line)
     requires { length line.now ≤ LINE_SIZE }
     ensures kind { step.new.kind ≡ LOG }
@@ -54,7 +54,7 @@ pub(crate) fn tell_line(step: &mut RunStep, line: &Line)
     line.write_to(&mut step.text);
 }
 
-/// Tells the end.
+/// Builds the step that is the end.
 pub(crate) fn tell_end(step: &mut RunStep, status: u32)
     ensures kind { step.new.kind ≡ END }
     ensures status { step.new.status ≡ status }
@@ -66,7 +66,7 @@ pub(crate) fn tell_end(step: &mut RunStep, status: u32)
     step.status = status;
 }
 
-/// Ends with 2: no run has this state, or moves such bytes.
+/// Ends with status 2, because no run has this state, or moves this number of bytes.
 pub(crate) fn stop(run: &mut ScriptRun, step: &mut RunStep)
     ensures others { run.new ≡ record run.old { asked = STOPPED; size = 0 } }
     ensures kind { step.new.kind ≡ END }
@@ -79,7 +79,7 @@ pub(crate) fn stop(run: &mut ScriptRun, step: &mut RunStep)
     tell_end(step, 2);
 }
 
-/// Asks for a step that moves bytes.
+/// Sets the current request of a run.
 pub(crate) fn ask(run: &mut ScriptRun, asked: u32, most: u32, size: usize)
     ensures { run.new ≡ record run.old { asked = asked; most = most; size = size } }
 {
@@ -88,7 +88,7 @@ pub(crate) fn ask(run: &mut ScriptRun, asked: u32, most: u32, size: usize)
     run.size = size as u64;
 }
 
-/// How many bytes of the image have not come, as far as its size is known.
+/// The number of bytes of the image that are still to come, as far as its size is known.
 pub(crate) fn bytes_left(run: &ScriptRun) -> u64
     requires { IsRun run.now.machine }
     ensures { result ≡ run.now.image_size - SECTOR_SIZE * run.now.machine.sectors }
@@ -97,7 +97,7 @@ pub(crate) fn bytes_left(run: &ScriptRun) -> u64
         .saturating_sub(SECTOR_SIZE as u64 * u64::from(run.machine.sectors))
 }
 
-/// Asks that bytes are passed on as they are: at most `most` sectors.
+/// Requests that at most `most` sectors are copied as they are.
 pub(crate) fn ask_copy(run: &mut ScriptRun, most: u32, left: u64, step: &mut RunStep)
     requires sound { IsRun run.old.machine }
     requires ready { IsReady run.old.machine (Copy most) }
@@ -120,7 +120,8 @@ pub(crate) fn ask_copy(run: &mut ScriptRun, most: u32, left: u64, step: &mut Run
     tell(step, COPY, at, 0, size);
 }
 
-/// Asks that a sector is read, or what is left of the image; after its largest size a byte.
+/// Requests that a sector is read, or the rest of the image if it is shorter. After the largest
+/// size of an image, requests one byte.
 pub(crate) fn ask_read(run: &mut ScriptRun, left: u64, step: &mut RunStep)
     requires sound { IsRun run.old.machine }
     requires some { 0 < left }
@@ -150,7 +151,7 @@ pub(crate) fn ask_read(run: &mut ScriptRun, left: u64, step: &mut RunStep)
     tell(step, READ, at, place, size);
 }
 
-/// Asks that the first bytes of the hand go out: a sector, or the tail.
+/// Requests that the first bytes of the hand are written: a sector, or the tail.
 pub(crate) fn ask_write(run: &mut ScriptRun, asked: u32, size: usize, step: &mut RunStep)
     requires sound { IsRun run.old.machine }
     ensures kind { step.new.kind ≡ WRITE }
@@ -166,7 +167,8 @@ pub(crate) fn ask_write(run: &mut ScriptRun, asked: u32, size: usize, step: &mut
     tell(step, WRITE, SECTOR_SIZE as u64 * u64::from(sent), 0, size);
 }
 
-/// The block and the user byte of an outcome that refuses a patch, else 0.
+/// The block at which an outcome refuses a patch, and the offset in its user data of the byte that
+/// differs, else 0.
 fn place_of(outcome: Outcome) -> (u32, u32)
     ensures block { result.0 ≡ outcome_block outcome }
     ensures offset { result.1 ≡ outcome_offset outcome }
@@ -180,7 +182,7 @@ fn place_of(outcome: Outcome) -> (u32, u32)
     }
 }
 
-/// Tells the line of a patch, and what became of it.
+/// Builds a step that logs the outcome of a patch.
 pub(crate) fn tell_outcome(step: &mut RunStep, number: u32, outcome: Outcome)
     ensures kind { step.new.kind ≡ LOG }
     ensures status { step.new.status ≡ 0 }
@@ -201,14 +203,15 @@ pub(crate) fn tell_outcome(step: &mut RunStep, number: u32, outcome: Outcome)
     step.offset = offset;
 }
 
-/// The status of a run, by how many patches were refused.
+/// The status of a run, from the number of refused patches.
 pub(crate) fn status(refused: u32) -> u32
     ensures { result ≡ status_of refused }
 {
     if refused == 0 { 0 } else { 1 }
 }
 
-/// The line of an error, by its number and the script's line; empty if no error has the number.
+/// The line for an error, from its number and the line of the script; empty if no error has this
+/// number.
 pub(crate) fn error_line(number: u32, line: u32) -> Line
     ensures line { result ≡ error_line number line }
     ensures room { length result ≤ LINE_SIZE }

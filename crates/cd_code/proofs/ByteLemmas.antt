@@ -1,4 +1,4 @@
--- Lists of bytes, and their sums.
+-- Lemmas about lists of bytes and their sums.
 use Rattle.std.proofs.Common.{◌≡◌, ℕ, zero, suc, ◌+◌, ◌%◌, ◌<◌, ◌≤◌, inl, inr, List, [], ◌∷◌, ◌++◌, length, get_or, map, take, drop, replicate, bit_xor, refl, sym, ap₂, ◌∙◌, arith, lit<}
 use Rattle.std.specs.Prelude.{slice_set}
 use Rattle.std.specs.Int.{to_le_bytes, w32}
@@ -35,7 +35,7 @@ AreBytes-take (x ∷ s) (suc n) h =
 pub AreBytes-drop : (s : List ℕ) (n : ℕ) → AreBytes s → AreBytes (drop n s)
 AreBytes-drop s n h = λ i. rw (get_or-drop n s i 0) (h (n + i))
 
--- a byte put at a place
+-- a byte that is written at a place
 pub AreBytes-set : (s : List ℕ) (place b : ℕ) → AreBytes s → b < 256
     → AreBytes (slice_set s place b)
 AreBytes-set [] place b bytes below = bytes
@@ -44,7 +44,7 @@ AreBytes-set (x ∷ s) (suc place) b bytes below =
     AreBytes-cons x (slice_set s place b) (bytes 0)
     (AreBytes-set s place b (AreBytes-tail x s bytes) below)
 
--- bytes 00
+-- a list of bytes 00
 pub AreBytes-replicate : (n : ℕ) → AreBytes (replicate n 0)
 AreBytes-replicate zero = λ i. lit< tt
 AreBytes-replicate (suc n) = AreBytes-cons 0 (replicate n 0) (lit< tt) (AreBytes-replicate n)
@@ -65,7 +65,7 @@ pub AreBytes-word : (w : ℕ) → AreBytes (to_le_bytes w32 w)
 AreBytes-word w =
     AreBytes-four (w % 256) _ _ _ (omega arith) (omega arith) (omega arith) (omega arith)
 
--- the rest of lists that differ at most in their last bytes
+-- the tails of lists that differ at most in their last bytes
 pub DifferAtMostInLast-tail : (n x y : ℕ) (v w : List ℕ) → DifferAtMostInLast n (x ∷ v) (y ∷ w)
     → DifferAtMostInLast n v w
 DifferAtMostInLast-tail n x y v w d = record {
@@ -77,7 +77,7 @@ DifferAtMostInLast-tail n x y v w d = record {
 
 -- ---- sums
 
--- a sum of lists of at most n bytes, by its first n
+-- a sum of lists of at most n bytes, from their first n bytes
 pub IsSum-below : (u s t : List ℕ) (n : ℕ) → length u ≤ n → length s ≤ n → length t ≤ n
     → ((i : ℕ) → i < n → get_or u i 0 ≡ bit_xor (get_or s i 0) (get_or t i 0)) → IsSum u s t
 IsSum-below u s t n hu hs ht below = record {

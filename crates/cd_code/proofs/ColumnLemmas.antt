@@ -12,7 +12,7 @@ use Rattle.cd_code.specs.declared.lane_sums.LaneSums.{LaneSums}
 use Rattle.cd_code.proofs.general.Lists.{get_or-first_chunks, get_or-part}
 use Rattle.cd_code.proofs.SyndromeLemmas.{first_syndrome-nil, second_syndrome-nil, first_syndrome-push, second_syndrome-push}
 
--- no byte yet
+-- the sums of empty words
 pub AreSums-none : (sums : LaneSums) → sums.plain ≡ replicate 32 0 → sums.weighted ≡ replicate 32 0
     → AreSums (λ _. []) sums
 AreSums-none sums e f = record {
@@ -21,7 +21,7 @@ AreSums-none sums e f = record {
       ap (λ v. get_or v i 0) f ∙ get_or-replicate 32 i 0 0 h ∙ sym second_syndrome-nil;
 }
 
--- one byte more in each word: 32 bytes of a row, from place `at` on
+-- one more byte in each word: 32 bytes of a row, from place `at` on
 pub AreSums-row : (word longer : ℕ → List ℕ) (at : ℕ) (row lanes : List ℕ) (sums next : LaneSums)
     → AreBytes row → at + 32 ≤ 86
     → ((i : ℕ) → i < 32 → get_or lanes i 0 ≡ get_or row (at + i) 0)
@@ -43,7 +43,7 @@ AreSums-row word longer at row lanes sums next bytes room is more are plain weig
       ∙ second_syndrome-push (word (at + i)) (get_or row (at + i) 0) (bytes (at + i)));
 }
 
--- one more row under the columns
+-- the columns with one more row
 pub column_of_rows-more : (rows : List (List ℕ)) (d : List ℕ) (k c : ℕ) → k < length rows
     → column_of_rows (take (k + 1) rows) c
     ≡ column_of_rows (take k rows) c ++ get_or (get_or rows k d) c 0 ∷ []
@@ -51,7 +51,7 @@ column_of_rows-more rows d k c h =
     ap (λ v. column_of_rows v c) (take_more rows k d h)
     ∙ map-append (λ row. get_or row c 0) (take k rows) (get_or rows k d ∷ [])
 
--- a lane that two later writes leave
+-- a value in lists that are written in three parts, of which the last two overlap
 pub put_thrice : (zero one two three front middle back : List ℕ)
     → ((i : ℕ) → i < 32 → get_or one (0 + i) 0 ≡ get_or front i 0)
     → ((i : ℕ) → i < 32 → get_or two (32 + i) 0 ≡ get_or middle i 0)

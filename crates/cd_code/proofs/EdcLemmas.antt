@@ -1,4 +1,4 @@
--- The division of the EDC is linear, so the word of a sum is the sum of the words.
+-- The division of the EDC is linear, so the EDC word of a sum is the sum of the EDC words.
 use Rattle.std.proofs.Common.{◌≡◌, ℕ, zero, suc, ◌+◌, ◌-◌, ◌*◌, ◌/◌, ◌%◌, ◌^◌, ◌<◌, ◌≤◌, inl, inr, List, [], ◌∷◌, ◌++◌, length, get_or, replicate, fold, bit_xor, refl, sym, ap, ap₂, ◌∙◌, arith, lit<, lit≤, pow-add, append_assoc}
 use Rattle.std.specs.Int.Bits.{xor_self, xor_zero_l, xor_zero_r}
 use Rattle.std.specs.Int.{from_le_bytes, to_le_bytes, w32}
@@ -16,7 +16,7 @@ use Rattle.cd_code.proofs.general.Xor.{half_below, linear_at_bits, xor_half, xor
 
 -- ---- one step
 
--- what is added if a bit leaves at the top
+-- the number that is added if a bit is carried out at the top
 abbrev carry : ℕ → ℕ
 carry zero = 0
 carry (suc n) = generator
@@ -69,7 +69,7 @@ step-xor r s b c hr hs hb hc =
 
 -- ---- n bits of a number
 
--- what is left when the n low bits of x follow what left r
+-- the remainder when the n low bits of x follow the remainder r
 abbrev pub after_bits : ℕ → ℕ → ℕ → ℕ
 after_bits zero r x = r
 after_bits (suc n) r x = after_bits n (divide_step r (x % 2)) (x / 2)
@@ -109,7 +109,7 @@ after_bits-more (suc m) n r x =
     ∙ after_bits-more m n (divide_step r (x % 2)) (x / 2)
     ∙ ap (after_bits n (after_bits m (divide_step r (x % 2)) (x / 2))) (halves x m)
 
--- only the n low bits count
+-- only the n low bits matter
 pub after_bits-mod : (n r x y : ℕ) → x % 2 ^ n ≡ y % 2 ^ n → after_bits n r x ≡ after_bits n r y
 after_bits-mod zero r x y h = refl
 after_bits-mod (suc n) r x y h =
@@ -135,7 +135,7 @@ pub after_bits-zero : (n : ℕ) → after_bits n 0 0 ≡ 0
 after_bits-zero zero = refl
 after_bits-zero (suc n) = ap (λ z. after_bits n z 0) step-zero ∙ after_bits-zero n
 
--- as long as nothing reaches the top, only a 0 leaves 0
+-- as long as nothing is carried out at the top, only 0 has the remainder 0
 pub after_bits-none : (n k r x : ℕ) → k + n ≡ 32 → r < 2 ^ k → x < 2 ^ n → after_bits n r x ≡ 0
     → (r ≡ 0) × (x ≡ 0)
 after_bits-none zero k r x e hr hx none = (none, omega arith)
@@ -163,7 +163,7 @@ after_bits-injective n r x y hn hr hx hy same =
 
 -- ---- bytes
 
--- what is left when bytes follow what left r
+-- the remainder when bytes follow the remainder r
 abbrev pub after : ℕ → List ℕ → ℕ
 after r [] = r
 after r (x ∷ v) = after (after_bits 8 r x) v
@@ -188,7 +188,7 @@ pub after-lt : (r : ℕ) (v : List ℕ) → r < 2 ^ 32 → after r v < 2 ^ 32
 after-lt r [] h = h
 after-lt r (x ∷ v) h = after-lt (after_bits 8 r x) v (after_bits-lt 8 r x h)
 
--- bytes as one number, the first of the lowest worth
+-- bytes as one number, the first byte the least significant
 abbrev pub number : List ℕ → ℕ
 number [] = 0
 number (x ∷ v) = x + number v * 256
@@ -237,7 +237,7 @@ after-word r w h =
 
 -- ---- words
 
--- feeding the word after r ends in 0
+-- with the word after r, the remainder is 0
 pub record Ends (r w : ℕ) : Type 0 where
   pub left : r < 2 ^ 32
   pub fits : w < 2 ^ 32
@@ -289,7 +289,7 @@ Ends-shift r w h =
 pub IsEdc-nil : IsEdc [] 0
 IsEdc-nil = IsEdc-from [] 0 (record { left = lit< tt; fits = lit< tt; ends = after_bits-zero 32 })
 
--- only what is left counts
+-- lists with the same remainder have the same words
 pub IsEdc-same : (v w : List ℕ) (t : ℕ) → after 0 v ≡ after 0 w → IsEdc v t → IsEdc w t
 IsEdc-same v w t e h = IsEdc-from w t (rw e at (Ends-from v t h))
 
@@ -315,7 +315,7 @@ IsEdc-push v w x t h k =
     (rw e at (Ends-xor (after_bits 8 r (w % 256)) (after_bits 8 0 y) (w / 256) t
     (Ends-shift r w (Ends-from v w h)) (Ends-from (y ∷ []) t k)))
 
--- bytes after a sum are bytes after one term, and zeros after the other
+-- bytes after a sum are bytes after one term, and zeros after the other term
 pub after-xor_zeros : (r s : ℕ) (v : List ℕ) → r < 2 ^ 32 → s < 2 ^ 32
     → after (bit_xor r s) v ≡ bit_xor (after r (replicate (length v) 0)) (after s v)
 after-xor_zeros r s [] hr hs = refl
@@ -325,7 +325,7 @@ after-xor_zeros r s (x ∷ v) hr hs =
     ∙ after-xor_zeros (after_bits 8 r 0) (after_bits 8 s x) v (after_bits-lt 8 r 0 hr)
     (after_bits-lt 8 s x hs)
 
--- a byte before a list: its own word with zeros after it, and the list's
+-- a byte before a list: the word of the byte with zeros after it, plus the word of the list
 pub IsEdc-cons : (y : ℕ) (v : List ℕ) (t w : ℕ) → IsEdc (y ∷ replicate (length v) 0) t → IsEdc v w
     → IsEdc (y ∷ v) (bit_xor t w)
 IsEdc-cons y v t w h k =
@@ -337,14 +337,14 @@ IsEdc-cons y v t w h k =
     (rw e at (Ends-xor (after r (replicate (length v) 0)) (after 0 v) t w
     (Ends-from (y ∷ replicate (length v) 0) t h) (Ends-from v w k)))
 
--- what is added to the word is fed as if nothing were left
+-- if y is added to the word after r, the remainder is that of y alone
 pub Ends-more : {r w : ℕ} → Ends r w → (y : ℕ) → after_bits 32 r (bit_xor w y) ≡ after_bits 32 0 y
 Ends-more {r} {w} ends y =
     ap (λ z. after_bits 32 z (bit_xor w y)) (sym (xor_zero_r r))
     ∙ after_bits-xor 32 r 0 w y ends.left (lit< tt)
     ∙ ap (λ z. bit_xor z (after_bits 32 0 y)) ends.ends ∙ xor_zero_l (after_bits 32 0 y)
 
--- four bytes after a list, and its word: the bytes of their sum
+-- a list followed by four bytes has the remainder of the sum of these bytes and its EDC word
 pub after-four : (v : List ℕ) (w : ℕ) (four : List ℕ) → IsEdc v w → AreBytes four → length four ≡ 4
     → after 0 (v ++ four) ≡ after 0 (to_le_bytes w32 (bit_xor w (number four)))
 after-four v w four h bytes long =
@@ -361,14 +361,14 @@ after-four v w four h bytes long =
     ∙ ap (after_bits 32 r) (sym (xor_twice_left w n)) ∙ Ends-more ends y
     ∙ sym (after-word 0 y y_lt)
 
--- the word is the only one
+-- the word is unique
 pub IsEdc-unique : (v : List ℕ) (w u : ℕ) → IsEdc v w → IsEdc v u → w ≡ u
 IsEdc-unique v w u h k =
     let a = Ends-from v w h in
     let b = Ends-from v u k in
     after_bits-injective 32 (after 0 v) w u (lit≤ tt) a.left h.fits k.fits (a.ends ∙ sym b.ends)
 
--- lists that differ at most in their last four bytes, and leave the same, are equal
+-- lists that differ at most in their last four bytes, and have the same remainder, are equal
 same_from_after : (r : ℕ) (v w : List ℕ) → r < 2 ^ 32 → DifferAtMostInLast 4 v w
     → after r v ≡ after r w → v ≡ w
 same_from_after r [] [] hr d same = refl
@@ -399,8 +399,8 @@ pub edc_unique : (v w : List ℕ) → DifferAtMostInLast 4 v w → remainder (bi
 edc_unique v w d same =
     same_from_after 0 v w (lit< tt) d (sym (remainder-after v) ∙ same ∙ remainder-after w)
 
--- eight bytes after a list: the first four are added to the word, and each of the eight then
--- stands by itself
+-- eight bytes after a list: the first four are added to the word, and then the words of all eight
+-- bytes, each followed by zeros, are added up
 pub IsEdc-eight : (v b ys : List ℕ) (w n t₇ t₆ t₅ t₄ t₃ t₂ t₁ t₀ : ℕ) → IsEdc v w → AreBytes b
     → length b ≡ 8
     → n ≡ from_le_bytes w32 (get_or b 0 0 ∷ get_or b 1 0 ∷ get_or b 2 0 ∷ get_or b 3 0 ∷ [])
@@ -438,7 +438,7 @@ IsEdc-eight v b ys w n t₇ t₆ t₅ t₄ t₃ t₂ t₁ t₀ h bytes long num 
     (IsEdc-cons (get_or b 5 0) _ t₂ _ h₂
     (IsEdc-cons (get_or b 6 0) _ t₁ _ h₁ h₀)))))))
 
--- what a sum, byte by byte, of two lists leaves
+-- the remainder of the sum of two lists, byte by byte
 pub after-sum : (r s : ℕ) (u v w : List ℕ) → r < 2 ^ 32 → s < 2 ^ 32 → length u ≡ length v
     → length u ≡ length w
     → ((i : ℕ) → i < length u → get_or u i 0 ≡ bit_xor (get_or v i 0) (get_or w i 0))

@@ -1,4 +1,4 @@
--- The tables of EDC words: one computed test over each, and the rule at each entry.
+-- The tables of EDC words: one computed test over each table, and the rule at each entry.
 use Rattle.std.proofs.Common.{◌≡◌, ℕ, ◌^◌, ◌<◌, Bool, true, ◌&&◌, nat_lt, [], ◌∷◌, ◌++◌, get_or, replicate, refl}
 use Rattle.std.specs.Bool.{◌==◌}
 use Rattle.std.specs.Int.{to_le_bytes, w32}
@@ -6,7 +6,7 @@ use Rattle.std.proofs.lemmas.Bool.{agree_below, agree_below_at, eqb-true, ltb-tr
 use Rattle.cd_code.specs.Edc.{IsEdc, bits, divide_step, remainder}
 use Rattle.cd_code.specs.declared.edc_tables.TheConstants.{WORDS}
 
--- the word at an entry: it fits, and it makes the bytes followed by it divisible
+-- the word at an entry: it fits, and the bytes followed by it are divisible
 abbrev word_at : ℕ → ℕ → ℕ
 word_at zeros byte = get_or (get_or WORDS zeros []) byte 0
 

@@ -1,4 +1,4 @@
--- The field of the specification: doubling and multiplying are linear.
+-- Lemmas about the field: doubling and multiplying are linear.
 use Rattle.std.proofs.Common.{◌≡◌, ℕ, zero, suc, ◌-◌, ◌*◌, ◌/◌, ◌%◌, ◌^◌, ◌<◌, ◌≤◌, Bool, true, false, bit_xor, refl, sym, ap, ap₂, ◌∙◌, arith, lit<}
 use Rattle.std.specs.Bool.{if◌then◌else◌, ◌==◌}
 use Rattle.std.specs.Int.Bits.{xor_zero_l}
@@ -8,7 +8,7 @@ use Rattle.cd_code.specs.Field.{double, power, product, product_of_bits}
 use Rattle.cd_code.proofs.general.Tables.{bounded_below, equal_below}
 use Rattle.cd_code.proofs.general.Xor.{half_below, linear_at_bits, xor_half, xor_low, xor_twofold, xor_swap}
 
--- what leaves at the top of a doubled byte: x^8 and the polynomial's other terms
+-- the polynomial of the field, which is added to a doubled byte whose top bit was set; otherwise 0
 abbrev pub lift : ℕ → ℕ
 lift zero = 0
 lift (suc n) = 285
@@ -89,7 +89,7 @@ product_of_bits-double (suc n) a b h =
     ∙ sym (double-xor (product_of_bits n (double a) (b / 2)) (term (b % 2) a)
     (product_of_bits-lt n (double a) (b / 2) (double-lt a h)) (term-lt (b % 2) a h))
 
--- to double a factor is to double the product
+-- doubling a factor doubles the product
 pub product-double : (a b : ℕ) → a < 256 → product (double a) b ≡ double (product a b)
 unfolding product
 product-double a b h = product_of_bits-double 8 a b h
@@ -107,7 +107,7 @@ pub power-lt : (n : ℕ) → power n < 256
 power-lt zero = lit< tt
 power-lt (suc n) = double-lt (power n) (power-lt n)
 
--- to multiply by a power of alpha is to double that many times
+-- multiplying by a power of alpha is doubling that many times
 pub product-power : (n b : ℕ) → b < 256 → product (power n) b ≡ doubles n b
 product-power zero b h = product-one b h
 product-power (suc n) b h =
@@ -130,7 +130,7 @@ pub tripled_third : (b : ℕ) → b < 256 → product 244 (bit_xor (double b) b)
 unfolding product double
 tripled_third = equal_below (λ b. product 244 (bit_xor (double b) b)) (λ b. b) 256 refl
 
--- one more bit of fuel changes nothing if the factor has no such bit
+-- one more bit of fuel changes nothing if the factor has no bit there
 product_of_bits-fuel : (n a b : ℕ) → b < 2 ^ n → product_of_bits (suc n) a b ≡ product_of_bits n a b
 product_of_bits-fuel zero a b h =
     let e : b ≡ 0 = omega arith in

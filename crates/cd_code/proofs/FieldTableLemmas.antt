@@ -1,4 +1,5 @@
--- The tables of powers and logarithms: one computed test over each, and the rule at each entry.
+-- The tables of powers and logarithms: one computed test over each table, and the rule at each
+-- entry.
 use Rattle.std.proofs.Common.{◌≡◌, ℕ, zero, suc, ◌+◌, ◌-◌, ◌*◌, ◌/◌, ◌%◌, ◌<◌, ◌≤◌, inl, inr, bit_xor, get_or, refl, sym, ap, ap₂, ◌∙◌, arith, lit<}
 use Rattle.std.proofs.lemmas.Bool.{cases_lt}
 use Rattle.std.proofs.lemmas.Nat.{xor_lt}
@@ -91,8 +92,8 @@ product-logarithms (suc a) (suc b) m n r one two e =
     e.power (omega arith) ∙ sym (product-powers m n)
     ∙ ap₂ product (one.power (omega arith)) (two.power (omega arith))
 
--- to multiply by a sum of powers and then by F4 is to multiply by one power, if that is the product
--- of F4 and the sum
+-- multiplying by a sum of powers and then by F4 is multiplying by one power, if that power is the
+-- product of F4 and the sum
 pub product-pair : (k m d n r : ℕ) → power k ≡ product 244 (bit_xor (power m) 1) → k < 255
     → d < 256 → IsLogarithm d n → IsExponent (k + n) r
     → r ≡ product 244 (bit_xor (product (power m) d) d)
@@ -157,7 +158,7 @@ power-mod n =
     let e : n / 255 * 255 + n % 255 ≡ n = omega arith in
     sym (power-turns (n / 255) (n % 255)) ∙ ap power e
 
--- no lower power than the 255th is 1: each has its own logarithm
+-- no power of alpha below the 255th, except the 0th, is 1, since each has its own logarithm
 power-one : (n : ℕ) → 0 < n → n < 255 → power n ≡ 1 → ⊥
 power-one n some below one =
     let own = equal_below (λ k. get_or LOGARITHMS (get_or EXPONENTS k 0) 0) (λ k. k) 255 refl
@@ -166,7 +167,7 @@ power-one n some below one =
     sym own ∙ ap (λ z. get_or LOGARITHMS z 0) (exponents-power n (omega arith) ∙ one) in
     omega arith
 
--- an element but 0 is another one n doublings later, up to the 255th
+-- an element other than 0 is not itself again after n doublings, for n from 1 to 254
 pub product-power_moves : (n d : ℕ) → 0 < n → n < 255 → 0 < d → d < 256 → product (power n) d ≡ d
     → ⊥
 product-power_moves n d some below nonzero byte same =
@@ -182,7 +183,7 @@ product-power_moves n d some below nonzero byte same =
     ∙ ap (product (power (255 - m))) moved
     ∙ product-powers (255 - m) m ∙ ap power whole ∙ power_order)
 
--- nor is it that of one doubling
+-- and it is not itself doubled once after n doublings, for n from 2 to 255
 pub product-power_moves_on : (n d : ℕ) → 1 < n → n < 256 → 0 < d → d < 256
     → product (power n) d ≡ double d → ⊥
 product-power_moves_on n d some below nonzero byte same =

@@ -1,4 +1,4 @@
--- Sixteen bytes at a time leave what all the bytes leave.
+-- Folding sixteen bytes at a time does not change the remainder of the list.
 use Rattle.std.proofs.Common.{◌≡◌, ℕ, zero, suc, ◌+◌, ◌*◌, ◌/◌, ◌%◌, ◌^◌, ◌<◌, ◌≤◌, List, [], ◌∷◌, ◌++◌, length, take, drop, replicate, bit_xor, refl, sym, ap, ap₂, ◌∙◌, arith, lit<, lit≤, append_assoc, length-append, length-take, length-drop}
 use Rattle.std.specs.Int.Bits.{xor_zero_l, xor_zero_r}
 use Rattle.std.specs.List.{range_with_len}
@@ -15,7 +15,7 @@ use Rattle.cd_code.proofs.general.Xor.{xor_common, xor_swap}
 
 -- ---- k bytes 00
 
--- n bits 0 after what left r
+-- n bits 0 after the remainder r
 zero_bits-step : (n r : ℕ) → after_bits n (divide_step r 0) 0 ≡ divide_step (after_bits n r 0) 0
 zero_bits-step zero r = refl
 zero_bits-step (suc n) r = zero_bits-step n (divide_step r 0)
@@ -26,7 +26,7 @@ zero_bits-more (suc m) n r =
     let e : suc (m + n) ≡ suc m + n = omega arith in
     zero_bits-more m n (divide_step r 0) ∙ ap (λ k. after_bits k r 0) e
 
--- what is left when k bytes 00 follow what left r
+-- the remainder when k bytes 00 follow the remainder r
 pub zeros : ℕ → ℕ → ℕ
 zeros k r = after_bits (8 * k) r 0
 
@@ -77,7 +77,7 @@ step-bit zero h = refl
 step-bit (suc zero) h = refl
 step-bit _ h = absurd (omega arith)
 
--- a step is one with the bit 0, to which the bit is added
+-- a step with a bit is a step with the bit 0, to which the bit is added
 step-parts : (r b : ℕ) → r < 2 ^ 32 → b < 2 → divide_step r b ≡ bit_xor (divide_step r 0) b
 step-parts r b hr hb =
     sym (ap₂ divide_step (xor_zero_r r) (xor_zero_l b))
@@ -126,14 +126,14 @@ four-after r (x ∷ v) hr h =
 left-lt : (v : List ℕ) → after 0 v < 2 ^ 32
 left-lt v = after-lt 0 v (lit< tt)
 
--- one list after another
+-- the remainder of one list followed by another
 left-append : (u v : List ℕ) → after 0 (u ++ v) ≡ bit_xor (zeros (length v) (after 0 u)) (after 0 v)
 left-append u v =
     after-append 0 u v ∙ ap (λ z. after z v) (sym (xor_zero_r (after 0 u)))
     ∙ after-xor_zeros (after 0 u) 0 v (left-lt u) (lit< tt)
     ∙ ap (λ z. bit_xor z (after 0 v)) (after-zeros (length v) (after 0 u))
 
--- a sum of two lists of sixteen bytes
+-- the remainder of a sum of two lists of sixteen bytes
 left-sum : (u v : List ℕ) → length u ≡ 16 → length v ≡ 16
     → after 0 (zip2 bit_xor u v) ≡ bit_xor (after 0 u) (after 0 v)
 left-sum u v hu hv =
@@ -149,7 +149,7 @@ length-window : (k : ℕ) (a b : List ℕ) → length a ≡ 16 → length b ≡ 
 length-window k a b ha hb h =
     omega (arith, length-take 16 (drop k (a ++ b)), length-drop k (a ++ b), length-append a b)
 
--- n bytes of two lists of n, from place m on
+-- the remainder of n bytes, from place m on, of two lists of n bytes each
 left-window : (m n : ℕ) (a b : List ℕ) → length a ≡ n → length b ≡ n → m ≤ n
     → after 0 (take n (drop m (a ++ b)))
     ≡ bit_xor (zeros m (after 0 a)) (bit_xor (zeros n (after 0 (take m a))) (after 0 (take m b)))
@@ -175,7 +175,7 @@ left-window m n a b ha hb h =
     ∙ sym (ap (λ z. bit_xor z (bit_xor (zeros n p) (after 0 front))) whole
     ∙ xor_common (zeros n p) (zeros m d) (after 0 front) ∙ xor_comm (after 0 front) (zeros m d))
 
--- what sixteen folded bytes leave
+-- the remainder of sixteen folded bytes
 left-folded : (a b c : List ℕ) → length a ≡ 16 → length b ≡ 16 → length c ≡ 16
     → after 0 (with_folded a b c) ≡ bit_xor (bit_xor (bit_xor (after 0 c) (after 0 b))
     (bit_xor (zeros 4 (after 0 a)) (bit_xor (zeros 16 (after 0 (take 4 a))) (after 0 (take 4 b)))))
@@ -202,7 +202,7 @@ length-folded a b c ha hb hc =
     (length-window 4 a b ha hb (lit≤ tt)))
     (length-window 1 a b ha hb (lit≤ tt))
 
--- what the 32 bytes of two registers leave
+-- the remainder of the 32 bytes of two registers
 abbrev left_of : List ℕ → List ℕ → ℕ
 left_of a b =
     bit_xor (zeros 16 (after 0 a))
@@ -231,7 +231,7 @@ left-registers a b ha hb =
     (clear 4 4 four)
     ∙ ap (bit_xor (bit_xor (bit_xor (after 0 b) (after 0 a)) four)) (clear 1 1 one))
 
--- equal bits at each place
+-- two sums with equal bits in each place
 ten_terms : (za ya xa zb zp zq b c p q : ℕ)
     → bit_xor (bit_xor (bit_xor za (bit_xor ya xa)) (bit_xor (bit_xor (bit_xor zb za) zp) zq)) c
     ≡ bit_xor zb (bit_xor
@@ -295,7 +295,7 @@ pub IsFolded-nil : IsFolded [] (replicate 16 0) (replicate 16 0)
 unfolding remainder bits divide_step
 IsFolded-nil = record { older_size = refl; newer_size = refl; same = refl }
 
--- sixteen bytes, cut out of a list by position
+-- sixteen folded bytes, selected from registers by position
 pub folded_by_position : (a b c : List ℕ) → length a ≡ 16 → length b ≡ 16
     → zip2 bit_xor (zip2 bit_xor (zip2 bit_xor c b) (pick_l 0 (a ++ b) (range_with_len 4 16)))
     (pick_l 0 (a ++ b) (range_with_len 1 16))

@@ -1,4 +1,5 @@
--- Lanes of field elements: a vector that is doubled, and one that is added to the sums at a place.
+-- Lemmas about lanes of field elements: a doubled vector, and a vector that is added to the sums at
+-- a place.
 use Rattle.std.proofs.Common.{◌≡◌, ℕ, zero, suc, ◌+◌, ◌-◌, ◌%◌, ◌<◌, ◌≤◌, cond, List, [], ◌∷◌, length, map, replicate, get_or, bit_and, bit_xor, refl, sym, ap, ap₂, ◌∙◌, arith}
 use Rattle.std.specs.Simd.Lanes.{Each1, zip2, sel_l, top, chunk, put_chunk}
 use Rattle.std.proofs.lemmas.List.{length-map, get_or-map}
@@ -30,7 +31,7 @@ lanes_doubled [] h = refl
 lanes_doubled (x ∷ v) h =
     ap₂ (λ y w. y ∷ w) (lane_doubled-double x h.0) (lanes_doubled v h.1)
 
--- the n bytes of a row from a place on, added to n lanes that are put back there
+-- n bytes of a row, from a place on, added to n lanes that are written back to that place
 pub lanes_added : (f : ℕ → ℕ) (at n : ℕ) (sums row lanes : List ℕ) → at + n ≤ length sums
     → at + n ≤ length row
     → lanes ≡ map f (chunk at n sums) → (c : ℕ) → at ≤ c → c < at + n
@@ -55,7 +56,7 @@ lanes_added f at n sums row lanes hs hr e c from to =
     ∙ ap (bit_xor (f (get_or sums c 0)))
     (get_or-chunk at n row j 0 (omega arith) ∙ ap (λ k. get_or row k 0) place)
 
--- the sums after those lanes stay
+-- the sums after these lanes do not change
 pub lanes_above : (at n : ℕ) (sums row lanes : List ℕ) → at + n ≤ length row → length lanes ≡ n
     → (c : ℕ) → at + n ≤ c
     → get_or (put_chunk at sums (zip2 bit_xor lanes (chunk at n row))) c 0 ≡ get_or sums c 0
@@ -67,7 +68,7 @@ lanes_above at n sums row lanes hr long c h =
 
 -- ---- 32 lanes in registers
 
--- a doubled vector, lane by lane; past the end both are 0
+-- a doubled vector, lane by lane; past the end both sides are 0
 pub get_or-doubled : (v : List ℕ) (i : ℕ) → get_or (map double v) i 0 ≡ double (get_or v i 0)
 get_or-doubled [] i = sym double-zero
 get_or-doubled (x ∷ v) zero = refl
@@ -84,7 +85,7 @@ lanes_doubled_added weighted lanes doubled hw hl e i h =
     ∙ ap (λ z. bit_xor z (get_or lanes i 0))
     (ap (λ v. get_or v i 0) e ∙ get_or-map double weighted i 0 0 (omega arith))
 
--- F4 is alpha to the 7, 6, 5, 4 and 2
+-- F4 is the sum of alpha to the 7, 6, 5, 4, and 2
 abbrev times_f4 : ℕ → ℕ
 times_f4 x =
     double (double (bit_xor
@@ -94,7 +95,7 @@ pub times_inverse : (x : ℕ) → x < 256 → times_f4 x ≡ product 244 x
 unfolding double product
 times_inverse = equal_below times_f4 (product 244) 256 refl
 
--- a lane of the two that a mask chooses from
+-- a lane of the selection between two vectors by a mask
 select_lanes-lane : (old new mask : List ℕ) → length old ≡ 32 → length new ≡ 32 → length mask ≡ 32
     → (i : ℕ) → i < 32
     → get_or (zip2 bit_xor old (zip2 bit_and (zip2 bit_xor old new) mask)) i 0

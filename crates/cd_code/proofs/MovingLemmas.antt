@@ -1,4 +1,4 @@
--- A list followed by bytes of 00: its word is moved on, digit by digit.
+-- The EDC word of a list followed by bytes of 00, computed digit by digit.
 use Rattle.std.proofs.Common.{◌≡◌, ℕ, ◌+◌, ◌-◌, ◌*◌, ◌/◌, ◌%◌, ◌^◌, ◌<◌, ◌≤◌, List, [], ◌∷◌, ◌++◌, replicate, bit_xor, refl, sym, ap, ap₂, ◌∙◌, arith, lit<, append_assoc}
 use Rattle.std.specs.Int.{to_le_bytes, w32}
 use Rattle.std.specs.Int.Bits.{xor_zero_l, xor_zero_r}
@@ -15,7 +15,7 @@ use Rattle.cd_code.proofs.FoldingLemmas.{after-zeros, zeros, zeros-xor, zeros-ze
 
 -- ---- any number of bytes
 
--- what the bytes of a word and m bytes 00 leave
+-- the remainder of the bytes of a word and m bytes 00
 after-moved : (m x : ℕ) → x < 2 ^ 32
     → after 0 (to_le_bytes w32 x ++ replicate m 0) ≡ zeros m (after_bits 32 0 x)
 after-moved m x h =
@@ -42,7 +42,7 @@ IsMoved-sum e x y s t hx hs h k =
     IsEdc-from (to_le_bytes w32 (bit_xor x s) ++ replicate m 0) (bit_xor y t)
     (rw both at (Ends-xor (zeros m r) (zeros m q) y t one two))
 
--- a list, and then its word's bytes with zeros after them
+-- a list followed by zeros, from the bytes of its word followed by zeros
 moves : (v : List ℕ) (m x y : ℕ) → IsEdc v x → IsEdc (to_le_bytes w32 x ++ replicate m 0) y
     → IsEdc (v ++ replicate (4 + m) 0) y
 moves v m x y h k =
@@ -63,7 +63,7 @@ IsMoved-after v e x y some h k =
     let all : 4 + (8 * e - 4) ≡ 8 * e = omega arith in
     rw all at (moves v (8 * e - 4) x y h k)
 
--- first by some bytes, and then by more
+-- a word is moved by some bytes, and then by more
 pub IsMoved-more : (e f x y z : ℕ) → 0 < e → 0 < f → IsMoved e x y → IsMoved f y z
     → IsMoved (e + f) x z
 IsMoved-more e f x y z some more h k =
@@ -78,7 +78,7 @@ IsMoved-more e f x y z some more h k =
 
 -- ---- digit by digit
 
--- one more digit of a number is added to those below it
+-- one more digit of a number is added to the digits below it
 with_digit : (w n : ℕ)
     → bit_xor (w % 2 ^ (4 * n)) (w / 2 ^ (4 * n) % 16 * 2 ^ (4 * n))
     ≡ w / 2 ^ (4 * n) % 16 * 2 ^ (4 * n) + w % 2 ^ (4 * n)

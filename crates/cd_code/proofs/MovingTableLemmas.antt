@@ -1,5 +1,5 @@
--- The table of words moved on: a computed test over its first row, and one that ties each row to
--- the one before it.
+-- The table of EDC words after bytes of 00: a computed test of its first row, and one that relates
+-- each row to the row before it.
 use Rattle.std.proofs.Common.{◌≡◌, ℕ, zero, suc, ◌+◌, ◌-◌, ◌*◌, ◌/◌, ◌%◌, ◌^◌, ◌<◌, ◌≤◌, inl, inr, Bool, true, ◌&&◌, nat_lt, [], ◌++◌, get_or, replicate, bit_xor, refl, sym, subst, arith, lit<}
 use Rattle.std.specs.Bool.{◌==◌}
 use Rattle.std.specs.Int.{to_le_bytes, w32}
@@ -14,7 +14,7 @@ use Rattle.cd_code.proofs.MovingLemmas.{IsMoved-digit, IsMoved-more, IsMoved-non
 abbrev pub entry : ℕ → ℕ → ℕ → ℕ
 entry row place digit = get_or (get_or (get_or MOVED row []) place []) digit 0
 
--- the sum of what the first digits of a word give
+-- the sum of the entries of the first digits of a word
 abbrev pub sum_of : ℕ → ℕ → ℕ → ℕ
 sum_of row zero w = 0
 sum_of row (suc n) w = bit_xor (sum_of row n w) (entry row n (w / 2 ^ (4 * n) % 16))
@@ -25,7 +25,7 @@ IsRow row =
     (place digit : ℕ) → place < 8 → digit < 16
     → IsMoved (eights_of row) (digit * 2 ^ (4 * place)) (entry row place digit)
 
--- a word is moved on by its digits
+-- a word is moved by moving its digits
 moved-digits : (row n w : ℕ) → n ≤ 8 → IsRow row
     → IsMoved (eights_of row) (w % 2 ^ (4 * n)) (sum_of row n w)
 moved-digits row zero w h rule =
@@ -71,9 +71,9 @@ first_row place digit hp hd =
     let two : k % 16 ≡ digit = omega arith in
     rw (one, two) at (first-at k (omega arith))
 
--- ---- each other row moves the one before it on, by the first one or by row 15
+-- ---- each other row is the row before it, moved by the first row or by row 15
 
--- entry k of a row and the following ones, counted over all digits
+-- entry k of a row and the rows after it, counted over all digits
 abbrev from_row : ℕ → ℕ → ℕ
 from_row row k = entry (k / 128 + row) (k / 16 % 8) (k % 16)
 

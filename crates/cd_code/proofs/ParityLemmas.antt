@@ -1,4 +1,4 @@
--- Parity that is filled in, some pairs after the others, and what it makes of the words.
+-- Parity that is written some pairs at a time, and the code words that result.
 use Rattle.std.proofs.Common.{◌≡◌, ℕ, ◌+◌, ◌-◌, ◌/◌, ◌%◌, ◌<◌, ◌≤◌, inl, inr, List, [], ◌∷◌, ◌++◌, length, get_or, take, refl, ap, ◌∙◌, arith}
 use Rattle.std.proofs.lemmas.Bool.{cases_lt}
 use Rattle.std.proofs.lemmas.List.{take_more}
@@ -8,7 +8,7 @@ use Rattle.cd_code.specs.Filling.{Filled, PairsPut}
 use Rattle.cd_code.specs.CodeWords.{bytes_at, column_input, column_of, diagonal_input, diagonal_of}
 use Rattle.cd_code.proofs.PlaceLemmas.{bytes_at-same, AreBytes-bytes_at, length-column_input, column_input_place, length-diagonal_input, diagonal_input_place, column_of-parts, diagonal_of-parts}
 
--- byte n of each word stands in the row
+-- the first n + 1 bytes of a word: the first n, and byte n from the row
 pub take-row : (v : List ℕ) (n byte : ℕ) → n < length v → get_or v n 0 ≡ byte
     → take (n + 1) v ≡ take n v ++ byte ∷ []
 take-row v n byte inside e = take_more v n 0 inside ∙ ap (λ b. take n v ++ b ∷ []) e
@@ -18,7 +18,7 @@ pub Filled-none : (word : ℕ → List ℕ) (start count : ℕ) (old : List ℕ)
 Filled-none word start count old =
     record { pairs = λ i h. absurd (omega arith); stays = λ k h. refl }
 
--- the parity of `width` words more is put, of which the first `lanes` are those from `from` on
+-- the parity of `width` words is written, of which the first `lanes` are the words from `from` on
 pub Filled-put : (word : ℕ → List ℕ) (start count width from lanes n : ℕ) (plain weighted : ℕ → ℕ)
     (old mid new : List ℕ) → from ≤ n → from + width ≤ count → lanes ≤ width
     → ((i : ℕ) → i < lanes → plain i ≡ first_syndrome (word (from + i)))
@@ -47,9 +47,9 @@ Filled-put word start count width from lanes n plain weighted old mid new begun 
       ];
     }
 
--- ---- what the pairs make
+-- ---- the words with their pairs
 
--- the parity after a word's input makes it a code word
+-- a word's input followed by its parity is a code word
 words_made : (word : List ℕ) (start count i : ℕ) (input old new : List ℕ) → AreBytes old
     → ((m : ℕ) → m < length input → get_or input m 0 < start)
     → word ≡ bytes_at new input ++ get_or new (start + i) 0 ∷ get_or new (start + count + i) 0 ∷ []

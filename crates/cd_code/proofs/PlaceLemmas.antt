@@ -1,4 +1,4 @@
--- A code word as a list of places, and the bytes of a sector at them.
+-- Lemmas about code words as lists of places, and about the bytes of a sector at these places.
 use Rattle.std.proofs.Common.{◌≡◌, ℕ, ◌+◌, ◌*◌, ◌/◌, ◌%◌, ◌<◌, List, [], ◌∷◌, ◌++◌, length, get_or, refl, sym, ap, ap₂, ◌∙◌, arith}
 use Rattle.std.proofs.lemmas.List.{ext_get_or, get_or-map, get_or_append_left, length-map, map-append}
 use Rattle.std.proofs.lemmas.List.FromFn.{get_or-map-range_with_len}
@@ -97,7 +97,7 @@ pub AreBytes-bytes_at : (s ps : List ℕ) → AreBytes s → AreBytes (bytes_at 
 unfolding bytes_at
 AreBytes-bytes_at s ps h = AreBytes-map (λ p. get_or s p 0) ps h
 
--- the bytes of two sectors that agree at the places
+-- two sectors that agree at the places have the same bytes there
 pub bytes_at-same : (s t ps : List ℕ)
     → ((k : ℕ) → k < length ps → get_or s (get_or ps k 0) 0 ≡ get_or t (get_or ps k 0) 0)
     → bytes_at s ps ≡ bytes_at t ps
@@ -107,7 +107,7 @@ bytes_at-same s t ps h =
     let below : k < length ps = omega (arith, length-bytes_at s ps) in
     bytes_at-byte s ps k below ∙ h k below ∙ sym (bytes_at-byte t ps k below))
 
--- a word's bytes are those of its input and its pair
+-- the bytes of a word are those of its input and its parity pair
 word-parts : (s input : List ℕ) (p q a b : ℕ) → p ≡ a → q ≡ b
     → bytes_at s (input ++ p ∷ q ∷ []) ≡ bytes_at s input ++ get_or s a 0 ∷ get_or s b 0 ∷ []
 word-parts s input p q a b e f =
@@ -133,7 +133,7 @@ diagonal_of-parts s i =
     ∙ word-parts s (diagonal_input (i % 2) (i / 2)) (place_of (i % 2) (1118 + i / 2))
     (place_of (i % 2) (1144 + i / 2)) (2248 + i) (2248 + 52 + i) (omega arith) (omega arith)
 
--- what holds of the words by number holds of them by plane
+-- a property of all words by number is a property of all words by plane
 pub plane-by_number : (P : ℕ → ℕ → Type 0) (count : ℕ)
     → ((i : ℕ) → i < 2 * count → P (i % 2) (i / 2))
     → (plane n : ℕ) → plane < 2 → n < count → P plane n

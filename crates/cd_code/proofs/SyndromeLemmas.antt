@@ -1,4 +1,4 @@
--- The two syndromes of lists: at the end of a list, at a changed byte, and with a parity pair
+-- The two syndromes of a list: with one more byte, with a changed byte, and with a parity pair
 -- after it.
 use Rattle.std.proofs.Common.{◌≡◌, ◌≢◌, ℕ, zero, suc, ◌+◌, ◌-◌, ◌<◌, List, [], ◌∷◌, ◌++◌, length, get_or, bit_xor, refl, sym, ap, ap₂, ◌∙◌, arith, lit<, append_assoc, subst}
 use Rattle.std.specs.Int.Bits.{xor_self, xor_zero_l, xor_zero_r, xor_assoc}
@@ -57,7 +57,7 @@ first_syndrome-lt [] h = lit< tt
 first_syndrome-lt (y ∷ v) h =
     xor_lt 8 y (first_syndrome v) (h 0) (first_syndrome-lt v (λ i. h (suc i)))
 
--- a byte to which `d` is added
+-- the syndromes after `d` is added to a byte
 pub first_syndrome-added : (v : List ℕ) (place d : ℕ) → place < length v
     → first_syndrome (with_added v place d) ≡ bit_xor (first_syndrome v) d
 unfolding first_syndrome
@@ -88,7 +88,7 @@ second_syndrome-added (y ∷ v) (suc place) d weight h =
     (second_syndrome-added v place d weight (omega arith))
     ∙ sym (xor_assoc (product (power (length v)) y) (second_syndrome v) (product (power weight) d))
 
--- with the pair that `pair_from` gives after it, a list is a code word
+-- a list followed by the pair that `pair_from` returns is a code word
 pub IsCodeWord-pair : (v : List ℕ) (plain weighted a : ℕ)
     → plain < 256 → first_syndrome v ≡ plain → second_syndrome v ≡ weighted
     → a ≡ product 244 (bit_xor plain (double (double weighted)))
@@ -126,8 +126,8 @@ IsCodeWord-pair v plain weighted a below firsts seconds e =
 length-added : (v : List ℕ) (place d : ℕ) → length (with_added v place d) ≡ length v
 length-added v place d = length-set v place (bit_xor (get_or v place 0) d)
 
--- with `d` added at a place, and the pair that `pair_change` gives at the last two, both syndromes
--- stay
+-- with `d` added at a place, and the pair that `pair_change` returns added to the last two bytes,
+-- both syndromes stay the same
 pub SameSums-change : (v : List ℕ) (len place d moved p : ℕ)
     → length v ≡ len → place + 2 < len → d < 256
     → moved ≡ product (power (len - 1 - place)) d → p ≡ product 244 (bit_xor moved d)
@@ -171,7 +171,7 @@ SameSums-change v len place d moved p long inside below moves e =
           ∙ xor_twice s moved;
     }
 
--- and if d is not 0, neither of the pair is
+-- if d is not 0, neither byte of the pair is 0
 pub pair-nonzero : (weight d moved p : ℕ) → 1 < weight → weight < 255 → 0 < d → d < 256
     → moved ≡ product (power weight) d → p ≡ product 244 (bit_xor moved d)
     → (p ≢ 0) × (bit_xor p d ≢ 0)
@@ -194,7 +194,7 @@ pair-nonzero weight d moved p more below nonzero byte moves e =
           product-power_moves_on weight d more (omega arith) nonzero byte (sym moves ∙ doubled),
     )
 
--- two bytes follow from both their syndromes
+-- two bytes are determined by their two syndromes
 pair_same : (a b c d : ℕ) → a < 256 → b < 256 → c < 256 → d < 256
     → bit_xor a b ≡ bit_xor c d → bit_xor (double a) b ≡ bit_xor (double c) d → (a ≡ c) × (b ≡ d)
 pair_same a b c d ha hb hc hd plain weighted =
@@ -231,7 +231,7 @@ SameSums-tail x v w e s = record {
       (s.second ∙ ap (λ n. bit_xor (product (power n) x) (second_syndrome w)) (sym e));
 }
 
--- lists that differ at most in their last two bytes, and have the same sums, are equal
+-- lists that differ at most in their last two bytes, and have the same syndromes, are equal
 pub pair_unique : (v w : List ℕ) → DifferAtMostInLast 2 v w → SameSums v w → v ≡ w
 pair_unique [] [] d s = refl
 pair_unique (x ∷ []) (y ∷ []) d s =
@@ -255,7 +255,7 @@ pair_unique (x ∷ a ∷ b ∷ v) (y ∷ c ∷ e ∷ w) d s =
     ap₂ (λ z u. z ∷ u) first rest
 pair_unique _ _ d s = absurd (omega arith)
 
--- the syndromes of a sum, byte by byte, of two lists
+-- the syndromes of the sum of two lists, byte by byte
 pub first_syndrome-sum : (u v w : List ℕ) → length u ≡ length v → length u ≡ length w
     → ((i : ℕ) → i < length u → get_or u i 0 ≡ bit_xor (get_or v i 0) (get_or w i 0))
     → first_syndrome u ≡ bit_xor (first_syndrome v) (first_syndrome w)

@@ -1,4 +1,4 @@
--- Lemmas that name nothing of this crate.
+-- Lemmas that do not mention anything of this crate.
 pub mod Lists
 pub mod Tables
 pub mod Xor

@@ -28,7 +28,7 @@ diagonal_pair plane n = place_of plane (1118 + n) ∷ place_of plane (1144 + n) 
 unfoldable pub diagonal_places : ℕ → ℕ → List ℕ
 diagonal_places plane n = diagonal_input plane n ++ diagonal_pair plane n
 
--- the bytes of a sector at places
+-- the bytes of a sector at these places
 unfoldable pub bytes_at : List ℕ → List ℕ → List ℕ
 bytes_at sector places = map (λ p. slice_index sector p) places
 
@@ -40,7 +40,7 @@ column_of s i = bytes_at s (column_places (i % 2) (i / 2))
 abbrev pub diagonal_of : List ℕ → ℕ → List ℕ
 diagonal_of s i = bytes_at s (diagonal_places (i % 2) (i / 2))
 
--- all 276 syndromes of one sector are those of the other
+-- two sectors have the same 276 syndromes
 pub record SameSyndromes (s t : List ℕ) : Type 0 where
   pub columns : (plane n : ℕ) → plane < 2 → n < 43
       → SameSums (bytes_at s (column_places plane n)) (bytes_at t (column_places plane n))

@@ -16,15 +16,15 @@ bits (x ∷ xs) = low_bits 8 x ++ bits xs
 abbrev pub generator : ℕ
 generator = 0x18001801B
 
--- one step of the division: the remainder takes in one more bit
+-- one step of the division: one more bit is appended to the remainder
 unfoldable pub divide_step : ℕ → ℕ → ℕ
 divide_step r b = if nat_lt (r * 2 + b) (2 ^ 32) then r * 2 + b else bit_xor (r * 2 + b) generator
 
--- what is left of bits, the first of the highest power, divided by the generator
+-- the remainder of bits, the first of the highest power, divided by the generator
 unfoldable pub remainder : List ℕ → ℕ
 remainder bs = fold divide_step 0 bs
 
--- the word whose four bytes, least significant first, make the bytes followed by them divisible
+-- w is the EDC word of v: v, followed by the four bytes of w, least significant first, is divisible
 pub record IsEdc (v : List ℕ) (w : ℕ) : Type 0 where
   pub fits : w < 2 ^ 32
   pub divides : remainder (bits (v ++ to_le_bytes w32 w)) ≡ 0

@@ -2,7 +2,7 @@
 -- x^2 + 1. The sum of two elements is std's `bit_xor`.
 use Rattle.std.specs.Prelude.{◌≡◌, ℕ, zero, suc, ◌==◌, ◌-◌, ◌*◌, ◌/◌, ◌%◌, ◌<◌, ◌≤◌, nat_lt, if◌then◌else◌, bit_xor, List, slice_index}
 
--- an element times alpha, which is 2: a shift, and 1D added if x^8 has come up
+-- an element times alpha, which is 2: a shift, and 1D is added if the shift gave x^8
 unfoldable pub double : ℕ → ℕ
 double b = if nat_lt (b * 2) 256 then b * 2 else bit_xor (b * 2 - 256) 29
 
@@ -29,13 +29,14 @@ AreBytes v = (i : ℕ) → slice_index v i < 256
 pub record IsSum (u v w : List ℕ) : Type 0 where
   pub byte : (i : ℕ) → slice_index u i ≡ bit_xor (slice_index v i) (slice_index w i)
 
--- plumbing of `times`: n is the logarithm of `a`, and 510 if that is 0, which has none
+-- plumbing of `times`: n is the logarithm of `a`, or 510 if `a` is 0, which has no logarithm
 pub record IsLogarithm (a n : ℕ) : Type 0 where
   pub none : a ≡ 0 → n ≡ 510
   pub below : 0 < a → n < 255
   pub power : 0 < a → power n ≡ a
 
--- and `b` is alpha to the n, and 0 if one of the logarithms whose sum is n was none
+-- plumbing of `times`: `b` is alpha to the n, where n is the sum of two logarithms, or 0 if n is
+-- 510 or more, since one of the two is then the logarithm of 0
 pub record IsExponent (n b : ℕ) : Type 0 where
   pub power : n < 510 → b ≡ power n
   pub none : 510 ≤ n → b ≡ 0

@@ -1,4 +1,4 @@
--- What follows from the definitions of codes; each law is a contract of `laws.rt`.
+-- Laws that follow from the definitions of the codes. Each law is a contract in `laws.rt`.
 use Rattle.std.specs.Prelude.{◌≡◌, ℕ, ◌==◌, ◌+◌, ◌*◌, ◌/◌, ◌%◌, ◌<◌, if◌then◌else◌, bit_xor, List, length, slice_index}
 use Rattle.cd_code.specs.Field.{AreBytes, IsSum, double, product}
 use Rattle.cd_code.specs.Edc.{IsEdc, bits, remainder}
@@ -8,7 +8,7 @@ use Rattle.cd_code.specs.Syndrome.{SameSums}
 abbrev pub SumByBits : Type 0
 SumByBits = (a b : ℕ) → bit_xor a b ≡ 2 * bit_xor (a / 2) (b / 2) + (a + b) % 2
 
--- a product is the sum of as many doublings of `a` as `b` has set bits
+-- a product, bit by bit: `a` doubled times half of `b`, plus `a` if `b` is odd
 abbrev pub ProductByBits : Type 0
 ProductByBits =
     (a b : ℕ) → a < 256 → b < 256
@@ -18,7 +18,7 @@ ProductByBits =
 abbrev pub ProductOfNone : Type 0
 ProductOfNone = (a : ℕ) → product a 0 ≡ 0
 
--- two byte lists are of one length, and differ at most in their last n bytes
+-- two lists of bytes have the same length, and differ at most in their last n bytes
 pub record DifferAtMostInLast (n : ℕ) (v w : List ℕ) : Type 0 where
   pub bytes_left : AreBytes v
   pub bytes_right : AreBytes w
@@ -34,13 +34,13 @@ abbrev pub EdcIsUnique : Type 0
 EdcIsUnique =
     (v w : List ℕ) → DifferAtMostInLast 4 v w → remainder (bits v) ≡ remainder (bits w) → v ≡ w
 
--- what the sum of two lists of one length leaves is the sum of what they leave
+-- the remainder of the sum of two lists of equal length is the sum of their remainders
 abbrev pub RemainderOfSum : Type 0
 RemainderOfSum =
     (u v w : List ℕ) → length u ≡ length v → length u ≡ length w → IsSum u v w
     → remainder (bits u) ≡ bit_xor (remainder (bits v)) (remainder (bits w))
 
--- the EDC word of the sum of two lists of one length is the sum of their words
+-- the EDC word of the sum of two lists of equal length is the sum of their words
 abbrev pub EdcOfSum : Type 0
 EdcOfSum =
     (u v w : List ℕ) → length u ≡ length v → length u ≡ length w → IsSum u v w

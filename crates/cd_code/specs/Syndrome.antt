@@ -8,7 +8,7 @@ unfoldable pub first_syndrome : List ℕ → ℕ
 first_syndrome [] = 0
 first_syndrome (x ∷ xs) = bit_xor x (first_syndrome xs)
 
--- the sum of the bytes times alpha^(L-1), .., alpha, 1
+-- the sum of the L bytes times alpha^(L-1), .., alpha, 1
 unfoldable pub second_syndrome : List ℕ → ℕ
 second_syndrome [] = 0
 second_syndrome (x ∷ xs) = bit_xor (product (power (length xs)) x) (second_syndrome xs)
@@ -24,7 +24,7 @@ IsPair plain weighted a b =
     (v : List ℕ) → AreBytes v → first_syndrome v ≡ plain → second_syndrome v ≡ weighted
     → IsCodeWord (v ++ a ∷ b ∷ [])
 
--- both syndromes of one list are those of the other
+-- two lists have the same syndromes
 pub record SameSums (v w : List ℕ) : Type 0 where
   pub first : first_syndrome v ≡ first_syndrome w
   pub second : second_syndrome v ≡ second_syndrome w
@@ -34,7 +34,7 @@ abbrev pub with_added : List ℕ → ℕ → ℕ → List ℕ
 with_added v place d = slice_set v place (bit_xor (slice_index v place) d)
 
 -- in a word of `len` bytes: if `d` is added to the byte at `place`, `a` to the first parity byte
--- and `b` to the second (the last two bytes of the word), both syndromes stay as they were
+-- and `b` to the second (the last two bytes of the word), both syndromes stay the same
 pub record Balances (len place d a b : ℕ) : Type 0 where
   pub keeps : (v : List ℕ) → AreBytes v → length v ≡ len
       → SameSums (with_added (with_added (with_added v place d) (len - 2) a) (len - 1) b) v

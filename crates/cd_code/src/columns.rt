@@ -1,5 +1,4 @@
-//! The syndromes of the 86 columns of rows of 86 bytes, all columns of a row side by side
-//! (ECMA-130, Annex A).
+//! Computes the syndromes of 86 columns at once, from rows of 86 bytes (ECMA-130, Annex A).
 
 ghost use Rattle.std.specs.Prelude.{◌≡◌, ℕ, ◌<◌, List, [], ◌∷◌, ◌++◌, bit_xor, replicate, slice_index};
 ghost use Rattle.cd_code.specs.Field.{double};
@@ -9,10 +8,12 @@ ghost use Rattle.cd_code.specs.Syndrome.{column, first_syndrome, second_syndrome
 use crate::lane_sums::LaneSums;
 use crate::lanes::{add_lanes, add_rest, double_and_add_lanes, lanes_at, put_lanes};
 
-/// The number of P columns of both planes, and of the bytes in a row of both (ECMA-130, Annex A).
+/// The number of P columns of both planes together, which is also the number of bytes in a row
+/// (ECMA-130, Annex A).
 pub const COLUMNS: usize = 86;
 
-/// The number of rows, with those of P parity, and of a column's bytes (ECMA-130, Annex A).
+/// The number of rows, including the two of P parity, which is also the number of bytes in a column
+/// (ECMA-130, Annex A).
 pub const ROWS: usize = 26;
 
 /// The number of bytes in all rows (ECMA-130, Annex A).
@@ -21,10 +22,10 @@ pub const ROWS_SIZE: usize = ROWS * COLUMNS;
 /// The first column of the middle lanes of [`ColumnLanes`].
 pub const MIDDLE_COLUMN: usize = 32;
 
-/// The first column of the back lanes of [`ColumnLanes`], which are the last 32 of 86.
+/// The first column of the back lanes of [`ColumnLanes`], which are the last 32 of the 86 columns.
 pub const BACK_COLUMN: usize = COLUMNS - 32;
 
-/// Both syndromes of 86 columns of bytes, by column: entry `2N + plane` is of column N of that plane
+/// Both syndromes of each of 86 columns: entry `2N + plane` is for column N of that plane
 /// (ECMA-130, Annex A).
 #[derive(Clone, Copy, Debug, PartialEq, Eq)]
 pub struct ColumnSums {
@@ -35,7 +36,7 @@ pub struct ColumnSums {
 }
 
 impl ColumnSums {
-    /// The sums of 86 columns that have no row yet, all `00`.
+    /// The sums of 86 columns without rows: all `00`.
     ///
     /// See the example of [`row_sums`].
     pub fn zero() -> Self
@@ -49,9 +50,9 @@ impl ColumnSums {
     }
 }
 
-/// Puts one more row of 86 bytes under the columns: it is added to the plain sums, and to the doubled
-/// weighted ones (ECMA-130, Annex A). For rows that come one at a time; [`column_sums`] has all of them, and keeps their
-/// sums in registers.
+/// Appends a row of 86 bytes to the columns: adds it to the plain sums, and to the doubled weighted
+/// sums (ECMA-130, Annex A). Use it if rows arrive one at a time. [`column_sums`] reads all rows at
+/// once, and keeps their sums in registers.
 ///
 /// # Examples
 ///
@@ -69,7 +70,7 @@ pub fn row_sums(row: &[u8; COLUMNS], sums: &mut ColumnSums)
         → slice_index sums.new.weighted c
         ≡ bit_xor (double (slice_index sums.old.weighted c)) (slice_index row.now c) }
 {
-    // LLVM makes vectors of a plain loop too, so the lanes gain little. The contract is the same.
+    // LLVM vectorises a plain loop too, so the lanes gain little. The contract is the same.
     add_lanes(&mut sums.plain, row, 0);
     add_lanes(&mut sums.plain, row, 32);
     double_and_add_lanes(&mut sums.weighted, row, 0);
@@ -77,21 +78,21 @@ pub fn row_sums(row: &[u8; COLUMNS], sums: &mut ColumnSums)
     add_rest(&mut sums.plain, &mut sums.weighted, row, 64);
 }
 
-/// Both syndromes of 86 columns of rows, in registers (ECMA-130, Annex A). Public for cd_lanes,
-/// whose parity is computed in the same registers. The middle and the back lanes overlap, since 86
-/// columns are not three times 32.
+/// Both syndromes of each of 86 columns, in registers (ECMA-130, Annex A). Public for cd_lanes,
+/// which computes parity in the same registers. The middle and the back lanes overlap, since 86 is
+/// less than three times 32.
 #[derive(Clone, Copy, Debug)]
 pub struct ColumnLanes {
-    /// Those of columns 0 to 31.
+    /// The syndromes of columns 0 to 31.
     pub front: LaneSums,
-    /// Those of columns 32 to 63.
+    /// The syndromes of columns 32 to 63.
     pub middle: LaneSums,
-    /// Those of columns 54 to 85.
+    /// The syndromes of columns 54 to 85.
     pub back: LaneSums,
 }
 
 impl ColumnLanes {
-    /// The sums of 86 columns that have no row yet, all `00`.
+    /// The sums of 86 columns without rows: all `00`.
     #[inline(always)]
     fn zero() -> Self
         ensures { AreColumns (λ _. []) result }
@@ -103,7 +104,7 @@ impl ColumnLanes {
         }
     }
 
-    /// Puts one more row under the columns.
+    /// Appends a row to the columns.
     #[inline(always)]
     fn with_row(self, row: &[u8; COLUMNS]) -> Self
         ensures { (word longer : ℕ → List ℕ) → AreColumns word self
@@ -117,7 +118,7 @@ impl ColumnLanes {
         }
     }
 
-    /// All 86 sums in their order.
+    /// The sums of all 86 columns, in order.
     fn sums(self) -> ColumnSums
         ensures { (word : ℕ → List ℕ) → AreColumns word self → (c : ℕ) → c < 86
             → (slice_index result.plain c ≡ first_syndrome (word c))
@@ -134,7 +135,7 @@ impl ColumnLanes {
     }
 }
 
-/// Both syndromes of the 86 columns of any number of rows (ECMA-130, Annex A).
+/// Both syndromes of each of the 86 columns of any number of rows (ECMA-130, Annex A).
 ///
 /// # Examples
 ///

@@ -6,8 +6,9 @@ ghost use Rattle.cd_code.specs.Edc.{IsEdc};
 use crate::edc_tables::WORDS;
 use crate::folding::Folded;
 
-/// The EDC word of any list of bytes, 32 bits: the list, and then the word's four bytes with the
-/// least significant first, are divisible by the generator (ECMA-130, 14).
+/// Computes the 32-bit EDC word of a list of bytes of any length. The list, followed by the four
+/// bytes of the word with the least significant first, is divisible by the generator
+/// (ECMA-130, 14).
 ///
 /// # Examples
 ///
@@ -20,9 +21,9 @@ pub fn edc_of(bytes: &[u8]) -> u32
     ensures word { IsEdc bytes.now result }
     ensures unique { (w : ℕ) → IsEdc bytes.now w → w ≡ result }
 {
-    // Inlined, since the number of blocks is a constant if the caller's length is one.
-    // Sixteen bytes at a time are added to those 16, 28 and 31 places after them: a multiple of the
-    // generator has only these four terms. The tables take what is left.
+    // Inlined, since the number of blocks is constant if the caller's length is constant. Sixteen
+    // bytes at a time are added to the bytes 16, 28, and 31 places after them, since a multiple of
+    // the generator has only these four terms. The tables process the remaining bytes.
     let (blocks, rest) = bytes.as_chunks::<64>();
     let mut folded = Folded::zero();
     for block in blocks {
@@ -32,7 +33,8 @@ pub fn edc_of(bytes: &[u8]) -> u32
     with_bytes(with_bytes(with_bytes(0, &older), &newer), rest)
 }
 
-/// The EDC word of any list of bytes, as [`edc_of`], by tables only: for a target without vectors.
+/// Computes the same EDC word as [`edc_of`], but by tables only, for a target without vectors
+/// (ECMA-130, 14).
 ///
 /// # Examples
 ///
@@ -86,8 +88,8 @@ fn with_eight(word: u32, bytes: &[u8; 8]) -> u32
                         ^ (word_of(sixth, 2) ^ (word_of(seventh, 1) ^ word_of(eighth, 0)))))))
 }
 
-/// Proof step: an entry of the table, whose rule is this clause: the EDC word of a byte followed by
-/// `zeros` bytes of 00.
+/// Proof step: an entry of the table: the EDC word of a byte followed by `zeros` bytes of 00. This
+/// clause is the rule of the table.
 fn word_of(byte: u8, zeros: usize) -> u32
     requires { zeros < 8 }
     ensures { IsEdc (byte ∷ replicate zeros 0) result }

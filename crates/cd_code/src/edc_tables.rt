@@ -1,5 +1,5 @@
-//! EDC words of single bytes followed by zeros (ECMA-130, 14). The checker computes the rule of the
-//! tables over all entries, in one test.
+//! EDC words of single bytes followed by zeros (ECMA-130, 14). The checker tests the rule of the
+//! tables at all entries, in one computation.
 
 /// Row k, entry b: the EDC word of the byte b followed by k bytes of 00.
 #[rattlefmt::skip]

@@ -1,4 +1,4 @@
-//! GF(2^8) by x^8 + x^4 + x^3 + x^2 + 1, and alpha = 2 (ECMA-130, Annex A).
+//! Arithmetic in GF(2^8), modulo x^8 + x^4 + x^3 + x^2 + 1, with alpha = 2 (ECMA-130, Annex A).
 
 ghost use Rattle.std.specs.Prelude.{◌≡◌, ◌<◌, ◌≤◌, bit_xor};
 ghost use Rattle.cd_code.specs.Field.{IsExponent, IsLogarithm, double, power, product};
@@ -43,7 +43,7 @@ pub fn alpha_power(n: u32) -> u8
     exponent((n % 255) as usize)
 }
 
-/// Proof step: an entry of the table, whose rule is this clause: alpha to the `n`, or 0.
+/// Proof step: an entry of the table: alpha to the `n`, or 0. This clause is the rule of the table.
 pub(crate) fn exponent(n: usize) -> u8
     requires { n ≤ 1020 }
     ensures { IsExponent n result }
@@ -51,16 +51,16 @@ pub(crate) fn exponent(n: usize) -> u8
     EXPONENTS[n]
 }
 
-/// Proof step: an entry of the table, whose rule is this clause: the power of alpha that an element
-/// is.
+/// Proof step: an entry of the table: the logarithm of an element to the base alpha, or 510 for 0.
+/// This clause is the rule of the table.
 pub(crate) fn logarithm(a: u8) -> usize
     ensures { IsLogarithm a result }
 {
     LOGARITHMS[a as usize] as usize
 }
 
-/// Proof step: an entry of the table, whose rule is this clause: the power of alpha that a byte of a
-/// code word is multiplied by for its parity, if `weight` bytes follow it.
+/// Proof step: an entry of the table: the logarithm of the factor by which a byte of a code word is
+/// multiplied for its parity, if `weight` bytes follow it. The clauses are the rule of the table.
 pub(crate) fn pair_logarithm(weight: usize) -> usize
     requires some { 0 < weight }
     requires below { weight < 255 }

@@ -1,8 +1,8 @@
-//! The powers of alpha = 2 in GF(2^8) by x^8 + x^4 + x^3 + x^2 + 1, their inverse, and what the
-//! parity pair of a changed byte is multiplied by.
+//! Tables for GF(2^8), modulo x^8 + x^4 + x^3 + x^2 + 1: the powers of alpha = 2, their logarithms,
+//! and the factors for the parity pair of a changed byte.
 
-/// Alpha to the n, for the sum n of two logarithms; 0 from 510 on, which is the entry of 0 in the
-/// other table.
+/// Entry n is alpha to the n, where n is the sum of two logarithms. The entries from 510 on are 0,
+/// since 510 is the logarithm of 0 in the table below.
 #[rattlefmt::skip]
 pub(crate) static EXPONENTS: [u8; 1021] = [
     0x01, 0x02, 0x04, 0x08, 0x10, 0x20, 0x40, 0x80, 0x1D, 0x3A, 0x74, 0xE8, 0xCD, 0x87, 0x13, 0x26,
@@ -71,8 +71,8 @@ pub(crate) static EXPONENTS: [u8; 1021] = [
     0x00, 0x00, 0x00, 0x00, 0x00, 0x00, 0x00, 0x00, 0x00, 0x00, 0x00, 0x00, 0x00,
 ];
 
-/// Entry a is the n below 255 with alpha to the n equal to a; 0, which is not a power, has the entry
-/// 510.
+/// Entry a is the n below 255 with alpha to the n equal to a. 0 is not a power of alpha, and has
+/// the entry 510.
 #[rattlefmt::skip]
 pub(crate) static LOGARITHMS: [u16; 256] = [
     0x1FE, 0x000, 0x001, 0x019, 0x002, 0x032, 0x01A, 0x0C6, 0x003, 0x0DF, 0x033, 0x0EE, 0x01B, 0x068, 0x0C7, 0x04B,
@@ -93,8 +93,9 @@ pub(crate) static LOGARITHMS: [u16; 256] = [
     0x04F, 0x0AE, 0x0D5, 0x0E9, 0x0E6, 0x0E7, 0x0AD, 0x0E8, 0x074, 0x0D6, 0x0F4, 0x0EA, 0x0A8, 0x050, 0x058, 0x0AF,
 ];
 
-/// Entry m is the logarithm of what a byte that stands m places before the end of a code word is
-/// multiplied by: of the sum of alpha to the m and 1, divided by 3. For m = 0 there is none.
+/// Entry m is the logarithm of the factor of a byte that m bytes of its code word follow. The
+/// factor is the sum of alpha to the m and 1, divided by 3. For m = 0 it is 0, which has no
+/// logarithm.
 #[rattlefmt::skip]
 pub(crate) static PAIRS: [u8; 255] = [
     0x00, 0x00, 0x19, 0xC6, 0x4B, 0x71, 0xA6, 0x57, 0xAF, 0x5F, 0xFB, 0xDC, 0x66, 0x4A, 0xC7, 0x08,

@@ -1,6 +1,6 @@
-//! The division by the EDC's generator, sixteen bytes at a time (ECMA-130, 14). The generator
-//! divides x^248 + x^120 + x^24 + 1. So the remainder stays the same if a byte is left out and
-//! added to the bytes 16, 28 and 31 places after it.
+//! Division by the generator of the EDC, sixteen bytes at a time (ECMA-130, 14). The generator
+//! divides x^248 + x^120 + x^24 + 1. So the remainder does not change if a byte is set to 00 and
+//! added to the bytes 16, 28, and 31 places after it.
 
 ghost use Rattle.std.specs.Prelude.{◌≡◌, ℕ, ◌+◌, ◌≤◌, List, [], ◌++◌, drop, take};
 ghost use Rattle.cd_code.specs.Edc.{bits, remainder};
@@ -8,14 +8,15 @@ ghost use Rattle.cd_code.specs.Folding.{IsFolded, with_folded};
 
 use std::simd::prelude::*;
 
-/// Of two registers of sixteen bytes: the sixteen places from the fifth on.
+/// The places of the sixteen bytes from the fifth on, in two registers of sixteen bytes.
 const FROM_FIFTH: [usize; 16] = [4, 5, 6, 7, 8, 9, 10, 11, 12, 13, 14, 15, 16, 17, 18, 19];
 
-/// Of two registers of sixteen bytes: the sixteen places from the second on.
+/// The places of the sixteen bytes from the second on, in two registers of sixteen bytes.
 const FROM_SECOND: [usize; 16] = [1, 2, 3, 4, 5, 6, 7, 8, 9, 10, 11, 12, 13, 14, 15, 16];
 
 /// The last 32 bytes of a list, to which all bytes before them have been added. A byte is added to
-/// those after it when they come, so the newer sixteen still lack what the older sixteen give them.
+/// later bytes only when these are read, so the older sixteen are not yet added to the newer
+/// sixteen.
 #[derive(Clone, Copy)]
 pub(crate) struct Folded {
     older: u8x16,
@@ -50,7 +51,7 @@ impl Folded {
         }
     }
 
-    /// The 32 bytes, with nothing left to add: they have the remainder of the whole list.
+    /// The 32 bytes after all additions: they have the same remainder as the list.
     pub(crate) fn halves(self) -> ([u8; 16], [u8; 16])
         ensures { (v : List ℕ) → IsFolded v self.older self.newer
             → remainder (bits v) ≡ remainder (bits (result.0 ++ result.1)) }
@@ -69,7 +70,7 @@ fn load16(block: &[u8; 64], at: usize) -> u8x16
     u8x16::from_slice(&block[at..])
 }
 
-/// Sixteen bytes of a list, with what the 32 bytes before them add to them.
+/// Sixteen bytes of a list, to which the 32 bytes before them are added.
 #[inline(always)]
 fn fold_step(older: u8x16, newer: u8x16, bytes: u8x16) -> u8x16
     ensures { result ≡ with_folded older newer bytes }

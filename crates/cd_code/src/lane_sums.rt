@@ -7,8 +7,8 @@ ghost use Rattle.cd_code.specs.Syndrome.{IsPair};
 use crate::lanes::doubled_lanes;
 use std::simd::prelude::*;
 
-/// Both syndromes of 32 words, by lane (ECMA-130, Annex A). Public for cd_lanes, whose diagonals
-/// are computed in the same registers.
+/// Both syndromes of 32 words, one word in each lane (ECMA-130, Annex A). Public for cd_lanes,
+/// which computes the diagonals in the same registers.
 #[derive(Clone, Copy, Debug)]
 pub struct LaneSums {
     /// The sum of each word's bytes.
@@ -18,7 +18,7 @@ pub struct LaneSums {
 }
 
 impl LaneSums {
-    /// The sums of words that have no byte yet, all `00`.
+    /// The sums of 32 empty words: all `00`.
     ///
     /// See the example of [`LaneSums::pairs`].
     #[inline(always)]
@@ -32,7 +32,7 @@ impl LaneSums {
         }
     }
 
-    /// Appends one byte to each word: adds it to the plain sum, and to the doubled weighted one
+    /// Appends one byte to each word: adds it to the plain sum, and to the doubled weighted sum
     /// (ECMA-130, Annex A).
     ///
     /// See the example of [`LaneSums::pairs`].
@@ -51,8 +51,8 @@ impl LaneSums {
         }
     }
 
-    /// Appends one byte to each word whose `mask` is `FF`; a word whose `mask` is `00` stays as it
-    /// is (ECMA-130, Annex A).
+    /// Appends one byte to each word whose `mask` is `FF`. A word whose `mask` is `00` does not
+    /// change (ECMA-130, Annex A).
     ///
     /// # Examples
     ///
@@ -83,7 +83,8 @@ impl LaneSums {
         }
     }
 
-    /// The two parity bytes that make a code word of each word followed by them (ECMA-130, Annex A).
+    /// The two parity bytes of each word: the word followed by them is a code word
+    /// (ECMA-130, Annex A).
     ///
     /// # Examples
     ///
@@ -103,7 +104,7 @@ impl LaneSums {
     }
 }
 
-/// 32 field elements times alpha, with others added.
+/// Multiplies 32 field elements by alpha, and adds 32 other elements.
 #[inline(always)]
 fn doubled_and_added(v: u8x32, added: u8x32) -> u8x32
     ensures { (i : ℕ) → i < 32
@@ -112,7 +113,7 @@ fn doubled_and_added(v: u8x32, added: u8x32) -> u8x32
     doubled_lanes(v) ^ added
 }
 
-/// 32 field elements times F4, which is alpha to the 7, 6, 5, 4 and 2.
+/// Multiplies 32 field elements by F4, which is the sum of alpha to the 7, 6, 5, 4, and 2.
 fn times_inverse_of_three(v: u8x32) -> u8x32
     ensures { (i : ℕ) → i < 32 → slice_index result i ≡ product 244 (slice_index v i) }
 {
@@ -123,7 +124,7 @@ fn times_inverse_of_three(v: u8x32) -> u8x32
     doubled_lanes(doubled_lanes(five))
 }
 
-/// For each lane that of `new` if `mask` is `FF`, and that of `old` if it is `00`.
+/// Selects lane by lane: `new` where `mask` is `FF`, and `old` where it is `00`.
 #[inline(always)]
 fn select_lanes(old: u8x32, new: u8x32, mask: u8x32) -> u8x32
     ensures new { (i : ℕ) → i < 32 → slice_index mask i ≡ 255

@@ -1,4 +1,4 @@
-//! Sums of many field elements side by side, 32 lanes at a time.
+//! Arithmetic with 32 field elements at a time, one in each lane of a vector.
 
 ghost use Rattle.std.specs.Prelude.{◌≡◌, ℕ, ◌+◌, ◌<◌, ◌≤◌, ◌⊎◌, bit_xor, length, map, slice_index};
 ghost use Rattle.cd_code.specs.Field.{double};
@@ -6,7 +6,7 @@ ghost use Rattle.cd_code.specs.Field.{double};
 use crate::field::doubled;
 use std::simd::prelude::*;
 
-/// 32 bytes from place `at` on.
+/// Reads 32 bytes from place `at` on.
 ///
 /// See the example of [`put_lanes`].
 #[inline(always)]
@@ -64,7 +64,7 @@ pub(crate) fn double_and_add_lanes(sums: &mut [u8], row: &[u8], at: usize)
     added.copy_to_slice(&mut sums[at..]);
 }
 
-/// 32 field elements times alpha.
+/// Multiplies 32 field elements by alpha.
 #[inline(always)]
 pub(crate) fn doubled_lanes(v: u8x32) -> u8x32
     ensures { result ≡ map double v }

@@ -1,4 +1,5 @@
-//! Laws of the EDC, products and parity pairs, each the contract of a function that does nothing.
+//! Laws of the EDC, of products, and of parity pairs. Each law is the contract of a function that
+//! does nothing.
 
 ghost use Rattle.cd_code.specs.Laws.{EdcIsUnique, EdcOfSum, PairIsUnique, ProductByBits, ProductOfNone, RemainderOfSum, SumByBits};
 
@@ -7,7 +8,7 @@ pub fn sum_goes_by_bits()
     ensures { SumByBits }
 {}
 
-/// A product is the sum of as many doublings of one factor as the other has set bits.
+/// A product is the sum of repeated doublings of one factor, one for each set bit of the other.
 pub fn product_goes_by_bits()
     ensures by_bits { ProductByBits }
     ensures none { ProductOfNone }
@@ -23,7 +24,8 @@ pub fn edc_is_unique()
     ensures { EdcIsUnique }
 {}
 
-/// The EDC word of the sum of two lists of one length is the sum of their words, and so is the remainder.
+/// The EDC word of the sum of two lists of equal length is the sum of their EDC words. The same
+/// holds for the remainders.
 pub fn edc_of_sum()
     ensures words { EdcOfSum }
     ensures remainders { RemainderOfSum }

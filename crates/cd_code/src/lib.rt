@@ -1,26 +1,26 @@
 //! The codes of a CD-ROM sector (ECMA-130): the field GF(2^8) and the code words of Annex A, and
 //! the error detection code of clause 14.
 //!
-//! A code word is a list of bytes whose two syndromes are `00`: the sum of its bytes, and the sum
-//! of each byte times a power of alpha, which falls to 1 at the last byte. Its last two bytes are
-//! its parity:
+//! A code word is a list of bytes whose two syndromes are `00`. The first syndrome is the sum of
+//! its bytes. The second is the sum of its bytes times falling powers of alpha, down to 1 at the
+//! last byte. The last two bytes of a code word are its parity:
 //!
 //! ```
 //! assert_eq!(rt; parity_pair(&[0x01]), (0x03, 0x02));
 //! assert_eq!(rt; syndromes(&[0x01, 0x03, 0x02]), (0x00, 0x00)); // a code word
 //! ```
 //!
-//! The EDC of a list of bytes is what they leave when they are divided by the generator of clause
-//! 14, as 32 bits:
+//! The EDC of a list of bytes is a word of 32 bits: the list followed by it is divisible by the
+//! generator of clause 14:
 //!
 //! ```
 //! assert_eq!(rt; edc_of(&[0x00; 2064]), 0);
 //! assert_eq!(rt; edc_of(&[0x01]), 0x9091_0101);
 //! ```
 //!
-//! [`column_sums`], [`column_lanes`] and [`LaneSums`] compute many syndromes side by side, for a
-//! sector's 86 columns and 52 diagonals; where these stand in a sector is here too. A list may have any
-//! length. No call takes memory.
+//! [`column_sums`], [`column_lanes`], and [`LaneSums`] compute many syndromes at once, for the 86
+//! columns and 52 diagonals of a sector. Constants give the places of these code words in a sector.
+//! A list may have any length. No call allocates memory.
 //!
 //! [`times`], [`alpha_power`], [`syndromes`], [`pair_from`], [`parity_pair`] and [`row_sums`] are
 //! for other users of the codes: cdpatch calls them only in tests and benchmarks.

@@ -1,4 +1,5 @@
-//! EDC words of lists followed by bytes of 00 (ECMA-130, 14).
+//! Computes the EDC word of a list followed by bytes of 00, from the EDC word of the list
+//! (ECMA-130, 14).
 
 ghost use Rattle.std.specs.Prelude.{ℕ, ◌*◌, ◌^◌, ◌<◌, ◌≤◌, List, ◌++◌, replicate};
 ghost use Rattle.cd_code.specs.Edc.{IsEdc};
@@ -6,8 +7,8 @@ ghost use Rattle.cd_code.specs.Moving.{IsMoved, eights_of};
 
 use crate::moving_tables::MOVED;
 
-/// The EDC word of a list followed by eight times `eights` bytes of 00, from the EDC word of the
-/// list: in the time of two rows of a table, however many these are (ECMA-130, 14).
+/// Computes the EDC word of a list followed by `8 * eights` bytes of 00, from the EDC word of the
+/// list. It reads at most two rows of a table, however many bytes follow (ECMA-130, 14).
 ///
 /// # Examples
 ///
@@ -25,7 +26,7 @@ pub fn edc_moved(word: u32, eights: usize) -> u32
     moved_far(near, eights / 16)
 }
 
-/// The word moved on by less than sixteen times eight bytes.
+/// The EDC word after `8 * eights` bytes of 00, fewer than 128.
 fn moved_near(word: u32, eights: usize) -> u32
     requires { eights < 16 }
     ensures { (v : List ℕ) → IsEdc v word → IsEdc (v ++ replicate (8 * eights) 0) result }
@@ -36,7 +37,7 @@ fn moved_near(word: u32, eights: usize) -> u32
     }
 }
 
-/// The word moved on by as many times 128 bytes.
+/// The EDC word after `128 * sixteens` bytes of 00.
 fn moved_far(word: u32, sixteens: usize) -> u32
     requires { sixteens ≤ 16 }
     ensures { (v : List ℕ) → IsEdc v word → IsEdc (v ++ replicate (128 * sixteens) 0) result }
@@ -47,7 +48,8 @@ fn moved_far(word: u32, sixteens: usize) -> u32
     }
 }
 
-/// The word moved on by the bytes of a row: the sum of what its eight digits give.
+/// The EDC word after the bytes of 00 of one row of the table: the sum of the entries of its eight
+/// hexadecimal digits.
 fn moved_by_row(word: u32, row: usize) -> u32
     requires { row < 31 }
     ensures { IsMoved (eights_of row) word result }
@@ -61,7 +63,8 @@ fn moved_by_row(word: u32, row: usize) -> u32
     sum
 }
 
-/// Proof step: an entry of the table, whose rule is this clause: what a digit gives.
+/// Proof step: an entry of the table, for one digit of an EDC word. The clause is the rule of the
+/// table.
 fn moved_digit(row: usize, place: usize, digit: u32) -> u32
     requires row { row < 31 }
     requires place { place < 8 }

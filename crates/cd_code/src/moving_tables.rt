@@ -1,5 +1,5 @@
-//! EDC words, moved on over bytes of 00 (ECMA-130, 14). The checker computes the rule of the table
-//! over all entries, in one test.
+//! A table of EDC words after bytes of 00 (ECMA-130, 14). The checker tests the rule of the table
+//! at all entries, by computation.
 
 /// Row k, digit i, entry x: the EDC word of a list whose EDC word is x * 16^i, followed by 8 * (k + 1)
 /// bytes of 00 in the first 15 rows, and by 128 * (k - 14) in the others.

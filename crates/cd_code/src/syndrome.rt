@@ -5,8 +5,8 @@ ghost use Rattle.cd_code.specs.Syndrome.{Balances, IsCodeWord, IsPair, first_syn
 
 use crate::field::{INVERSE_OF_THREE, doubled, exponent, logarithm, pair_logarithm, times};
 
-/// The two syndromes of a list of bytes: the sum of all, and the sum of each times a power of alpha,
-/// which falls to 1 at the last byte (ECMA-130, Annex A).
+/// Computes the two syndromes of a list: the sum of its bytes, and the sum of its bytes times
+/// falling powers of alpha, down to 1 at the last byte (ECMA-130, Annex A).
 ///
 /// # Examples
 ///
@@ -26,8 +26,8 @@ pub fn syndromes(v: &[u8]) -> (u8, u8)
     (plain, weighted)
 }
 
-/// The two parity bytes that make a code word of any list followed by them, from the list's own two
-/// syndromes, as [`syndromes`] gives them (ECMA-130, Annex A).
+/// Computes the two parity bytes of a list from its two syndromes, as [`syndromes`] returns them.
+/// The list followed by its parity bytes is a code word (ECMA-130, Annex A).
 ///
 /// # Examples
 ///
@@ -42,7 +42,7 @@ pub fn pair_from(plain: u8, weighted: u8) -> (u8, u8)
     (first, plain ^ first)
 }
 
-/// The two parity bytes that make a code word of `v` followed by them (ECMA-130, Annex A).
+/// Computes the two parity bytes of `v`: `v` followed by them is a code word (ECMA-130, Annex A).
 ///
 /// # Examples
 ///
@@ -57,9 +57,10 @@ pub fn parity_pair(v: &[u8]) -> (u8, u8)
     pair_from(plain, weighted)
 }
 
-/// What has to be added to the last two bytes of a list of `len` bytes, its parity, so that both
-/// its syndromes stay when `d` is added to the byte at `place` before them; neither is `00` unless
-/// `d` is (ECMA-130, Annex A).
+/// Computes the change of the two parity bytes for a change of one byte before them. Both syndromes
+/// of a list of `len` bytes, the last two of them parity, stay the same if `d` is added to the byte
+/// at `place` and the result to the parity. Neither byte of the result is `00` unless `d` is
+/// (ECMA-130, Annex A).
 ///
 /// # Examples
 ///

@@ -15,7 +15,7 @@ use Rattle.cd_delta.specs.ParityChanges.{with_changes}
 abbrev pub places_of : List Change → List ℕ
 places_of changes = map (λ c. c.place) changes
 
--- a byte that no change is of
+-- a byte that is not changed
 pub changed-other : (changes : List Change) (s : List ℕ) (i : ℕ)
     → (Contains (places_of changes) i → ⊥)
     → get_or (with_changes s changes) i 0 ≡ get_or s i 0
@@ -25,7 +25,7 @@ changed-other (c ∷ cs) s i none =
     ∙ get_or-set_other s c.place i (bit_xor (get_or s c.place 0) c.d) 0
     (λ e. none (zero, omega arith, sym e))
 
--- the places of changes of the parity come after all others
+-- the places of parity changes are after all others
 pub places_of-after : (changes : List Change) (i : ℕ)
     → All (λ c. (2076 ≤ c.place) × (c.place < 2352)) changes → i < 2076
     → Contains (places_of changes) i → ⊥
@@ -39,25 +39,25 @@ places_of-after changes i inside below found =
     let same = found.2 in
     omega arith
 
--- the byte that a change is of gets the value that it is to have
+-- the changed byte gets its intended value
 pub added-value : (s : List ℕ) (place value : ℕ) → place < length s
     → get_or (with_added s place (bit_xor (get_or s place 0) value)) place 0 ≡ value
 added-value s place value inside =
     get_or-set_same s place (bit_xor (get_or s place 0) (bit_xor (get_or s place 0) value)) 0 inside
     ∙ xor_twice_left (get_or s place 0) value
 
--- a sector with a change is as long
+-- a change does not affect the length of a sector
 pub length-added : (s : List ℕ) (place d : ℕ) → length (with_added s place d) ≡ length s
 length-added s place d = length-set s place (bit_xor (get_or s place 0) d)
 
--- and still of bytes
+-- a sector with a change still consists of bytes
 pub AreBytes-added : (s : List ℕ) (place d : ℕ) → AreBytes s → d < 256
     → AreBytes (with_added s place d)
 AreBytes-added s place d bytes low =
     let x = get_or s place 0 in
     AreBytes-set s place (bit_xor x d) bytes (xor_lt 8 x d (bytes place) low)
 
--- changes of two bytes can change places
+-- changes of two different bytes commute
 added-comm : (s : List ℕ) (p q d e : ℕ) → q ≢ p → with_added (with_added s p d) q e ≡ with_added (with_added s q e) p d
 added-comm s p q d e apart =
     let x = bit_xor (get_or s p 0) d in
@@ -67,7 +67,7 @@ added-comm s p q d e apart =
     ∙ set_comm s p q x y other
     ∙ ap (λ n. set (set s q y) p (bit_xor n d)) (sym (get_or-set_other s q p y 0 other))
 
--- a change can come after others that are of other bytes
+-- a change commutes with changes of other bytes
 pub changed-past : (c : Change) (others cs : List Change) (s : List ℕ)
     → AllByRecursion (λ e. e.place ≢ c.place) others
     → with_changes s (c ∷ (others ++ cs)) ≡ with_changes s (others ++ (c ∷ cs))

@@ -1,5 +1,5 @@
--- The amounts of the eight changes: none is 0 unless the change is, and no others keep the
--- syndromes (ECMA-130, Annex A).
+-- The amounts of the eight changes: none is 0 unless the change of the byte is, and no other
+-- amounts keep the syndromes (ECMA-130, Annex A).
 use Rattle.std.proofs.Common.{◌≡◌, ◌≢◌, ℕ, zero, suc, ◌<◌, ◌≤◌, All, Contains, false, List, [], ◌∷◌, length, get_or, nat_eq, bit_xor, refl, sym, ap, ◌∙◌, arith}
 use Rattle.std.specs.Prelude.{take}
 use Rattle.std.specs.List.{AllByRecursion, IsDistinct}
@@ -34,7 +34,7 @@ All-eight : (P : Change → Type 0) (t : Eight) → (P t.column.0 × P t.column.
 All-eight P t p q r s =
     All-each P (listed t) (p.0, (p.1, (q.0, (q.1, (r.0, (r.1, (s.0, (s.1, tt))))))))
 
--- if the byte changes, each of the eight does
+-- if the byte changes, each of the eight parity bytes does
 pub nonzero-carried : {byte : Change} {t : Eight} → AreCarried byte t → byte.d ≢ 0
     → All (λ c. c.d ≢ 0) (listed t)
 nonzero-carried {byte} {t} c some =
@@ -42,7 +42,7 @@ nonzero-carried {byte} {t} c some =
     All-eight (λ e. e.d ≢ 0) t pair (c.of_own.nonzero some) (c.of_first.nonzero pair.0)
     (c.of_second.nonzero pair.1)
 
--- the eight places are those of parity bytes
+-- the eight places are in the parity
 inside-carried : {byte : Change} {t : Eight} → AreCarried byte t
     → All (λ c. (2076 ≤ c.place) × (c.place < 2352)) (listed t)
 inside-carried {byte} {t} c =
@@ -59,12 +59,12 @@ bytes-carried {byte} {t} c =
 
 -- ---- no others
 
--- a sector stays as long under any changes
+-- changes do not affect the length of a sector
 length-changed : (cs : List Change) (s : List ℕ) → length (with_changes s cs) ≡ length s
 length-changed [] s = refl
 length-changed (c ∷ cs) s = length-changed cs (with_added s c.place c.d) ∙ length-added s c.place c.d
 
--- and stays one of bytes
+-- a sector with changes still consists of bytes
 AreBytes-changed : (cs : List Change) (s : List ℕ) → AreBytes s → All (λ c. c.d < 256) cs
     → AreBytes (with_changes s cs)
 AreBytes-changed [] s h low = h
@@ -73,7 +73,7 @@ AreBytes-changed (c ∷ cs) s h low =
     AreBytes-changed cs (with_added s c.place c.d) bytes
     (λ i e below. low (suc i) e (omega arith))
 
--- a number that differs from all of a list is none of them
+-- a number that differs from all elements of a list is not one of them
 none_of : (p : ℕ) (ps : List ℕ) → AllByRecursion (λ q. nat_eq p q ≡ false) ps → (i : ℕ)
     → i < length ps → get_or ps i p ≡ p → ⊥
 none_of p [] all i h e = absurd (omega arith)
@@ -92,7 +92,7 @@ same_change : (c e : Change) → c.place ≡ e.place → c.d ≡ e.d → c ≡ e
 same_change c e p q =
     ap (λ n. record { place = n; d = c.d }) p ∙ ap (λ n. record { place = e.place; d = n }) q
 
--- changes of the same places, each of another, that make the same sector have the same amounts
+-- changes at the same places, all different, that give the same sector have the same amounts
 same_changes : (cs es : List Change) (s : List ℕ) → places_of cs ≡ places_of es
     → IsDistinct nat_eq (places_of cs)
     → All (λ c. c.place < length s) cs → with_changes s cs ≡ with_changes s es → cs ≡ es
@@ -133,7 +133,7 @@ SameSyndromes-sym h = record {
   diagonals = λ plane n hp hn. SameSums-sym (h.diagonals plane n hp hn);
 }
 
--- changes of the parity at the same places that keep the same syndromes are the same ones
+-- changes of the parity at the same places that keep the same syndromes are equal
 amounts_unique : (cs es : List Change) (s t : List ℕ) → places_of es ≡ places_of cs
     → IsDistinct nat_eq (places_of cs)
     → All (λ c. (2076 ≤ c.place) × (c.place < 2352)) cs → All (λ c. c.d < 256) cs

@@ -1,4 +1,4 @@
--- A sector whose bytes were changed with the error that its EDC had: its damage is carried.
+-- A change of a sector that keeps the error of its EDC carries its damage.
 use Rattle.std.proofs.Common.{◌≡◌, ℕ, zero, suc, ◌+◌, ◌-◌, ◌*◌, ◌/◌, ◌%◌, ◌^◌, ◌<◌, ◌≤◌, ◌⊎◌, inl, inr, List, ◌++◌, length, get_or, take, replicate, bit_xor, refl, sym, ap, ap₂, ◌∙◌, arith}
 use Rattle.std.specs.Prelude.{slice_range}
 use Rattle.std.specs.Int.{from_le_bytes, to_le_bytes, w32}
@@ -22,9 +22,9 @@ use Rattle.cd_sector.proofs.ExistenceLemmas.{edc_of_front}
 use Rattle.cd_delta.specs.Writing.{AddsEdc, AreDifferences, IsChanged, IsWritten, KeepsError}
 use Rattle.cd_delta.proofs.UserLemmas.{IsChanged-carried, IsConsistent-of, WithEdc-written}
 
--- ---- the word that is stored
+-- ---- the stored word
 
--- the sum of the right word and the stored one is the error
+-- the xor of the correct word and the stored one is the error
 pub StoresEdc-read : (s : List ℕ) (w stored : ℕ) → length s ≡ 2352 → AreBytes s
     → IsEdc (take 2064 s) w → stored < 2 ^ 32
     → stored ≡ from_le_bytes w32 (slice_range s 2064 2068) → StoresEdc s (bit_xor w stored)
@@ -48,7 +48,7 @@ StoresEdc-word {s} {error} h =
     ∙ from_le_bytes-to_le_bytes_4 (bit_xor h.word error)
     (xor_lt 32 h.word error h.is_word.fits h.fits)
 
--- with the same error the stored words differ by what the right ones do
+-- with the same error, the stored words have the same xor as the correct ones
 pub stored-sum : {old new : List ℕ} {error : ℕ} → StoresEdc old error → StoresEdc new error
     → (before after : ℕ)
     → IsEdc (take 2064 old) before → IsEdc (take 2064 new) after
@@ -104,7 +104,7 @@ AreDifferences-none s offset at n bytes = record {
   outside = λ k _. replicate-byte n k;
 }
 
--- the differences in the eights that are met, with zeros before and after them
+-- the differences in the groups of eight bytes that are touched, with zeros before and after them
 AreDifferences-whole : (s : List ℕ) (offset count before met left : ℕ) (bytes sums : List ℕ)
     → before ≡ offset / 8 → offset % 8 + count ≤ 8 * met → 8 * met ≤ length sums
     → AreDifferences s offset (offset % 8) count bytes sums
@@ -159,7 +159,7 @@ IsEdc-after_zeros k v w h =
     IsEdc-same v (replicate k 0 ++ v) w
     (sym (after-append 0 (replicate k 0) v ∙ ap (λ r. after r v) (after-none k))) h
 
--- the word of the eights that are met, moved on over what is left
+-- the word of the groups of eight bytes that are touched, moved on over the rest
 pub AddsEdc-of : (s : List ℕ) (offset : ℕ) (bytes sums : List ℕ) (before met left word moved : ℕ)
     → length sums ≡ 48 → before ≡ offset / 8 → met ≡ (offset % 8 + length bytes + 7) / 8
     → before + (met + left) ≡ 256 → length bytes < 40 → offset + length bytes ≤ 2048
@@ -185,7 +185,7 @@ AddsEdc-of s offset bytes sums before met left word moved room first here all fe
       edc = IsEdc-after_zeros (8 * before) (middle ++ back) moved (moves middle edc);
     }
 
--- the front is the sum of the old one and the differences
+-- the front is the xor of the old one and the differences
 front-byte : (old new sums : List ℕ) (offset : ℕ) (bytes : List ℕ) → offset + length bytes ≤ 2048
     → AreDifferences old offset offset (length bytes) bytes sums
     → IsWritten old new (16 + offset) (length bytes) bytes
@@ -249,7 +249,7 @@ front-edc old new offset bytes w change size fits adds written one =
     ∙ ap (λ n. bit_xor n (get_or added i 0)) (sym (get_or-take 2064 old i 0 low))))
     w change one (IsEdc-after_zeros 16 sums change adds.edc)
 
--- with the word of the differences added to the stored one
+-- the same, if the word of the differences is added to the stored one
 pub few-carried : (old t new four : List ℕ) (offset : ℕ) (bytes : List ℕ) (stored change : ℕ)
     → length old ≡ 2352 → AreBytes old
     → offset + length bytes ≤ 2048 → AddsEdc old offset bytes change

@@ -18,7 +18,7 @@ use Rattle.cd_delta.proofs.WordLemmas.{misses_all, trio_keeps, trio_sector}
 use Rattle.cd_delta.proofs.WritingLemmas.{SameSums-trans}
 
 -- the eight changes, two by two: of the byte's column, and of the diagonals through the byte and
--- through the column's two
+-- through the two of the column
 pub record Eight : Type 0 where
   pub column : Change × Change
   pub own : Change × Change
@@ -30,7 +30,7 @@ listed t =
     t.column.0 ∷ t.column.1 ∷ t.own.0 ∷ t.own.1
     ∷ t.first.0 ∷ t.first.1 ∷ t.second.0 ∷ t.second.1 ∷ []
 
--- d is added to byte `index` of a word, and bytes p and q of the plane, the word's parity, follow
+-- d is added to byte `index` of a word, and its parity, bytes p and q of the plane, is updated
 pub record IsPair (plane p q len index d : ℕ) (t : Change × Change) : Type 0 where
   pub first_at : t.0.place ≡ place_of plane p
   pub second_at : t.1.place ≡ place_of plane q
@@ -59,7 +59,7 @@ pub record AreCarried (byte : Change) (t : Eight) : Type 0 where
   pub of_first : IsDiagonalPair plane 24 column t.column.0.d t.first
   pub of_second : IsDiagonalPair plane 25 column t.column.1.d t.second
 
--- changes of places after the rows are in no column
+-- changes at places after the rows are in no column
 past_columns : (l n : ℕ) → l < 2 → n < 43 → (cs : List Change)
     → AllByRecursion (λ c. 2248 ≤ c.place) cs
     → AllByRecursion (λ c. Misses (column_places l n) c.place) cs
@@ -107,7 +107,7 @@ diagonal_trio {plane} {row} {column} {x} {t} hp hr hc at low pair =
       low = (low, pair.bytes.0, pair.bytes.1);
     }
 
--- in another order the nine changes are three times a byte and the pair of its diagonal
+-- in a different order, the nine changes are three times a byte and the pair of its diagonal
 diagonals_keep : {byte : Change} {t : Eight} → AreCarried byte t → (s : List ℕ) → IsSector s
     → KeepsSums diagonals (with_changes s (byte ∷ listed t)) s
 diagonals_keep {byte} {t} c s sector l n hl hn =
@@ -140,7 +140,7 @@ SameSyndromes-carried c s bytes size =
     let sector : IsSector s = record { bytes = bytes; size = size } in
     record { columns = columns_keep c s sector; diagonals = diagonals_keep c s sector }
 
--- the eight changes are of the parity places of the byte
+-- the eight changes are at the parity places of the byte
 pub parity_places-carried : {byte : Change} {t : Eight} → AreCarried byte t
     → places_of (listed t) ≡ parity_places byte.place
 unfolding parity_places

@@ -1,4 +1,4 @@
--- Which places the columns and the diagonals of a plane have (ECMA-130, Annex A).
+-- The places of the columns and the diagonals of a plane (ECMA-130, Annex A).
 use Rattle.std.proofs.Common.{◌≡◌, ◌↔◌, ℕ, ◌+◌, ◌*◌, ◌%◌, ◌<◌, ◌≤◌, get_or}
 use Rattle.std.proofs.Common.{refl, sym, ap, ◌∙◌, arith}
 use Rattle.cd_code.specs.CodeWords.{place_of, column_places, diagonal_places}
@@ -17,7 +17,7 @@ columns = record { places = column_places; count = 43; len = 26 }
 column_row : (l n k q : ℕ) → IsIn columns l n k q → q ≡ place_of l (43 * k + n)
 column_row l n k q is = sym is.at ∙ column_place l n k is.index
 
--- a place is in one column only
+-- a place is in only one column
 pub columns_apart : AreApart columns
 columns_apart = record {
   size = length-column_places;
@@ -28,7 +28,7 @@ columns_apart = record {
       (omega arith, omega arith, omega arith);
 }
 
--- the byte in a row is at the row's number in its column
+-- the byte in a row is at the index of the row in its column
 pub in_column : (plane row column q : ℕ) → plane < 2 → row < 26 → column < 43
     → q ≡ place_of plane (43 * row + column) → IsIn columns plane column row q
 in_column plane row column q hp hr hc e =
@@ -51,13 +51,13 @@ diagonals = record { places = diagonal_places; count = 26; len = 45 }
 diagonal_number : (m n : ℕ) → m < 43 → n < 26 → (44 * m + 43 * n) % 1118 ≡ 43 * ((m + n) % 26) + m
 diagonal_number m n hm hn = omega arith
 
--- index k of a diagonal is column k; the two parity bytes stand at 43 and 44
+-- index k of a diagonal is column k; the two parity bytes are at 43 and 44
 record IsDiagonalPlace (l n k q : ℕ) : Type 0 where
   pub front : k < 43 → q ≡ place_of l (43 * ((k + n) % 26) + k)
   pub first : k ≡ 43 → q ≡ place_of l (1118 + n)
   pub second : k ≡ 44 → q ≡ place_of l (1144 + n)
 
--- each place of a diagonal is one of these
+-- each place of a diagonal has one of these forms
 diagonal_index : (l n k q : ℕ) → IsIn diagonals l n k q → IsDiagonalPlace l n k q
 diagonal_index l n k q is =
     let at : (j : ℕ) → k ≡ j → q ≡ get_or (diagonal_places l n) j 0 =
@@ -69,7 +69,7 @@ diagonal_index l n k q is =
       second = λ e. at 44 e ∙ diagonal_place-second l n;
     }
 
--- a place is in one diagonal only
+-- a place is in only one diagonal
 pub diagonals_apart : AreApart diagonals
 diagonals_apart = record {
   size = length-diagonal_places;
@@ -80,7 +80,7 @@ diagonals_apart = record {
       (grind arith, grind arith, grind arith);
 }
 
--- the byte in a row and a column is at the column's number in their diagonal
+-- the byte in a row and a column is at the index of the column in their diagonal
 pub in_diagonal : (plane row column q : ℕ) → plane < 2 → row < 26 → column < 43
     → q ≡ place_of plane (43 * row + column)
     → IsIn diagonals plane (diagonal_at row column) column q

@@ -1,4 +1,4 @@
--- A sector into whose user data bytes were written, and then the EDC.
+-- A sector after bytes were written into its user data, and then the EDC.
 use Rattle.std.proofs.Common.{◌≡◌, ◌⊎◌, ℕ, ◌+◌, ◌-◌, ◌^◌, ◌<◌, ◌≤◌, inl, inr, List, ◌++◌, length, get_or, take, drop, bit_xor, refl, sym, ap, ap₂, ◌∙◌, arith}
 use Rattle.std.specs.Prelude.{slice_range}
 use Rattle.std.specs.Int.{from_le_bytes, to_le_bytes, w32}
@@ -64,7 +64,7 @@ written-other user offset bytes k h out =
           ∙ ap (λ n. get_or user n 0) index
     ]
 
--- m bytes from a on, in which bytes stand from an offset on, and nothing else has changed
+-- the m bytes from a on contain `bytes` at an offset, and nothing else in them has changed
 range-written : (old new : List ℕ) (a m offset : ℕ) (bytes : List ℕ) → offset + length bytes ≤ m
     → a + m ≤ length old → length new ≡ length old
     → ((i : ℕ) → i < length bytes → get_or new (a + offset + i) 0 ≡ get_or bytes i 0)
@@ -96,7 +96,7 @@ range-written old new a m offset bytes fits inside same_size range others =
 
 -- ---- the EDC
 
--- the word of the first bytes, written after them
+-- the word of the first bytes is written after them
 pub WithEdc-written : (old new four : List ℕ) (w error : ℕ) → length old ≡ 2352 → AreBytes old
     → error < 2 ^ 32
     → IsEdc (take 2064 old) w → four ≡ to_le_bytes w32 (bit_xor w error)
@@ -146,7 +146,7 @@ IsChanged-carried old t new place bytes error fits user edc = record {
   syndromes = SameSyndromes-trans edc.syndromes user.syndromes;
 }
 
--- the front of another sector, with its EDC
+-- the front of a different sector, with its EDC
 pub IsChanged-front : (old front new : List ℕ) (place : ℕ) (bytes : List ℕ) (error : ℕ)
     → place + length bytes ≤ 2064
     → length old ≡ 2352 → length front ≡ 2352 → length new ≡ length old → AreBytes new
@@ -185,7 +185,7 @@ long-of : {old new : List ℕ} {place : ℕ} {bytes : List ℕ} {error : ℕ}
     → IsChanged old new place bytes error → length old ≡ 2352
 long-of h = sym h.same_size ∙ h.size
 
--- with the bytes and the error in other words
+-- the same, for equal bytes and an equal error
 pub IsChanged-same : {old new : List ℕ} {place : ℕ} {bytes others : List ℕ} {error other : ℕ}
     → IsChanged old new place bytes error
     → bytes ≡ others → error ≡ other → IsChanged old new place others other

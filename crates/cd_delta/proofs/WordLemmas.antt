@@ -26,14 +26,14 @@ pub record IsIn (w : Words) (l n k q : ℕ) : Type 0 where
   pub index : k < w.len
   pub at : get_or (w.places l n) k 0 ≡ q
 
--- a place is in one word of a direction only, and there at one index
+-- a place is in only one word of a direction, at only one index
 pub record AreApart (w : Words) : Type 0 where
   pub size : (l n : ℕ) → length (w.places l n) ≡ w.len
   pub below : (l n k q : ℕ) → IsIn w l n k q → q < 2352
   pub apart : (l n k p m i q : ℕ) → IsIn w l n k q → IsIn w p m i q
       → (l ≡ p) × (n ≡ m) × (k ≡ i)
 
--- a place is none of a word's
+-- a place is not in a word
 abbrev pub Misses : List ℕ → ℕ → Type 0
 Misses ps q = (k : ℕ) → k < length ps → get_or ps k 0 ≢ q
 
@@ -79,7 +79,7 @@ hit {w} {l} {n} {i} {q} s d apart is long =
           cc
     ])
 
--- a place of one word is none of another's
+-- a place of one word is not in any other
 misses : {w : Words} {p m i q : ℕ} → AreApart w → (l n : ℕ) → l < 2 → n < w.count → IsIn w p m i q
     → (l ≢ p) ⊎ (n ≢ m) → Misses (w.places l n) q
 misses {w} {p} {m} {i} {q} apart l n hl hn is differ k inside at =
@@ -109,7 +109,7 @@ pub record IsTrio (w : Words) (p m i : ℕ) (a b c : Change) : Type 0 where
   pub balances : Balances w.len i a.d b.d c.d
   pub low : (a.d < 256) × (b.d < 256) × (c.d < 256)
 
--- a sector with the three changes is as long, and of bytes
+-- a sector with the three changes has the same length, and consists of bytes
 pub trio_sector : {w : Words} {p m i : ℕ} {a b c : Change} → IsTrio w p m i a b c → (s : List ℕ)
     → IsSector s → IsSector (with_changes s (a ∷ b ∷ c ∷ []))
 trio_sector {w} {p} {m} {i} {a} {b} {c} trio s sector =
@@ -146,7 +146,7 @@ trio_keeps-own {w} {p} {m} {i} {a} {b} {c} apart trio s sector =
     let bytes = AreBytes-bytes_at s ps sector.bytes in
     rw hits (trio.balances.keeps v bytes (length-bytes_at s ps ∙ apart.size p m))
 
--- and those of every other word
+-- the three changes keep the sums of every word
 pub trio_keeps : {w : Words} {p m i : ℕ} {a b c : Change} → AreApart w → IsTrio w p m i a b c
     → (s : List ℕ) → IsSector s → KeepsSums w (with_changes s (a ∷ b ∷ c ∷ [])) s
 trio_keeps {w} {p} {m} {i} {a} {b} {c} apart trio s sector l n hl hn =

@@ -1,4 +1,4 @@
--- Bytes written into a sector and carried into its parity, one after another or by a difference
+-- Bytes that are written into a sector with its parity updated, one by one or by a difference
 -- sector.
 use Rattle.std.proofs.Common.{◌≡◌, ℕ, ◌<◌, List, get_or, bit_xor, ap, ◌∙◌}
 use Rattle.cd_code.specs.Syndrome.{SameSums}
@@ -16,7 +16,7 @@ SameSyndromes-trans h k = record {
       (k.diagonals plane n hp hn);
 }
 
--- a byte of the front, by the sum with the difference
+-- a byte of the front, from the xor with the difference
 pub front-sum : (old front difference filled new : List ℕ) (i : ℕ) → i < 2076
     → ((k : ℕ) → get_or difference k 0 ≡ bit_xor (get_or old k 0) (get_or front k 0))
     → ((k : ℕ) → k < 2076 → get_or filled k 0 ≡ get_or difference k 0)

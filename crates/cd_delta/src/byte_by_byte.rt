@@ -1,5 +1,4 @@
-//! Changing bytes of a sector one by one, each with the parity that follows from it (ECMA-130,
-//! Annex A).
+//! Changes bytes of a sector one by one, and updates the parity for each (ECMA-130, Annex A).
 
 ghost use Rattle.std.specs.Prelude.{◌≡◌, ◌≢◌, ℕ, ◌+◌, ◌<◌, ◌≤◌, Contains, length, slice_index};
 ghost use Rattle.cd_code.specs.Field.{AreBytes};
@@ -11,9 +10,9 @@ ghost use Rattle.cd_delta.specs.Writing.{IsWritten};
 use crate::changes::{Change, parity_changes};
 use cd_sector::Sector;
 
-/// Makes `value` the byte at `place`, 12 to 2075, and carries the change into the eight parity
-/// bytes that follow from it, so that all 276 syndromes stay as they were (ECMA-130, Annex A). The
-/// sector may be of any kind, and need not be consistent.
+/// Writes `value` to the byte at `place` (12 to 2075), and updates the eight parity bytes that
+/// depend on it, so that all 276 syndromes keep their values (ECMA-130, Annex A). The sector may be
+/// of any kind, and need not be consistent.
 ///
 /// # Examples
 ///
@@ -54,7 +53,7 @@ fn add_at(s: &mut Sector, change: Change)
     s.put(place, byte);
 }
 
-/// Writes bytes before the parity, one after another, and carries each into the parity.
+/// Writes bytes before the parity one by one, and updates the parity for each.
 pub(crate) fn write_few(s: &mut Sector, place: usize, bytes: &[u8])
     requires from { 12 ≤ place }
     requires below { place + length bytes.now ≤ 2076 }

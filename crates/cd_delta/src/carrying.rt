@@ -1,5 +1,5 @@
-//! Writing into a Mode 1 sector that may be damaged, so that its damage stays and nothing else
-//! becomes wrong (ECMA-130, 14 and Annex A).
+//! Writes into a Mode 1 sector that may be damaged: its damage stays, and nothing else becomes
+//! wrong (ECMA-130, 14 and Annex A).
 
 ghost use Rattle.std.specs.Prelude.{◌≡◌, ℕ, ◌+◌, ◌%◌, ◌++◌, ◌<◌, ◌≤◌, ◌⊎◌, List, bit_xor, drop, length, slice_index, slice_range, take};
 ghost use Rattle.std.specs.Int.{from_le_bytes, w32};
@@ -17,12 +17,12 @@ use cd_code::{edc_by_tables, edc_moved};
 use cd_lanes::edc_of;
 use cd_sector::{EDC, HEADER, Sector, USER_DATA, USER_SIZE, edc_bytes, stored_edc};
 
-/// How many bytes few bytes meet at most, by eights.
+/// The largest number of bytes in the groups of eight that fewer than [`MANY`] bytes can touch.
 const MET: usize = 48;
 
-/// Writes `bytes` into the 2048 bytes of user data of a Mode 1 sector, from `offset` on, and
-/// carries the sector's damage over: the EDC changes by the sum of the EDC words of bytes 0 to 2063
-/// before and after, and all 276 syndromes stay (ECMA-130, 14 and Annex A).
+/// Writes `bytes` at `offset` into the 2048 bytes of user data of a Mode 1 sector, and carries its
+/// damage over: the EDC changes by the xor of the correct EDCs of bytes 0 to 2063 before and after,
+/// and all 276 syndromes keep their values (ECMA-130, 14 and Annex A).
 ///
 /// # Examples
 ///
@@ -51,9 +51,9 @@ pub fn carry_user(s: &mut Sector, offset: u16, bytes: &[u8])
     carry_in_user(s, offset as usize, bytes);
 }
 
-/// Makes `bcd` bytes 12 to 14 of a Mode 1 sector, which are its address (three bytes, BCD or not),
-/// and carries the sector's damage over: the EDC changes by the sum of the EDC words of bytes 0 to
-/// 2063 before and after, and all 276 syndromes stay (ECMA-130, 14 and Annex A).
+/// Writes `bcd` to bytes 12 to 14 of a Mode 1 sector, its address (three bytes, BCD or not), and
+/// carries the damage of the sector over: the EDC changes by the xor of the correct EDCs of bytes 0
+/// to 2063 before and after, and all 276 syndromes keep their values (ECMA-130, 14 and Annex A).
 ///
 /// # Examples
 ///
@@ -79,8 +79,8 @@ pub fn carry_header(s: &mut Sector, bcd: [u8; 3])
     carry_bytes(s, HEADER, &bcd);
 }
 
-/// Writes bytes into the user data, from `offset` on, then the EDC with the error that it had, and
-/// carries both into the parity.
+/// Writes bytes into the user data at `offset`, then the EDC with the error that it had, and
+/// updates the parity for both.
 fn carry_in_user(s: &mut Sector, offset: usize, bytes: &[u8])
     requires { offset + length bytes.now ≤ 2048 }
     ensures { KeepsError s.old s.new (16 + offset) bytes.now }
@@ -92,8 +92,8 @@ fn carry_in_user(s: &mut Sector, offset: usize, bytes: &[u8])
     }
 }
 
-/// Writes few bytes into the user data, one after another. The EDC word of the differences is added
-/// to the stored word, so its error stays, and no right word is computed.
+/// Writes fewer than 40 bytes into the user data one by one. It adds the EDC of the differences to
+/// the stored EDC, so the error of the EDC stays, and the correct EDC is not computed.
 fn carry_few(s: &mut Sector, offset: usize, bytes: &[u8])
     requires range { offset + length bytes.now ≤ 2048 }
     requires few { length bytes.now < 40 }
@@ -104,8 +104,8 @@ fn carry_few(s: &mut Sector, offset: usize, bytes: &[u8])
     write_few(s, EDC, &edc_bytes(word));
 }
 
-/// The EDC word of what is added to the user data if `bytes` are written from `offset` on. Only the
-/// eights of user data that they meet are divided; then the word is moved on to the end.
+/// The EDC of the differences in the user data if `bytes` are written at `offset`. Only the groups
+/// of eight bytes that they touch are divided; then the remainder is moved on to the end.
 fn difference_edc(s: &Sector, offset: usize, bytes: &[u8]) -> u32
     requires range { offset + length bytes.now ≤ 2048 }
     requires few { length bytes.now < 40 }
@@ -118,7 +118,8 @@ fn difference_edc(s: &Sector, offset: usize, bytes: &[u8]) -> u32
     edc_moved(word, USER_SIZE / 8 - before - met)
 }
 
-/// What is added to the eights of user data that `bytes` meet if they are written from `offset` on.
+/// The differences in the groups of eight bytes of user data that `bytes` touch if they are written
+/// at `offset`.
 fn differences(s: &Sector, offset: usize, bytes: &[u8]) -> [u8; MET]
     requires range { offset + length bytes.now ≤ 2048 }
     requires few { length bytes.now < 40 }
@@ -131,8 +132,9 @@ fn differences(s: &Sector, offset: usize, bytes: &[u8]) -> [u8; MET]
     sums
 }
 
-/// Writes bytes between the sync field and the EDC, and keeps the EDC's error. So the stored EDC
-/// changes by the sum of the right words before and after, and a carried change costs one EDC more.
+/// Writes bytes between the sync field and the EDC, and keeps the error of the EDC: the stored EDC
+/// changes by the xor of the correct EDCs before and after. This computes one more EDC than a
+/// change that does not carry damage.
 fn carry_bytes(s: &mut Sector, place: usize, bytes: &[u8])
     requires from { 12 ≤ place }
     requires below { place + length bytes.now ≤ 2064 }
@@ -142,7 +144,8 @@ fn carry_bytes(s: &mut Sector, place: usize, bytes: &[u8])
     change_bytes(s, place, bytes, error);
 }
 
-/// The error of the stored EDC: its difference from that of bytes 0 to 2063, 0 if it is right.
+/// The error of the stored EDC: its xor with the correct EDC of bytes 0 to 2063, 0 if it is
+/// correct.
 fn edc_error(s: &Sector) -> u32
     ensures { StoresEdc s.now result }
 {

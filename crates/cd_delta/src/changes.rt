@@ -1,4 +1,4 @@
-//! What the change of one byte changes in the parity (ECMA-130, Annex A).
+//! The changes of the parity that follow from the change of one byte (ECMA-130, Annex A).
 
 ghost use Rattle.std.specs.Prelude.{◌≡◌, ◌≢◌, ℕ, ◌+◌, ◌*◌, ◌-◌, ◌/◌, ◌%◌, ◌<◌, ◌≤◌, All, List, length, map, nat_eq};
 ghost use Rattle.std.specs.List.{IsDistinct};
@@ -13,7 +13,8 @@ use cd_sector::{
     SECOND_P_ROW, SECOND_Q,
 };
 
-/// `d` is to be added (by xor) to the byte at `place` (ECMA-130, Annex A).
+/// A change of one byte of a sector: `d` is added (by xor) to the byte at `place` (ECMA-130, Annex
+/// A).
 #[derive(Clone, Copy, Debug, PartialEq, Eq)]
 pub struct Change {
     /// The place of the byte in the sector, from 0 on.
@@ -22,7 +23,7 @@ pub struct Change {
     pub d: u8,
 }
 
-/// What is left of each number by 26: a look costs less than a division.
+/// The remainders of 0 to 77 modulo 26. A look-up costs less than a division.
 #[rattlefmt::skip]
 static AROUND: [u8; 78] = [
     0, 1, 2, 3, 4, 5, 6, 7, 8, 9, 10, 11, 12, 13, 14, 15, 16, 17, 18, 19, 20, 21, 22, 23, 24, 25,
@@ -30,7 +31,7 @@ static AROUND: [u8; 78] = [
     0, 1, 2, 3, 4, 5, 6, 7, 8, 9, 10, 11, 12, 13, 14, 15, 16, 17, 18, 19, 20, 21, 22, 23, 24, 25,
 ];
 
-/// Where a byte stands in the product code: its plane, its row of 26 and its column of 43.
+/// The position of a byte in the product code: its plane, its row (of 26) and its column (of 43).
 #[derive(Clone, Copy)]
 struct Cell {
     plane: usize,
@@ -41,11 +42,11 @@ struct Cell {
     ghost in_columns: { column < 43 },
 }
 
-/// The eight changes of parity bytes that carry the change of the byte at `place`, 12 to 2075, by
-/// `d`, in any sector, consistent or not: all 276 syndromes stay, and no other amounts at these
-/// places do that. None is `00` unless `d` is. First the two parity bytes of the P column, then
-/// those of the Q diagonals of the byte itself, of the first and of the second P byte (ECMA-130,
-/// Annex A).
+/// The eight changes of parity bytes that follow if `d` is added to the byte at `place` (12 to
+/// 2075). With them, all 276 syndromes keep their values, in any sector, consistent or not. No
+/// other amounts at these places do this, and none is `00` unless `d` is. The first two changes are
+/// of the parity bytes of the P column. Then follow, two each, those of the Q diagonals through the
+/// byte itself, the first P byte and the second P byte (ECMA-130, Annex A).
 ///
 /// # Examples
 ///
@@ -62,8 +63,8 @@ pub fn parity_changes(place: u16, d: u8) -> [Change; 8]
     ensures distinct { IsDistinct nat_eq (map (λ c. c.place) result) }
     ensures keeps { (s : List ℕ) → AreBytes s → length s ≡ 2352
         → SameSyndromes (with_changes (with_added s place d) result) s }
-    // No other amounts do it, and none is `00`. Both follow from `keeps`: there is no wrong body
-    // that only they refuse.
+    // No other amounts do this, and none is `00`. Both clauses follow from `keeps`, so no wrong
+    // body is refused by them alone.
     ensures unique { (others : List Change) → map (λ c. c.place) others ≡ parity_places place
         → All (λ c. c.d < 256) others
         → (s : List ℕ) → AreBytes s → length s ≡ 2352
@@ -95,7 +96,7 @@ fn cell_of(place: usize) -> Cell
     ensures row { result.row ≡ (place - 12) / 2 / 43 }
     ensures column { result.column ≡ (place - 12) / 2 % 43 }
 {
-    // By numbers of 32 bits, whose division takes half the instructions.
+    // Division of 32-bit numbers takes half the instructions.
     let number = (place - HEADER) as u32 / 2;
     let columns = PLANE_COLUMNS as u32;
     Cell {
@@ -105,7 +106,7 @@ fn cell_of(place: usize) -> Cell
     }
 }
 
-/// A cell with the plane and the column of `cell`, in another row.
+/// The cell in this row with the plane and the column of `cell`.
 fn in_row(row: usize, cell: Cell) -> Cell
     requires { row < 26 }
     ensures plane { result.plane ≡ cell.plane }
@@ -119,7 +120,7 @@ fn in_row(row: usize, cell: Cell) -> Cell
     }
 }
 
-/// The changes of a column's two parity bytes if `d` is added to a byte before them.
+/// The changes of the two parity bytes of a column if `d` is added to a byte before them.
 fn column_changes(cell: Cell, d: u8) -> (Change, Change)
     requires { cell.row < 24 }
     ensures first { result.0.place ≡ place_of cell.plane (1032 + cell.column) }
@@ -150,7 +151,7 @@ fn diagonal_changes(cell: Cell, d: u8) -> (Change, Change)
     )
 }
 
-/// The diagonal of a number of steps, of which 26 lead around.
+/// The index of a diagonal after a number of steps, modulo 26.
 fn around(steps: usize) -> usize
     requires { steps < 78 }
     ensures { result ≡ steps % 26 }

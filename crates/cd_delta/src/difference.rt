@@ -1,4 +1,4 @@
-//! Changing many bytes at once, by a difference sector (ECMA-130, Annex A).
+//! Changes many bytes of a sector at once, by a difference sector (ECMA-130, Annex A).
 
 ghost use Rattle.std.specs.Prelude.{◌≡◌, ℕ, ◌<◌, length, slice_index};
 ghost use Rattle.cd_code.specs.Field.{AreBytes};
@@ -6,8 +6,8 @@ ghost use Rattle.cd_code.specs.CodeWords.{SameSyndromes};
 
 use cd_sector::{Sector, fill_parity, sum_of};
 
-/// Makes all bytes before the parity those of `front`, and carries the changes into the parity at
-/// once: the differences stand in a sector of their own, which is given its parity and then added
+/// Copies all bytes before the parity from `front`, and updates the parity for all of them at once:
+/// the differences form a sector of their own, whose parity is computed, and which is then added
 /// (ECMA-130, Annex A).
 pub(crate) fn carry_front(s: &mut Sector, front: &Sector)
     ensures front { (i : ℕ) → i < 2076 → slice_index s.new i ≡ slice_index front.now i }

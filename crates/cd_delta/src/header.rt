@@ -1,4 +1,4 @@
-//! Writing the address in the header of a Mode 1 sector by differences (ECMA-130, 14 and Annex A).
+//! Writes the address in the header of a Mode 1 sector by differences (ECMA-130, 14 and Annex A).
 
 ghost use Rattle.std.specs.Prelude.{◌≡◌, ℕ, ◌++◌, ◌<◌, ◌≤◌, ◌⊎◌, drop, slice_index, slice_range, take};
 ghost use Rattle.std.specs.Int.{from_le_bytes, w32};
@@ -12,9 +12,9 @@ ghost use Rattle.cd_delta.specs.Writing.{IsChanged};
 use crate::user_data::change_bytes;
 use cd_sector::{HEADER, Sector};
 
-/// Makes `bcd` bytes 12 to 14 of a Mode 1 sector, which are its address (three bytes, BCD or not),
-/// then writes the EDC of bytes 0 to 2063 after them, and carries both into the parity, so that all
-/// 276 syndromes stay as they were (ECMA-130, 14 and Annex A). The sector need not be consistent.
+/// Writes `bcd` to bytes 12 to 14 of a Mode 1 sector, its address (three bytes, BCD or not), then
+/// the EDC of bytes 0 to 2063 after them. Updates the parity for both, so that all 276 syndromes
+/// keep their values (ECMA-130, 14 and Annex A). The sector need not be consistent.
 ///
 /// # Examples
 ///
@@ -38,8 +38,8 @@ pub fn change_header(s: &mut Sector, bcd: [u8; 3])
     put_address(s, bcd);
 }
 
-/// Proof step: the change of the three bytes of an address, and nothing else. What `change_header`
-/// promises is proved from this one clause.
+/// Proof step: changes the three bytes of an address, and nothing else. All clauses of
+/// `change_header` are proved from this one.
 fn put_address(s: &mut Sector, bcd: [u8; 3])
     ensures { IsChanged s.old s.new 12 bcd 0 }
 {

@@ -2,8 +2,8 @@
 
 ghost use Rattle.cd_delta.specs.Laws.{OneDiagonal};
 
-/// The byte in a row and a column of a plane lies in only one diagonal, and there at the column's
-/// number (ECMA-130, Annex A).
+/// Each byte in a row and a column of a plane is in only one diagonal, at the index of its column
+/// (ECMA-130, Annex A).
 pub fn one_diagonal()
     ensures { OneDiagonal }
 {}

@@ -1,5 +1,5 @@
-//! Changes of a Mode 1 sector that keep its parity right without encoding it again: the bytes of
-//! the parity change by what the change of a byte adds to them (ECMA-130, Annex A).
+//! Changes bytes of a Mode 1 sector, and updates its parity without encoding it again: the
+//! difference that the change of a byte makes is added to the parity (ECMA-130, Annex A).
 //!
 //! ```
 //! let mut sector = encode([0x00, 0x02, 0x00], &[0x00; USER_SIZE]);
@@ -7,12 +7,12 @@
 //! assert!(rt; sector == encode([0x00, 0x02, 0x00], &[0x41; USER_SIZE]));
 //! ```
 //!
-//! A change of one of bytes 12 to 2075 changes eight bytes of parity ([`parity_changes`]): two of
-//! its column, two of its diagonal, and two of each diagonal through those of its column.
+//! A change of one of bytes 12 to 2075 changes eight bytes of parity ([`parity_changes`]): two in
+//! its column, two in its diagonal, and two in each diagonal through those of its column.
 //!
-//! [`change_user`] and [`change_header`] write user data and an address, and the right EDC
-//! (ECMA-130, 14). [`carry_user`] and [`carry_header`] keep the EDC's error.
-//! All four keep the 276 syndromes as they were. No call takes memory.
+//! [`change_user`] and [`change_header`] write user data and an address, with the correct EDC
+//! (ECMA-130, 14). [`carry_user`] and [`carry_header`] keep the error of the EDC. All four keep the
+//! values of the 276 syndromes. No call allocates memory.
 //!
 //! Tests: `crates/cd_low_tests/src/tests/changes.rt`.
 #![tactic(auto)]

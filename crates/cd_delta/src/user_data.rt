@@ -1,4 +1,4 @@
-//! Writing user data into a Mode 1 sector by differences (ECMA-130, 14 and Annex A).
+//! Writes user data into a Mode 1 sector by differences (ECMA-130, 14 and Annex A).
 
 ghost use Rattle.std.specs.Prelude.{◌≡◌, ℕ, ◌+◌, ◌<◌, ◌≤◌, ◌⊎◌, length, slice_index, slice_range, take};
 ghost use Rattle.std.specs.Int.{from_le_bytes, w32};
@@ -15,13 +15,13 @@ use crate::difference::carry_front;
 use cd_lanes::edc_of;
 use cd_sector::{EDC, Sector, USER_DATA, edc_bytes, fill_edc, put_part};
 
-/// The number of bytes from which on a difference sector costs less than a change of each byte. An
+/// From this number of bytes on, a difference sector costs less than a change of each byte. An
 /// address, of three bytes, is written byte by byte.
 pub(crate) const MANY: usize = 40;
 
-/// Writes `bytes` into the 2048 bytes of user data of a Mode 1 sector, from `offset` on, then the
-/// EDC of bytes 0 to 2063 after them, and carries both into the parity, so that all 276 syndromes
-/// stay as they were (ECMA-130, 14 and Annex A). The sector need not be consistent.
+/// Writes `bytes` at `offset` into the 2048 bytes of user data of a Mode 1 sector, then the EDC of
+/// bytes 0 to 2063 after them. Updates the parity for both, so that all 276 syndromes keep their
+/// values (ECMA-130, 14 and Annex A). The sector need not be consistent.
 ///
 /// # Examples
 ///
@@ -47,8 +47,7 @@ pub fn change_user(s: &mut Sector, offset: u16, bytes: &[u8])
 }
 
 /// Writes bytes between the sync field and the EDC, then the EDC with `error` added to it, and
-/// carries both into the parity. The one body of all four calls: `error` is 0, or the EDC's
-/// error if damage is carried.
+/// updates the parity for both. `error` is 0, or the error of the EDC if damage is carried.
 pub(crate) fn change_bytes(s: &mut Sector, place: usize, bytes: &[u8], error: u32)
     requires from { 12 ≤ place }
     requires below { place + length bytes.now ≤ 2064 }
@@ -61,8 +60,8 @@ pub(crate) fn change_bytes(s: &mut Sector, place: usize, bytes: &[u8], error: u3
     }
 }
 
-/// Writes the bytes one by one, and then the EDC with `error` added, and carries each into the
-/// parity.
+/// Writes the bytes one by one, and then the EDC with `error` added, and updates the parity for
+/// each.
 fn change_few(s: &mut Sector, place: usize, bytes: &[u8], error: u32)
     requires from { 12 ≤ place }
     requires below { place + length bytes.now ≤ 2064 }
@@ -72,8 +71,7 @@ fn change_few(s: &mut Sector, place: usize, bytes: &[u8], error: u32)
     write_edc(s, error);
 }
 
-/// Writes the EDC of bytes 0 to 2063 after them, with `error` added, and carries it into the
-/// parity.
+/// Writes the EDC of bytes 0 to 2063 after them, with `error` added, and updates the parity.
 fn write_edc(s: &mut Sector, error: u32)
     ensures { WithEdc s.old s.new error }
 {
@@ -81,7 +79,7 @@ fn write_edc(s: &mut Sector, error: u32)
     write_few(s, EDC, &edc_bytes(word ^ error));
 }
 
-/// Writes the bytes and the EDC with `error` added, and carries both into the parity at once.
+/// Writes the bytes and the EDC with `error` added, and updates the parity for both at once.
 fn change_many(s: &mut Sector, place: usize, bytes: &[u8], error: u32)
     requires { place + length bytes.now ≤ 2064 }
     ensures { IsChanged s.old s.new place bytes.now error }
@@ -90,8 +88,8 @@ fn change_many(s: &mut Sector, place: usize, bytes: &[u8], error: u32)
     carry_front(s, &front);
 }
 
-/// A sector with `bytes` from `place` on and the EDC of bytes 0 to 2063 after these, with `error`
-/// added; its parity is left as it was.
+/// The sector with `bytes` at `place`, and the EDC of its bytes 0 to 2063 with `error` added. Its
+/// parity is not updated.
 fn front_with(s: &Sector, place: usize, bytes: &[u8], error: u32) -> Sector
     requires { place + length bytes.now ≤ 2064 }
     ensures range { (i : ℕ) → i < length bytes.now

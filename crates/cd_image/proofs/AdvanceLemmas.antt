@@ -1,4 +1,4 @@
--- One step of a run among all patches.
+-- One step of a run, in terms of all patches.
 use Rattle.std.proofs.Common.{◌≡◌, ℕ, ◌+◌, ◌≤◌, ◌⊎◌, inl, inr, Bool, List, length, take, sym, subst, arith}
 use Rattle.std.specs.Prelude.{All}
 use Rattle.std.proofs.Math.ListN.{length-take}
@@ -11,7 +11,7 @@ use Rattle.cd_run.specs.Steps.{WantsMore}
 use Rattle.cd_run.proofs.RunningLemmas.{none_open}
 use Rattle.cd_run.specs.declared.run.PatchRun.{PatchRun}
 
--- nothing has come, or no patch left begins before the front block
+-- nothing was read, or no remaining patch begins before the front block
 pub begun : {carry : Bool} {base : ℕ} {start now : Streams} {taken left : List Patch}
     (run : PatchRun) (hand : List (List ℕ)) → HoldsInvariant carry taken left base start now run hand
     → ((run.sectors ≡ 0) × (run.stage ≡ 0)) ⊎ All (λ p. run.block ≤ p.block) left
@@ -20,18 +20,18 @@ begun run hand g = elim g.state.ahead [
   | inr past ↦ inr past
 ]
 
--- a sector is wanted, by those in hand
+-- a sector has to be read, in terms of the sectors in hand
 pub wants_window : {left : List Patch} {block : ℕ} (places : List (List ℕ)) (held : ℕ)
     → held ≤ length places → WantsMore left block held
     → WantsMore left block (length (take held places))
 wants_window {left} {block} places held within wants =
     subst (WantsMore left block) (sym (length-take-le held places within)) wants
 
--- so many bytes can be taken only of as many
+-- a list whose front has n elements has at least n elements
 pub long_enough : (n : ℕ) (l : List ℕ) → length (take n l) ≡ n → n ≤ length l
 long_enough n l is = omega (arith, is, length-take n l)
 
--- ---- how large the numbers of a run are
+-- ---- the bounds of the numbers of a run
 
 pub record Bounds (start now : Streams) (run : PatchRun) : Type 0 where
   pub reads : now.image.failures ≡ start.image.failures

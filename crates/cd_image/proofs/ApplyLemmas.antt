@@ -1,5 +1,5 @@
--- How a run ends by a fault before the image has ended: whatever the image may still be, what went
--- out and what was logged begins what belongs there.
+-- The end of a run by an error before the image has ended: whatever else the image may have, the
+-- bytes sent and the bytes logged begin the right output and log.
 use Rattle.std.proofs.Common.{◌≡◌, ℕ, ◌+◌, ◌*◌, ◌<◌, ◌≤◌, Bool, false, List, [], ◌∷◌, ◌++◌, length, take, drop, Option, None, Err, refl, sym, ap, ◌∙◌, subst, arith, append_assoc, append-nil, length-append, take_at}
 use Rattle.std.specs.Prelude.{All, IsSome}
 use Rattle.std.proofs.lemmas.List.{length-drop, length-take-le}
@@ -165,9 +165,9 @@ module _ {carry : Bool} {taken left : List Patch} {base : ℕ} {start now : Stre
           (λ more. sym (append_assoc g.done (sector ∷ []) (window ++ more)))
           (λ i d here. omega (arith, ahead i d here, length-append g.done (sector ∷ []))) patched
 
--- ---- the log fails in the line of a patch, before the tail has gone out
+-- ---- the log fails in the line of a patch, before the tail was sent
 
--- how many bytes belong before the line of a patch
+-- the number of bytes that belong before the line of a patch
 before_line : {p : Patch} {window : List (List ℕ)} {block sectors_read : ℕ} (base : ℕ)
     {tail : Option (List ℕ)} {closed : Bool} (done : List (List ℕ)) (whole : List ℕ)
     → closed ≡ false → Decidable p window block sectors_read tail closed → block ≡ base + length done
@@ -191,7 +191,7 @@ module _ {carry : Bool} {taken : List Patch} {p : Patch} {left : List Patch} {ba
     (may : Decidable p window block sectors_read end closed)
     (after : Reached carry (taken ++ p ∷ []) left base g.seen g.done window' (g.outcomes ++ o ∷ [])
     block' sectors' applied' end' closed') where
-  -- a run takes this patch next
+  -- a run decides this patch next
   next : {whole : List ℕ} → Extends g.seen end whole → {os : List Outcome} {last : List ℕ}
       → IsPatched carry (taken ++ p ∷ left) os base whole last
       → (back : List Outcome) × (os ≡ g.outcomes ++ o ∷ back)

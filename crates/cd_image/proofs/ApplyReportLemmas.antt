@@ -1,4 +1,4 @@
--- What has been done by `apply`, in plain clauses.
+-- The effect of `apply`, in plain clauses.
 use Rattle.std.proofs.Common.{◌≡◌, Bool, true, List, ℕ, ◌++◌, Some, Result, Ok, Err, IfErr, IfOk, OnOk, length, sym, ap, ◌∙◌, subst, arith, length-append}
 use Rattle.std.specs.Prelude.{All}
 use Rattle.cd_script.specs.Patch.{IsPatch}
@@ -15,14 +15,14 @@ use Rattle.cd_run.proofs.PatchedLemmas.{IsPatched-carries, IsPatched-determined}
 use Rattle.cd_read.proofs.general.KnownBytes.{appended, consumed_all, consumed_length}
 use Rattle.cd_read.proofs.EndLemmas.{Ending, EndsBy}
 
--- the same patches
+-- `Applies` for an equal list of patches
 pub Applies-same : {carry : Bool} {ps qs : List Patch} {base : ℕ} {old new : Streams}
     {result : Result Tally Fault} → ps ≡ qs → Applies carry ps base old new result
     → Applies carry qs base old new result
 Applies-same is a = rw is at a
 
 module _ {carry : Bool} {patches : List Patch} {base : ℕ} {old new : Streams} where
-  -- how the call has ended
+  -- the end of the call, by its result
   ends_by : (result : Result Tally Fault) (a : Applies carry patches base old new result)
       → EndsBy a.read old.image new.image old.out.failures new.out.failures old.log.failures
       new.log.failures result

@@ -1,4 +1,4 @@
--- How a call on patches ends after the last sector of the image.
+-- The end of a call on patches after the last sector of the image.
 use Rattle.std.proofs.Common.{◌≡◌, ℕ, ◌+◌, ◌-◌, ◌*◌, ◌<◌, ◌≤◌, inl, inr, Bool, true, false, List, [], ◌∷◌, ◌++◌, length, take, drop, Option, None, Some, Result, Ok, Err, refl, sym, ap, ◌∙◌, arith, append_assoc, append-nil, length-append, take-append-drop}
 use Rattle.std.specs.Prelude.{All}
 use Rattle.cd_sector.specs.declared.sector.TheConstants.{SECTOR_SIZE}
@@ -40,7 +40,7 @@ tally applied refused count left =
 
 -- ---- after the last sector
 
--- the image was read to its end and its sectors have gone out; `end` is its tail
+-- the image was read to its end and its sectors were sent; `end` is its tail
 module _ {carry : Bool} {taken left : List Patch} {base : ℕ} {start now : Streams}
     {block sectors_read applied : ℕ} {end : List ℕ} {closed : Bool}
     (g : PassInvariant carry taken left base start now [] block sectors_read applied (Some end)
@@ -51,7 +51,7 @@ module _ {carry : Bool} {taken left : List Patch} {base : ℕ} {start now : Stre
     | inr past ↦ past
   ]
 
-  -- the bytes of the log: those that it has got, and those that are left
+  -- the bytes of the log: those that were written, and those that remain
   abbrev log_bytes : List ℕ
   log_bytes = log_lines taken g.outcomes
 
@@ -72,8 +72,8 @@ module _ {carry : Bool} {taken left : List Patch} {base : ℕ} {start now : Stre
     whole_log : log_text (taken ++ left) outcomes ≡ log_bytes ++ (lines ++ last_line)
     tally_right : tally applied (length (taken ++ left) - applied) sectors_read (length end)
         ≡ patch_tally read outcomes
-    -- what was logged is what belongs before the tail, until that has gone out; before the rest
-    -- belongs the whole image
+    -- until the tail was sent, the bytes logged are those that belong before it; all of the image
+    -- belongs before the rest of the log
     log_at_tail : closed ≡ false → (sent : ℕ)
         → (length (bytes_of g.done) ≤ sent) × (sent < length read)
         → log_when_out_fails (taken ++ left) outcomes base (length read) sent ≡ log_bytes
@@ -126,7 +126,7 @@ module _ {carry : Bool} {taken left : List Patch} {base : ℕ} {start now : Stre
             bytes_before-after image base _ (omega (arith, past k d here, ap length old.0)));
       }
 
-  -- what holds of this run holds of each run on each image that fits
+  -- a statement about this run holds for each run on each image that may be the one read
   by_run : (Holds : List ℕ → List Outcome → List ℕ → Type 0)
       → Holds r.read r.outcomes (bytes_of g.done ++ end) → (whole : List ℕ)
       → MayBeImageAtEnd now.image.rest r.read whole
@@ -162,13 +162,13 @@ Closes-tail {end = end} g fails =
       between_sinks = by_run g _ (sym (run.log_at_tail refl (length sent) inside));
     })
 
--- ---- the tail has gone out
+-- ---- the tail was sent
 
 module _ {carry : Bool} {taken left : List Patch} {base : ℕ} {start now : Streams}
     {block sectors_read applied : ℕ} {end : List ℕ}
     (g : PassInvariant carry taken left base start now [] block sectors_read applied (Some end)
     true) where
-  -- the log fails in what it gets next
+  -- the log fails in the bytes that are written to it next
   pub Closes-log : {Y F : Type 0} {f : F} {log : Outgoing} {part : List ℕ}
       → IsBeginning part (missing_lines left ++ counts_line applied (length (taken ++ left) - applied))
       → Sends {X = Y} {E = F} now.log log part (Err f)
@@ -187,7 +187,7 @@ module _ {carry : Bool} {taken left : List Patch} {base : ℕ} {start now : Stre
         between_sinks = run.size ∙ sym (rw length-append (run.sent_at_log _));
       })) (omega arith) (omega arith) run.within)
 
--- the line of a missing patch is the first of those of the patches left
+-- the line of a patch whose first block is missing is the first line of the remaining patches
 line_first : (p : Patch) (left : List Patch) {o : Outcome} (rest : List ℕ) → o ≡ NoBlock p.block
     → missing_lines (p ∷ left) ++ rest ≡ log_line p o ++ (missing_lines left ++ rest)
 line_first p left rest is =
@@ -215,7 +215,7 @@ Applies-line {window = []} {end = None} {closed = true} o g same may missing aft
 Applies-line {window = s ∷ ss} {closed = true} o g same may missing after fails =
     absurd (omega (arith, ap length (g.state.closes refl).0))
 
--- ---- all patches were decided, and the tail has gone out
+-- ---- all patches were decided, and the tail was sent
 
 pub with_nil : {X E : Type 0} {result : Result X E} {old new : Outgoing} (applied : ℕ)
     (taken : List Patch) → Sends old new (counts_line applied (length taken - applied)) result
@@ -277,7 +277,7 @@ module _ {carry : Bool} {taken : List Patch} {base : ℕ} {start now : Streams}
           cut = λ sure. absurd (true≢false (sym fails.fails ∙ all_logged.flush_may_fail ∙ sure));
         })
 
-    -- all has gone well
+    -- nothing failed
     pub Closes-ok : {H K : Type 0} {u v : Unit {0}} {late last : Outgoing}
         → Flushes {E = H} now.out late (Ok u) → Flushes {E = K} log last (Ok v)
         → Applies carry (taken ++ []) base start (record now { out = late; log = last })

@@ -1,4 +1,4 @@
--- What a pass knows of each run on an image that may be the one that is being read.
+-- The facts that a pass knows about each run on an image that may be the one being read.
 use Rattle.std.proofs.Common.{◌≡◌, ℕ, ◌+◌, ◌*◌, ◌<◌, ◌≤◌, Bool, List, [], ◌++◌, length, take, drop, Option, None, Some, Result, Ok, Err, IsErrAnd, inl, inr, refl, sym, ap, ◌∙◌, subst, arith, append_assoc, append-nil, length-append, take-append-drop}
 use Rattle.std.specs.Prelude.{All, IsSome}
 use Rattle.cd_script.specs.PatchForm.{Patch}
@@ -27,7 +27,7 @@ use Rattle.cd_run.proofs.PatchLogLemmas.{log_lines-append}
 pub cut_at : (n : ℕ) (l more : List ℕ) → take n l ++ (drop n l ++ more) ≡ l ++ more
 cut_at n l more = rw (← append_assoc, take-append-drop)
 
--- the same after a front
+-- a list cut in two, after a front and with more after it
 pub cut_after : (n : ℕ) (front l rest end : List ℕ)
     → front ++ ((l ++ rest) ++ end) ≡ (front ++ take n l) ++ (drop n l ++ (rest ++ end))
 cut_after n front l rest end = rw (append_assoc, append_assoc, cut_at)
@@ -50,7 +50,7 @@ unfolding log_text
 log_text-append taken left front back same =
     rw (log_lines-append taken left front back same, append_assoc)
 
--- the contract, by what each stream gave or took
+-- the contract, from the bytes that each stream has read or written
 pub applies : {carry : Bool} {patches : List Patch} {base : ℕ} {old new : Streams}
     {read sent log_bytes : List ℕ} {result : Result Tally Fault} → Gives old.image new.image read
     → Takes old.out new.out sent → Takes old.log new.log log_bytes
@@ -73,7 +73,7 @@ applies {read = read} {sent = sent} {log_bytes = log_bytes} came went logged few
   answers = by;
 }
 
--- the `?` of a call that fails
+-- the operator `?` on a call that fails
 pub Applies-fault : {carry : Bool} {patches : List Patch} {base : ℕ} {old new : Streams}
     {fault : Fault}
     {result : Result Tally Fault} → IsErrAnd result (λ f. f ≡ fault)
@@ -82,7 +82,7 @@ Applies-fault {result = Ok tally} is applies = elim is [ ]
 Applies-fault {carry} {patches} {base} {old} {new} {result = Err f} is applies =
     subst (λ f. Applies carry patches base old new (Err f)) (sym is) applies
 
--- what a log that failed before its end leaves of a run: some of the log is missing
+-- a run whose log failed before its end: some of the log is missing
 pub record LogCut (patches : List Patch) (base : ℕ) (sent log_bytes whole : List ℕ)
     (os : List Outcome) (last : List ℕ) : Type 0 where
   pub begins : IsBeginning sent last
@@ -123,13 +123,13 @@ StopsAtLog-within each failed unflushed within = record {
   cut = λ sure whole fits os last patched. less_logged (each whole fits os last patched);
 }
 
--- an image that may be the one that is being read: the sectors after those that were seen
+-- an image that may be the one being read: the sectors after those that were read
 pub record Extends (seen : List (List ℕ)) (end : Option (List ℕ)) (whole : List ℕ) : Type 0 where
   pub more : List (List ℕ)
   pub cut : sectors whole ≡ seen ++ more
   pub unended : IsSome end → more ≡ []
 
--- an image that begins with the sectors that were seen, before the end is known
+-- an image that begins with the sectors read, before its end is known
 pub Extends-begun : {seen : List (List ℕ)} {whole : List ℕ} (more : List ℕ) → AreSized seen
     → whole ≡ bytes_of seen ++ more → Extends seen None whole
 Extends-begun {seen = seen} more sized is = record {
@@ -138,8 +138,8 @@ Extends-begun {seen = seen} more sized is = record {
   unended = λ never. cc;
 }
 
--- a run on it: the outcomes after those that are known, and the last sectors after those that are
--- settled
+-- a run on such an image: the outcomes after the known ones, and the final sectors after the
+-- settled ones
 pub record Known (settled : List (List ℕ)) (outcomes os : List Outcome)
     (last : List ℕ) : Type 0 where
   pub back : List Outcome
@@ -158,7 +158,7 @@ module _ {carry : Bool} {taken left : List Patch} {base : ℕ} {start now : Stre
   pub length_sent : length (bytes_of g.done) ≡ 2352 * length g.done
   length_sent = length-bytes_of g.done g.state.done_sizes
 
-  -- what was read
+  -- the number of bytes read
   pub size_read : length (bytes_of g.seen ++ tail_bytes end)
       ≡ 2352 * sectors_read + length (tail_bytes end)
   size_read =
@@ -168,7 +168,7 @@ module _ {carry : Bool} {taken left : List Patch} {base : ℕ} {start now : Stre
         length-bytes_of g.seen g.state.seen_sizes,
       )
 
-  -- what is left of a run, after the patches taken
+  -- the rest of a run, after the decided patches
   pub rest_of : {whole : List ℕ} (extends : Extends g.seen end whole) {os : List Outcome}
       {last : List ℕ} → IsPatched carry (taken ++ left) os base whole last
       → (back : List Outcome) × (os ≡ g.outcomes ++ back)
@@ -180,7 +180,7 @@ module _ {carry : Bool} {taken left : List Patch} {base : ℕ} {start now : Stre
       (g.state.run extends.more extends.unended) in
       (split.1, split.3 ∙ ap (λ f. f ++ split.1) same.0, rw same.1 at split.5)
 
-  -- sectors at the front that no patch left begins in are settled
+  -- sectors at the front in which no remaining patch begins are settled
   pub known : {whole : List ℕ} → Extends g.seen end whole
       → (settled : List (List ℕ)) (after : List (List ℕ) → List (List ℕ))
       → ((more : List (List ℕ)) → g.done ++ (window ++ more) ≡ settled ++ after more)
@@ -194,7 +194,7 @@ module _ {carry : Bool} {taken left : List Patch} {base : ℕ} {start now : Stre
       (rw grouped at rest.2) in
       record { back = rest.0; others = front.0; all = rest.1; cut = front.1 }
 
-  -- nothing has gone out, or no patch left begins in what has
+  -- nothing was sent, or no remaining patch begins in the sectors sent
   pub known_now : {whole : List ℕ} → Extends g.seen end whole → {os : List Outcome} {last : List ℕ}
       → IsPatched carry (taken ++ left) os base whole last → Known g.done g.outcomes os last
   known_now extends {last = last} patched = elim g.state.ahead [
@@ -213,7 +213,7 @@ module _ {carry : Bool} {taken left : List Patch} {base : ℕ} {start now : Stre
         (λ k d inside. omega (arith, ahead k d inside)) patched
   ]
 
-  -- what went out and what was logged begin the patched image and its log
+  -- the bytes sent and the bytes logged begin the patched image and its log
   pub begins_now : {whole : List ℕ} → Extends g.seen end whole → (os : List Outcome) (last : List ℕ)
       → IsPatched carry (taken ++ left) os base whole last
       → Begins (taken ++ left) (bytes_of g.done) (log_lines taken g.outcomes) os last
@@ -223,7 +223,8 @@ module _ {carry : Bool} {taken left : List Patch} {base : ℕ} {start now : Stre
         (_, ap (log_text (taken ++ left)) k.all ∙ log_text-append taken left _ _ outcomes_length),
       )
 
--- an image that fits: if nothing is left, its end is known
+-- an image that may be the one being read: if nothing is left of the source, the end of the image
+-- is known
 pub extends : {carry : Bool} {taken left : List Patch} {base : ℕ} {start now : Streams}
     {window : List (List ℕ)} {block sectors_read applied : ℕ} {end : Option (List ℕ)}
     {closed : Bool}

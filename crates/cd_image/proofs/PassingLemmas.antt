@@ -39,7 +39,7 @@ came_more : {start now image : Incoming} (seen : List (List ℕ)) {tail : Option
 came_more seen none before more gives =
     rw append-nil at (Gives-trans _ _ _ _ _ (rw none at before) gives)
 
--- the output is as it was, before the tail goes out
+-- the output is unchanged, before the tail is sent
 sent_same : {start now : Outgoing} (done : List (List ℕ)) (tail : Option (List ℕ))
     {closed : Bool} (tail' : Option (List ℕ)) (closed' : Bool) → closed ≡ false → closed' ≡ false
     → Takes start now (sent_bytes done tail closed) → Takes start now (sent_bytes done tail' closed')
@@ -50,7 +50,7 @@ module _ {carry : Bool} {taken left : List Patch} {base : ℕ} {start now : Stre
     {tail tail' : Option (List ℕ)} {closed closed' : Bool} {image : Incoming}
     (g : PassInvariant carry taken left base start now window block sectors applied tail closed)
     (none : tail ≡ None) (unclosed : closed ≡ false) (unclosed' : closed' ≡ false) where
-  -- a sector has come
+  -- a sector was read
   pub Going-sector : {came : List ℕ} → tail' ≡ None
       → Reached carry taken left base (g.seen ++ came ∷ []) g.done window' g.outcomes block'
       sectors' applied' tail' closed'
@@ -72,7 +72,7 @@ module _ {carry : Bool} {taken left : List Patch} {base : ℕ} {start now : Stre
     state = state;
   }
 
-  -- less than a sector has come, and nothing is left
+  -- less than a sector was read, and nothing is left
   pub Going-end : {count : ℕ} {bytes : List ℕ} → tail' ≡ Some (take count bytes)
       → Reached carry taken left base g.seen g.done window' g.outcomes block' sectors' applied'
       tail' closed'
@@ -100,7 +100,7 @@ module _ {X E : Type 0} {x : X} {carry : Bool} {taken left : List Patch} {base :
     {closed closed' : Bool} {out : Outgoing}
     (g : PassInvariant carry taken left base start now window block sectors applied tail closed)
     (same : tail' ≡ tail) (unclosed : closed ≡ false) where
-  -- a sector has gone out
+  -- a sector was sent
   pub Going-send : {sector : List ℕ} → closed' ≡ false
       → Reached carry taken left base g.seen (g.done ++ sector ∷ []) window' g.outcomes block'
       sectors' applied' tail' closed'
@@ -122,7 +122,7 @@ module _ {X E : Type 0} {x : X} {carry : Bool} {taken left : List Patch} {base :
     state = state;
   }
 
-  -- the tail has gone out
+  -- the tail was sent
   pub Going-close : {bytes : List ℕ} → tail ≡ Some bytes → closed' ≡ true
       → Reached carry taken left base g.seen g.done window' g.outcomes block' sectors' applied'
       tail' closed'

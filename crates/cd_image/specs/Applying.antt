@@ -1,5 +1,5 @@
--- What `apply` and `check` have done, whatever they return. Their plain clauses, at the end of this
--- file, follow from `Applies`.
+-- The effect of `apply` and `check`, for each result. Their plain clauses, at the end of this file,
+-- follow from `Applies`.
 use Rattle.std.specs.Prelude.{◌≡◌, ◌↔◌, ℕ, ◌+◌, ◌<◌, ◌≤◌, Bool, true, false, List, [], ◌++◌}
 use Rattle.std.specs.Prelude.{length, Option, None, Some, Result, Ok, Err}
 use Rattle.std.specs.Io.KnownBytes.{Appends, Consumes, IsAtEnd}
@@ -17,23 +17,23 @@ use Rattle.cd_read.specs.declared.fault.Fault.{Fault}
 use Rattle.cd_read.specs.declared.fault.Fault.TheVariants.{Log, Read, TooLong, Write}
 use Rattle.cd_image.specs.declared.patch_log.Tally.{Tally}
 
--- what a contract sees of an image, an output and a log
+-- an image, an output, and a log, as contracts see them
 pub record Streams : Type 0 where
   pub image : Incoming
   pub out : Outgoing
   pub log : Outgoing
 
--- the three together
+-- a record of the three
 abbrev pub streams : Incoming → Outgoing → Outgoing → Streams
 streams image out log = record { image = image; out = out; log = log }
 
--- how many calls of each have failed meanwhile
+-- how many calls of each failed between `old` and `new`
 pub record Failed (old new : Streams) (of_image of_out of_log : ℕ) : Type 0 where
   pub reads : new.image.failures ≡ old.image.failures + of_image
   pub writes : new.out.failures ≡ old.out.failures + of_out
   pub logs : new.log.failures ≡ old.log.failures + of_log
 
--- how many flushes of each sink were made meanwhile
+-- how many flushes of each sink were made between `old` and `new`
 pub record Flushed (old new : Streams) (of_out of_log : ℕ) : Type 0 where
   pub outs : new.out.flushes ≡ old.out.flushes + of_out
   pub logs : new.log.flushes ≡ old.log.flushes + of_log
@@ -47,8 +47,8 @@ patch_tally image os = record {
   tail = length (tail image);
 }
 
--- the whole image was read; its patched image went out, and the log of the patches. Each sink was
--- flushed just once
+-- all of the image was read, and the patched image and the log of the patches were written. Each
+-- sink was flushed exactly once
 pub record CompletesPatching (carry : Bool) (patches : List Patch) (base : ℕ)
     (read sent log_bytes : List ℕ) (old new : Streams) (tally : Tally) : Type 0 where
   pub failed : Failed old new 0 0 0
@@ -63,7 +63,7 @@ pub record CompletesPatching (carry : Bool) (patches : List Patch) (base : ℕ)
   pub log_right : log_bytes ≡ log_text patches outcomes
   pub tally_right : tally ≡ patch_tally read outcomes
 
--- what went out begins the patched image, and what was logged begins its log
+-- the bytes sent begin the patched image, and the bytes logged begin its log
 abbrev pub Begins : List Patch → List ℕ → List ℕ → List Outcome → List ℕ → Type 0
 Begins patches sent log_bytes outcomes last =
     IsBeginning sent last × IsBeginning log_bytes (log_text patches outcomes)
@@ -79,10 +79,10 @@ pub record StopsAtRead (carry : Bool) (patches : List Patch) (base : ℕ)
   pub begins : (whole : List ℕ) → MayBeImage read whole
       → EachPatching carry patches base whole (Begins patches sent log_bytes)
 
--- a write to the output failed, or its flush: the log has got just the lines that belong before
--- what went out. If the source has nothing left, or its bytes are not known, the image is taken to
--- end with the bytes read. The output was flushed once at most, after all of these, the log never.
--- If the output's flush can't fail, not all of these went out
+-- a write or the flush of the output failed: the log has exactly the lines that belong before the
+-- bytes sent. If the source has no bytes left, or its bytes are not known, the image is assumed to
+-- end with the bytes read. The output was flushed at most once, after all bytes read were sent, and
+-- the log never. If the output's flush cannot fail, not all bytes read were sent
 pub record StopsAtWrite (carry : Bool) (patches : List Patch) (base : ℕ)
     (read sent log_bytes : List ℕ)
     (old new : Streams) : Type 0 where
@@ -100,10 +100,10 @@ pub record StopsAtWrite (carry : Bool) (patches : List Patch) (base : ℕ)
       (λ outcomes last. log_bytes ≡ log_when_out_fails patches outcomes base (length read)
       (length sent))
 
--- a write to the log failed, or its flush: just the bytes that belong before the line it failed in
--- went out, and if the whole log was written, the output is finished. Only then was the output
--- flushed, just once, and the log at most once. If the log's flush can't fail, not all of it was
--- written
+-- a write or the flush of the log failed: exactly the bytes that belong before the line in which it
+-- failed were sent. If all of the log was written, the output is finished. Only then was the output
+-- flushed, exactly once, and the log at most once. If the log's flush cannot fail, not all of the
+-- log was written
 pub record StopsAtLog (carry : Bool) (patches : List Patch) (base : ℕ)
     (read sent log_bytes : List ℕ)
     (old new : Streams) : Type 0 where
@@ -130,9 +130,9 @@ pub record StopsAtLog (carry : Bool) (patches : List Patch) (base : ℕ)
       → EachPatching carry patches base whole
       (λ outcomes last. length log_bytes < length (log_text patches outcomes))
 
--- just one byte was read after the millionth sector. A patch that reaches past that sector waits
--- for the end: the log has just the lines of the patches before the first of these, and just the
--- sectors before it went out, or all. No sink was flushed
+-- exactly one byte was read after the millionth sector. A patch that reaches past that sector waits
+-- for the end of the image. So the log has exactly the lines of the patches before the first such
+-- patch, and exactly the sectors before it were sent, or all sectors. No sink was flushed
 pub record StopsBeyond (carry : Bool) (patches : List Patch) (base : ℕ)
     (read sent log_bytes : List ℕ)
     (old new : Streams) : Type 0 where
@@ -147,7 +147,8 @@ pub record StopsBeyond (carry : Bool) (patches : List Patch) (base : ℕ)
       (λ outcomes last. log_bytes ≡ log_when_too_long patches outcomes base)
   pub sent_before : length sent ≡ sent_when_too_long patches base
 
--- what was read, sent and logged, by the result: the whole patching, or what each fault leaves
+-- the bytes read, sent, and logged, by the result: the complete patching, or the state that each
+-- error leaves
 abbrev pub AppliesBy : Bool → List Patch → ℕ → List ℕ → List ℕ → List ℕ → Streams → Streams
     → Result Tally Fault → Type 0
 AppliesBy carry patches base read sent log_bytes old new (Ok tally) =
@@ -161,9 +162,9 @@ AppliesBy carry patches base read sent log_bytes old new (Err Log) =
 AppliesBy carry patches base read sent log_bytes old new (Err TooLong) =
     StopsBeyond carry patches base read sent log_bytes old new
 
--- the whole contract of `apply`: it read some bytes, sent some and logged some, and returned what fits
--- these. Each of the three has counted its own, and each sink has kept the slice that was lent to it.
--- At most `bytes_in_hand` more were read than sent
+-- the complete contract of `apply`: it read, sent, and logged some bytes, and returned a result
+-- that matches them. Each of the three streams has counted its own bytes, and each sink still has
+-- the slice that was lent to it. At most `bytes_in_hand` more bytes were read than sent
 pub record Applies (carry : Bool) (patches : List Patch) (base : ℕ) (old new : Streams)
     (result : Result Tally Fault) : Type 0 where
   pub read : List ℕ
@@ -180,7 +181,7 @@ pub record Applies (carry : Bool) (patches : List Patch) (base : ℕ) (old new :
   pub in_hand : length read ≤ length sent + bytes_in_hand
   pub answers : AppliesBy carry patches base read sent log_bytes old new result
 
--- what a contract sees of an output that keeps nothing and never fails
+-- an output that keeps nothing and never fails, as contracts see it
 abbrev pub null_outgoing : ℕ → ℕ → Bool → Outgoing
 null_outgoing taken flushes finished = record {
   written = None;
@@ -192,7 +193,7 @@ null_outgoing taken flushes finished = record {
   lent = None;
 }
 
--- the whole contract of `check`: that of `apply` with an output that keeps nothing
+-- the complete contract of `check`: the contract of `apply` with an output that keeps nothing
 abbrev pub Checks : Bool → List Patch → ℕ → Incoming → Incoming → Outgoing → Outgoing
     → Result Tally Fault → Type 0
 Checks carry patches base image image' log log' result =
@@ -202,8 +203,8 @@ Checks carry patches base image image' log log' result =
 
 -- ---- the same in plain words
 
--- if the bytes of the image and the output are known: all of the image was read, and the output has
--- got the patched image after what it had
+-- if the bytes of the image and the output are known: all of the image was read, and the patched
+-- image was appended to the output
 abbrev pub WritesPatched : Bool → List Patch → ℕ → Incoming → Incoming → Outgoing → Outgoing
     → Type 0
 WritesPatched carry patches base image image' out out' =
@@ -211,8 +212,8 @@ WritesPatched carry patches base image image' out out' =
     → (image'.rest ≡ Some [])
     × EachPatching carry patches base bytes (λ outcomes last. out'.written ≡ Some (earlier ++ last))
 
--- if the bytes of the image and the log are known: the log has got the log of the patches after
--- what it had, and the tally has its counts
+-- if the bytes of the image and the log are known: the log of the patches was appended to the log,
+-- and the tally has its counts
 abbrev pub WritesLog : Bool → List Patch → ℕ → Incoming → Outgoing → Outgoing → Tally → Type 0
 WritesLog carry patches base image log log' tally =
     (bytes earlier : List ℕ) → image.rest ≡ Some bytes → log.written ≡ Some earlier
@@ -220,15 +221,15 @@ WritesLog carry patches base image log log' tally =
     (log'.written ≡ Some (earlier ++ log_text patches outcomes))
     × (tally ≡ patch_tally bytes outcomes))
 
--- `image` may be the image that was read when this fault came
+-- `whole` may be the image that was read when this error occurred
 abbrev pub MayBeImageAfter : Fault → Option (List ℕ) → List ℕ → List ℕ → Type 0
 MayBeImageAfter Read left read whole = MayBeImage read whole
 MayBeImageAfter Write left read whole = MayBeImageAtEnd left read whole
 MayBeImageAfter Log left read whole = MayBeImageAtEnd left read whole
 MayBeImageAfter TooLong left read whole = MayBeImage read whole
 
--- after a fault: what the log has got begins the log of each run on each image that may be the
--- one that was read
+-- after an error: the bytes logged begin the log of each run on each image that may be the one that
+-- was read
 pub record BeginsLog (carry : Bool) (patches : List Patch) (base : ℕ) (image image' : Incoming)
     (log log' : Outgoing) (fault : Fault) : Type 0 where
   pub read : List ℕ
@@ -239,8 +240,8 @@ pub record BeginsLog (carry : Bool) (patches : List Patch) (base : ℕ) (image i
       → EachPatching carry patches base whole
       (λ outcomes last. IsBeginning log_bytes (log_text patches outcomes))
 
--- if the bytes of the image and the output are known: no more were read and have not gone out than
--- may be in hand
+-- if the bytes of the image and the output are known: at most `bytes_in_hand` bytes were read and
+-- not sent
 abbrev pub HoldsFew : Streams → Streams → Type 0
 HoldsFew old new =
     (given left earlier now : List ℕ) → old.image.rest ≡ Some given → new.image.rest ≡ Some left
@@ -252,8 +253,8 @@ abbrev pub HoldsFewCounted : Streams → Streams → Type 0
 HoldsFewCounted old new =
     new.image.given + old.out.taken ≤ old.image.given + new.out.taken + bytes_in_hand
 
--- if damage is carried, and the bytes of the image and the output are known: the output has got,
--- after what it had, the image in which the patches have kept the damage
+-- if damage is carried, and the bytes of the image and the output are known: the image in which the
+-- patches kept the damage was appended to the output
 abbrev pub WritesCarried : List Patch → ℕ → Incoming → Outgoing → Outgoing → Type 0
 WritesCarried patches base image out out' =
     (bytes earlier : List ℕ) → AreBytes bytes → image.rest ≡ Some bytes → out.written ≡ Some earlier

@@ -1,4 +1,4 @@
--- Plumbing of `apply` and `check`: how far a run over a source and two sinks has come.
+-- Plumbing of `apply` and `check`: the progress of a run over a source and two sinks.
 use Rattle.std.specs.Prelude.{◌≡◌, ℕ, ◌+◌, ◌-◌, ◌*◌, ◌≤◌, Bool, true, List, ◌++◌}
 use Rattle.std.specs.Prelude.{take, drop, Option, IsSome, Result, Ok, Err}
 use Rattle.std.specs.Io.KnownBytes.{IsAtEnd}
@@ -12,8 +12,8 @@ use Rattle.cd_read.specs.declared.fault.Fault.{Fault}
 use Rattle.cd_stream.specs.Transfer.{Gives, Takes}
 use Rattle.cd_run.specs.declared.run.PatchRun.{PatchRun}
 
--- the run since `start`, over these streams: what has come, gone out and been logged is what the run
--- has reached, nothing failed, and no sink was flushed
+-- the run since `start`, over these streams: the bytes read, sent, and logged are those that the
+-- run has reached, nothing failed, and no sink was flushed
 pub record PassInvariant (carry : Bool) (taken left : List Patch) (base : ℕ) (start now : Streams)
     (window : List (List ℕ)) (block sectors applied : ℕ) (tail : Option (List ℕ))
     (closed : Bool) : Type 0 where
@@ -29,14 +29,14 @@ pub record PassInvariant (carry : Bool) (taken left : List Patch) (base : ℕ) (
   pub state : Reached carry taken left base seen done window outcomes block sectors applied tail
       closed
 
--- the same of the values of a state and the sectors in hand
+-- `PassInvariant`, for the fields of a run and the sectors in hand
 abbrev pub HoldsInvariant : Bool → List Patch → List Patch → ℕ → Streams → Streams → PatchRun
     → List (List ℕ) → Type 0
 HoldsInvariant carry taken left base start now run hand =
     PassInvariant carry taken left base start now (window_of run hand) run.block run.sectors
     run.applied (tail_of run hand) (closed_at run.stage)
 
--- a step has gone well and the run goes on, or the call ends by its fault
+-- a step succeeded and the run continues, or the call ends with its error
 abbrev pub Steps : {X : Type 0} → Bool → List Patch → List Patch → List Patch → List Patch → ℕ
     → Streams → Streams → PatchRun → List (List ℕ) → Result X Fault → Type 0
 Steps carry taken left taken' left' base start now run hand (Ok x) =
@@ -44,20 +44,20 @@ Steps carry taken left taken' left' base start now run hand (Ok x) =
 Steps carry taken left taken' left' base start now run hand (Err fault) =
     Applies carry (taken ++ left) base start now (Err fault)
 
--- ---- how much is left to do, of a number of patches: each step leaves less
+-- ---- the remaining work for a number of patches, which each step reduces
 
--- what is left of a run with `count` patches: each step makes it less, so the run ends
+-- the remaining work of a run with `count` patches: each step reduces it, so the run ends
 abbrev pub left_to_do : ℕ → PatchRun → ℕ
 left_to_do count run =
     2 * (sector_limit - run.sectors) + run.held + (count - run.decided) + (2 - run.stage)
 
--- all was done, of a number of patches
+-- the run is complete, for this number of patches
 pub record IsDone (count : ℕ) (run : PatchRun) : Type 0 where
   pub empty : run.held ≡ 0
   pub closed : run.stage ≡ 2
   pub all : count ≤ run.decided
 
--- all that one step did has gone well, or the call ends by its fault
+-- one step succeeded, or the call ends with its error
 abbrev pub Advances : {X : Type 0} → Bool → List Patch → ℕ → Streams → Streams → PatchRun
     → List (List ℕ) → Result X Fault → Type 0
 Advances carry patches base start now run hand (Ok x) =

@@ -1,4 +1,4 @@
-//! Patching an image, and what a script of patches would do to it.
+//! Applies a script of patches to an image, or checks which of its patches would be accepted.
 
 ghost use Rattle.std.specs.Prelude.{◌≡◌, ◌≢◌, ◌+◌, ◌≤◌, ◌↔◌, IfErr, IfOk, OnOk};
 ghost use Rattle.std.specs.Prelude.{true};
@@ -20,19 +20,19 @@ use cd_script::{Patch, Script};
 use cd_sector::Sector;
 use cd_stream::{Sink, Source};
 
-/// Applies the patches of a script to an image, in their order, and sends the patched image to
-/// `out` and a line for each patch to `log`, then a last line with their counts.
+/// Applies the patches of a script to an image, in the order of their blocks. Writes the patched
+/// image to `out`, and to `log` a line for each patch and a last line with their counts.
 ///
-/// `base` is the number of the first block. It goes once through the image, holds no more sectors
-/// than a patch may meet, and takes no memory. An accepted patch leaves each sector that it meets as
-/// the one consistent sector with its old header and the patched user data; with `carry` each sector
-/// that it does not rebuild keeps its old damage, and none is refused for it. A refused patch
-/// changes nothing.
+/// `base` is the number of the first block. The image is read once. At most as many sectors are
+/// held as a patch may meet, and no memory is allocated. An accepted patch turns each sector that
+/// it meets into the one consistent sector with the patched user data and the old header, or the
+/// header with the patch's address. With `carry`, each sector that the patch does not rebuild keeps
+/// its old damage, and no patch is refused for damage. A refused patch changes nothing.
 ///
 /// # Errors
 ///
-/// `Read`, `Write` and `Log` if the image, `out` or `log` has failed, `TooLong` if a byte was
-/// read after the millionth sector. A patch that is refused is not an error: the tally counts it.
+/// `Read`, `Write`, or `Log` if the image, `out`, or `log` fails, `TooLong` if a byte is read after
+/// the millionth sector. A refused patch is not an error: the tally counts it.
 ///
 /// # Examples
 ///
@@ -57,13 +57,13 @@ pub fn apply<I: Source, O: Sink, L: Sink>(
     requires out_countable { CanCountFailure (O.seen out.old).failures }
     requires log_countable { CanCountFailure (L.seen log.old).failures }
 
-    // The whole of it, also what is left after a fault, and how far one sink has come when the other
-    // fails.
+    // The complete result, including what is left after an error, and how far one sink has got when
+    // the other fails.
     ensures report { Applies carry script.now base
         (streams (I.seen image.old) (O.seen out.old) (L.seen log.old))
         (streams (I.seen image.new) (O.seen out.new) (L.seen log.new)) result }
 
-    // What it says if nothing failed, when each fault comes, and how much it holds.
+    // The result if nothing failed, when each error occurs, and how many bytes are held.
     ensures output { OnOk result (WritesPatched carry script.now base
         (I.seen image.old) (I.seen image.new) (O.seen out.old) (O.seen out.new)) }
     ensures carried { carry ≡ true → OnOk result (WritesCarried script.now base
@@ -96,17 +96,16 @@ pub fn apply<I: Source, O: Sink, L: Sink>(
         (streams (I.seen image.old) (O.seen out.old) (L.seen log.old))
         (streams (I.seen image.new) (O.seen out.new) (L.seen log.new)) }
 {
-    // Proof step: the clauses of `apply` are proved from the one record that this call returns
-    // with.
+    // Proof step: the clauses of `apply` are proved from the one record that this call promises.
     apply_patches(image, script.patches(), base, carry, out, log)
 }
 
-/// Decides each patch of a script on an image as [`apply`] does, and sends the same log, and no
+/// Decides each patch of a script on an image as [`apply`] does, and writes the same log, but no
 /// output.
 ///
 /// # Errors
 ///
-/// Those of [`apply`], but for `Write`.
+/// The errors of [`apply`], except `Write`.
 ///
 /// # Examples
 ///
@@ -128,12 +127,12 @@ pub fn check<I: Source, L: Sink>(
     requires image_countable { CanCountFailure (I.seen image.old).failures }
     requires log_countable { CanCountFailure (L.seen log.old).failures }
 
-    // The whole of it, also what is left after a fault: what `apply` does with an output that keeps
-    // nothing.
+    // The complete result, including what is left after an error: the result of `apply` with an
+    // output that keeps nothing.
     ensures report { Checks carry script.now base
         (I.seen image.old) (I.seen image.new) (L.seen log.old) (L.seen log.new) result }
 
-    // What it says if nothing failed, what the log has after a fault, and when each fault comes.
+    // The log if nothing failed, the log after an error, and when each error occurs.
     ensures log { IfOk result (WritesLog carry script.now base
         (I.seen image.old) (L.seen log.old) (L.seen log.new)) }
     ensures begins { IfErr result (λ fault. BeginsLog carry script.now base
@@ -154,13 +153,13 @@ pub fn check<I: Source, L: Sink>(
         → AnswersByEnd (I.seen image.new) result }
     ensures no_output { result ≢ Err Fault.Write }
 {
-    // The same engine, with an output that keeps nothing.
+    // The same function as in `apply`, with an output that keeps nothing.
     let mut nothing = NullSink::new();
     apply_patches(image, script.patches(), base, carry, &mut nothing, log)
 }
 
-/// Applies patches in their order, in one pass. `apply` and `check` only call it, so the two cannot
-/// disagree, and what it promises is the one record from which their clauses follow.
+/// Applies patches in their order, in one pass. `apply` and `check` only call this function, so the
+/// two cannot disagree. The clauses of both follow from the one record that it promises.
 fn apply_patches<I: Source, O: Sink, L: Sink>(
     image: &mut I,
     patches: &[Patch],

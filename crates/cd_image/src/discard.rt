@@ -13,7 +13,7 @@ pub(crate) struct NullSink {
 impl NullSink {
     ghost use Rattle.std.specs.Prelude.{◌≡◌, None, false};
 
-    /// A sink that has got no byte.
+    /// Creates a sink to which nothing has been written.
     pub(crate) fn new() -> Self
         ensures seen { ⟦<NullSink as Sink>⟧.seen result
             ≡ record {

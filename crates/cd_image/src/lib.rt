@@ -1,5 +1,6 @@
-//! Patching an image of raw CD sectors (ECMA-130, 14) on its way from a source to a sink, in one
-//! pass. The sources and sinks of cd_stream and the reports of cd_report are exported here too.
+//! Applies a script of patches to an image of raw CD sectors (ECMA-130, 14) while copying it from a
+//! source to a sink, in one pass. Re-exports the sources and sinks of cd_stream and the reports of
+//! cd_report.
 //!
 //! ```
 //! let script = parse(rt.alloc(), b"cdpatch 1\nset 0 0 41\n")?;
@@ -10,7 +11,8 @@
 //! assert_eq!(rt; out.written().get(16), Some(&0x41)); // the first user byte
 //! ```
 //!
-//! The log has a line for each patch, in the order of their blocks, and then their counts:
+//! The log has a line for each patch, in the order of their blocks, and a last line with their
+//! counts:
 //!
 //! | Line | When |
 //! |---|---|
@@ -18,8 +20,8 @@
 //! | `line L: refused: WHY` | it was refused, and changes nothing |
 //! | `applied A refused R` | at the end |
 //!
-//! [`apply`] holds no more sectors than a patch may meet, three, and takes no memory. An image has
-//! at most a million sectors, and its first block a number of at most 449,849.
+//! [`apply`] holds at most three sectors, as many as a patch may meet, and allocates no memory. An
+//! image has at most a million sectors, and the number of its first block is at most 449,849.
 //!
 //! Tests: `crates/cd_image_tests`.
 #![tactic(auto)]

@@ -1,5 +1,6 @@
-//! A run of patches from a source to two sinks. It holds no more sectors than a patch may meet, so
-//! it takes no memory, and want of memory is not among its faults.
+//! One pass of a script's patches over an image, from a source to two sinks. It holds at most as
+//! many sectors as a patch may meet, so it allocates no memory, and a lack of memory is not among
+//! its errors.
 
 ghost use Rattle.std.specs.Prelude.{◌≡◌, ℕ, ◌+◌, ◌<◌, ◌≤◌, ◌∷◌, ◌++◌, [], false};
 ghost use Rattle.std.specs.Prelude.{All, Bool, List, None, Some, OnOk, IfOk, IfSome, IfNone};
@@ -27,8 +28,8 @@ use cd_script::{Patch, lend};
 use cd_sector::Sector;
 use cd_stream::{Sink, SinkFailed, Source, write_all};
 
-/// Proof step: reads the next sector of an image, after `count` others, to one of the places, so
-/// that a clause can say that the others stay.
+/// Proof step: reads the next sector of an image, after `count` others, into `hand[place]`, so that
+/// a clause can say that the places before it are unchanged.
 fn read_to<I: Source>(
     hand: &mut [Sector],
     place: u32,
@@ -122,7 +123,7 @@ fn write_tail<O: Sink>(run: &mut PatchRun, hand: &[Sector], out: &mut O) -> Resu
     Ok(())
 }
 
-/// Decides a patch and writes its line, before the sectors that it meets go out.
+/// Decides a patch and writes its line, before the sectors that it meets are sent.
 fn decide_next<L: Sink>(
     run: &mut PatchRun,
     hand: &mut [Sector],
@@ -155,7 +156,8 @@ fn decide_next<L: Sink>(
     Ok(())
 }
 
-/// What a run has to know of the patch that is next, if its front block is this one.
+/// Describes the next patch to a run whose front block is `block`. The number of blocks that the
+/// patch meets is calculated only if it begins at that block; otherwise it is given as 1.
 fn ahead(patch: Option<&Patch>, block: u32) -> Option<Ahead>
     requires { IfSome patch (λ p. IsPatch p.now) }
     ensures some { IfSome patch.entry (λ p. (a : TheAhead) × (result ≡ Some a)
@@ -176,7 +178,7 @@ fn ahead(patch: Option<&Patch>, block: u32) -> Option<Ahead>
     }
 }
 
-/// The patch at a place, if there are so many.
+/// The patch with index `place`, or `None` after the last patch.
 fn patch_at(patches: &[Patch], place: u32) -> Option<&Patch>
     ensures some { IfSome result (λ p. slice_get patches.now place ≡ Some p.now) }
     ensures none { IfNone result (length patches.now ≤ place) }
@@ -184,8 +186,9 @@ fn patch_at(patches: &[Patch], place: u32) -> Option<&Patch>
     patches.get(place as usize)
 }
 
-/// One step. Returns whether there was anything to do. So the byte after the millionth sector is
-/// read before the patches are decided that reach past that sector; if it comes, they have no line.
+/// Does the next step, and returns whether there was one. The byte after the millionth sector is
+/// read before the patches that reach past that sector are decided; if there is such a byte, these
+/// patches get no line.
 pub(crate) fn advance<I: Source, O: Sink, L: Sink>(
     run: &mut PatchRun,
     hand: &mut [Sector],
@@ -235,7 +238,7 @@ pub(crate) fn advance<I: Source, O: Sink, L: Sink>(
     Ok(true)
 }
 
-/// After the last step: writes the last line, and finishes.
+/// Writes the last line of the log after the last step, and flushes both sinks.
 pub(crate) fn close<O: Sink, L: Sink>(
     run: &PatchRun,
     hand: &[Sector],
@@ -270,8 +273,8 @@ pub(crate) fn close<O: Sink, L: Sink>(
     Ok(tally)
 }
 
-/// Proof step: the flush of the output, apart from `close`, so that a wrong flush is refused here
-/// and not by a long search.
+/// Proof step: flushes the output. It is separate from `close`, so that a wrong flush is refused
+/// here and not after a long search.
 fn finish_output<O: Sink>(out: &mut O) -> Result<(), SinkFailed>
     requires { CanCountFailure (O.seen out.old).failures }
     ensures { Flushes (O.seen out.old) (O.seen out.new) result }

@@ -1,4 +1,4 @@
-//! Sending the log of patches: a line for each, then their counts.
+//! Writes the log: a line for each patch, then a line with their counts.
 
 ghost use Rattle.std.specs.Prelude.{◌≡◌};
 ghost use Rattle.cd_stream.specs.Transfer.{Flushes, Sends};
@@ -12,21 +12,21 @@ use cd_run::{counts_line, outcome_line};
 use cd_script::Patch;
 use cd_stream::{Sink, SinkFailed, write_all};
 
-/// What became of the patches of a script, and what the image is.
+/// The numbers of accepted and refused patches, and the size of the image.
 #[derive(Clone, Copy, Debug, PartialEq, Eq)]
 pub struct Tally {
     /// Patches that were accepted.
     pub applied: u32,
     /// Patches that were refused.
     pub refused: u32,
-    /// Whole sectors of the image.
+    /// Complete sectors of the image.
     pub sectors: u32,
-    /// Bytes after the last whole sector.
+    /// Bytes after the last complete sector.
     pub tail: u16,
 }
 
-/// A write to the log failed, or its flush. The sink has counted it. A separate type, so that `?`
-/// maps it to `Fault::Log`: a `SinkFailed` becomes the `Fault` of the output.
+/// A write or a flush of the log failed, and the sink has counted the failure. It is a separate
+/// type so that `?` maps it to `Fault::Log`; a `SinkFailed` becomes the `Fault` of the output.
 #[derive(Clone, Copy, Debug)]
 pub(crate) struct LogFailed;
 
@@ -56,7 +56,7 @@ pub(crate) fn send_outcome<L: Sink>(
     Ok(write_all(log, outcome_line(patch.line, outcome).as_slice())?)
 }
 
-/// Writes the last line.
+/// Writes the last line, with the counts.
 pub(crate) fn send_counts<L: Sink>(applied: u32, refused: u32, log: &mut L) -> Result<(), LogFailed>
     requires { CanCountFailure (L.seen log.old).failures }
     ensures { Sends (L.seen log.old) (L.seen log.new) (counts_line applied refused) result }
@@ -64,7 +64,7 @@ pub(crate) fn send_counts<L: Sink>(applied: u32, refused: u32, log: &mut L) -> R
     Ok(write_all(log, counts_line(applied, refused).as_slice())?)
 }
 
-/// Proof step: the flush of the log, whose failure is a `LogFailed`.
+/// Proof step: flushes the log; a failure is a `LogFailed`.
 pub(crate) fn finish_log<L: Sink>(log: &mut L) -> Result<(), LogFailed>
     requires { CanCountFailure (L.seen log.old).failures }
     ensures { Flushes (L.seen log.old) (L.seen log.new) result }

@@ -1,9 +1,9 @@
-//! Tests of all that goes over whole images: of cd_image (`apply`, `check`), cd_report (`list`, `audit`) and cd_read, of cd_stream
-//! (`streams`), and of cd_program and cd_args (`program`). What these share is in `images`.
+//! Tests of everything that processes whole images: cd_image (`apply`, `check`), cd_report (`list`, `audit`), cd_read, cd_stream
+//! (`streams`), and cd_program and cd_args (`program`). Their shared code is in `images`.
 //!
-//! `patches`, `noise` and `reports` have a row for each rule; whatever else there is to know of an image and a script stands in the
-//! worked cases (`tests/cases`). Failures at each byte: `failing`, `reports`. The largest images, and one with no end: `large`;
-//! readers that go on after their end: `resumed`.
+//! `patches`, `noise` and `reports` have a row for each rule; everything else about an image and a script is in the worked cases
+//! (`tests/cases`). Failures at each byte: `failing`, `reports`. The largest images, and one without an end: `large`; readers that continue
+//! after their end: `resumed`.
 #![tactic(auto)]
 
 #[cfg(test)]

@@ -1,4 +1,4 @@
-//! Streams, images, scripts, and what they must give.
+//! Tests with streams, images and scripts, and their expected results.
 
 use std::process::Abort;
 
@@ -16,7 +16,7 @@ mod reports;
 mod resumed;
 mod streams;
 
-/// What a row of a table says is so. If it is not, a number is printed: that of the row, from 0 on, or of its bytes.
+/// Asserts a row of a table. On failure, prints a number: the index of the row, from 0 on, or the number of its bytes.
 fn holds(rt: &impl Abort, is_so: bool, row: usize) {
     assert!(rt; is_so, "row {row}");
 }

@@ -1,5 +1,5 @@
--- Sixteen diagonals of both planes side by side: the bytes that their lanes take, and the sums in
--- their order.
+-- Sixteen diagonals of both planes at a time: the bytes of their lanes, and the order of their
+-- sums.
 use Rattle.std.proofs.Common.{◌≡◌, ℕ, ◌+◌, ◌-◌, ◌*◌, ◌/◌, ◌%◌, ◌<◌, ◌≤◌, ◌⊎◌, inl, inr, nat_lt, List, [], ◌∷◌, ◌++◌, length, get_or, set, replicate, take, bit_and, bit_xor, refl, sym, ap, ap₂, ◌∙◌, arith, append_assoc}
 use Rattle.std.specs.Int.Bits.{xor_zero_r}
 use Rattle.std.specs.Bool.{if◌then◌else◌}
@@ -28,7 +28,7 @@ use Rattle.cd_code.proofs.PlaceLemmas.{length-bytes_at, bytes_at-byte, length-di
 length-word : (s : List ℕ) (plane n : ℕ) → length (bytes_at s (diagonal_input plane n)) ≡ 43
 length-word s plane n = length-bytes_at s (diagonal_input plane n) ∙ length-diagonal_input plane n
 
--- a lane that takes a byte
+-- a lane with a byte in this step
 taken-more : (s : List ℕ) (top step i : ℕ) → i / 2 ≤ top → top ≤ step + i / 2
     → step + i / 2 < top + 43
     → bytes_up_to s top (step + 1) i
@@ -94,7 +94,7 @@ weighted-unbegun s top step plain weighted sums i h before =
     ∙ ap (λ n. second_syndrome (take n (bytes_at s (diagonal_input (i % 2) (top - i / 2))))) none
     ∙ second_syndrome-nil
 
--- one step: a lane takes its byte, or stays
+-- one step: each lane adds its byte, or does not change
 pub SumsUpTo-step : (s : List ℕ) (top step : ℕ) (plain weighted next next_weighted : List ℕ)
     → AreBytes s → 15 ≤ top
     → SumsUpTo s top step plain weighted
@@ -139,7 +139,7 @@ SumsUpTo-step s top step plain weighted next next_weighted bytes least sums take
     ] in
     record { first = λ i h. (lane i h).0; second = λ i h. (lane i h).1 }
 
--- a step at which no lane has ended: those that have not begun take a byte 00, which leaves them
+-- a step in which no lane has ended: a byte 00 does not change the lanes that have not begun
 pub SumsUpTo-begin : (s : List ℕ) (top step : ℕ) (plain weighted lanes next next_weighted : List ℕ)
     → AreBytes s → 15 ≤ top → step < top + 28 → SumsUpTo s top step plain weighted
     → ((i : ℕ) → i < 32 → top ≤ step + i / 2
@@ -167,7 +167,7 @@ SumsUpTo-begin s top step plain weighted lanes next next_weighted bytes least mo
           ∙ double-zero ∙ sym zero,
     ))
 
--- the lanes of the first step of diagonals 15 to 0: only those of the last one take a byte
+-- the lanes of the first step of diagonals 15 to 0: only those of diagonal 0 have a byte
 abbrev pub corner : List ℕ → List ℕ
 corner s = set (set (replicate 32 0) 30 (get_or s 12 0)) 31 (get_or s 13 0)
 
@@ -186,7 +186,7 @@ corner-none s i h before =
 
 -- ---- diagonals in their order
 
--- the lanes of ended diagonals, the last one first
+-- the sums of ended diagonals, the last lanes first
 pub SumsOf-rising : (s : List ℕ) (top step count : ℕ) (number : ℕ → ℕ)
     (plain weighted next next_weighted : List ℕ) → count ≤ 32
     → ((i : ℕ) → i < count
@@ -250,7 +250,7 @@ SumsOf-joined word low low_weighted high high_weighted plain weighted below abov
     ] in
     record { first = λ i h. (lane i h).0; second = λ i h. (lane i h).1 }
 
--- the two rows of the diagonals' parity
+-- the sums with the two rows of the diagonals' parity
 pub SumsOf-parity : (s : List ℕ) (count : ℕ) (number : ℕ → ℕ)
     (first second plain weighted one one_weighted two two_weighted : List ℕ) → count ≤ 32
     → SumsOf (λ i. bytes_at s (diagonal_input (number i % 2) (number i / 2))) count plain weighted
@@ -297,7 +297,7 @@ pub lane_mask-no : (k : ℕ) → k < 146 → (k < 30) ⊎ (116 ≤ k) → get_or
 lane_mask-no k h outside =
     let e : mask_at k ≡ 0 = grind (arith, nat_tests) in lane_mask-entry k h ∙ e
 
--- lanes under a mask
+-- a lane under a mask
 mask_lanes-lane : (lanes mask : List ℕ) → length lanes ≡ 32 → length mask ≡ 32 → (i : ℕ) → i < 32
     → get_or (zip2 bit_and lanes mask) i 0 ≡ bit_and (get_or lanes i 0) (get_or mask i 0)
 mask_lanes-lane lanes mask hl ht i h =
@@ -321,7 +321,7 @@ mask_lanes-leaves lanes mask hl ht i h e =
     let none : x % 1 ≡ 0 = omega arith in
     mask_lanes-lane lanes mask hl ht i h ∙ ap (bit_and x) e ∙ and_mask x 0 ∙ none
 
--- lanes by the places of the table
+-- lanes in the order of the table
 pub rising_lane : (v w : List ℕ) → length v ≡ 32 → (i : ℕ) → i < 32
     → get_or (pick_l 0 (v ++ w) RISING) i 0 ≡ get_or v (2 * (15 - i / 2) + i % 2) 0
 rising_lane v w long i h =

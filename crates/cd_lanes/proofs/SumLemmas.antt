@@ -17,7 +17,7 @@ use Rattle.cd_code.proofs.PlaceLemmas.{length-bytes_at, bytes_at-byte, bytes_at-
 
 -- ---- sums
 
--- one byte more in each word
+-- one more byte in each word
 pub SumsOf-more : (word longer : ℕ → List ℕ) (count : ℕ)
     (plain weighted row next next_weighted : List ℕ)
     → SumsOf word count plain weighted → ((i : ℕ) → i < count → get_or row i 0 < 256)

@@ -1,4 +1,4 @@
-//! The syndromes of a sector's 86 P columns (ECMA-130, Annex A).
+//! Computes the syndromes of the 86 P columns of a sector (ECMA-130, Annex A).
 
 ghost use Rattle.std.specs.Prelude.{◌/◌, ◌%◌};
 ghost use Rattle.cd_code.specs.CodeWords.{SumsOf, bytes_at, column_input, column_of};
@@ -9,7 +9,7 @@ use cd_code::{
     column_sums,
 };
 
-/// The syndromes of each column and its parity (ECMA-130, Annex A).
+/// Computes both syndromes of each column, including its parity (ECMA-130, Annex A).
 ///
 /// # Examples
 ///

@@ -1,7 +1,7 @@
-//! The Q diagonals of a sector, sixteen neighbours of both planes side by side (ECMA-130, Annex A).
-//! At step t diagonal n takes its byte t - n. That byte stands in row t mod 26 and in column t - n,
-//! so neighbours' bytes stand side by side in the sector, those of the diagonal with the highest
-//! number first.
+//! Computes the syndromes of the Q diagonals of a sector, sixteen neighbours of both planes at a
+//! time (ECMA-130, Annex A). Step t processes byte t - n of diagonal n. This byte is in row t mod
+//! 26 and in column t - n, so the bytes of neighbours are adjacent in the sector, the highest
+//! diagonal first.
 
 ghost use Rattle.std.specs.Prelude.{◌≡◌, ℕ, ◌+◌, ◌-◌, ◌*◌, ◌/◌, ◌%◌, ◌<◌, ◌≤◌, ◌⊎◌, length, slice_index};
 ghost use Rattle.cd_code.specs.CodeWords.{SumsOf, bytes_at, diagonal_input, diagonal_of};
@@ -13,10 +13,10 @@ use cd_code::{
 };
 use std::simd::prelude::*;
 
-/// How far the last of sixteen neighbours is below the highest.
+/// The number of the highest of sixteen neighbours, less the number of the lowest.
 const BELOW_TOP: usize = 15;
 
-/// The first of the words of the high sixteen diagonals, which is diagonal 10 of plane 0.
+/// The number of the first word of the high sixteen diagonals: diagonal 10 of plane 0.
 pub(crate) const HIGH_WORDS: usize = 20;
 
 /// `FF` for the 86 bytes of a row, and `00` on both sides: the mask of step k is the 32 bytes from
@@ -30,14 +30,14 @@ static LANE_MASKS: [u8; 146] = [
     0, 0, 0, 0, 0, 0, 0, 0, 0, 0, 0, 0, 0, 0, 0, 0, 0, 0,
 ];
 
-/// For each lane the lane that it takes its value from: pairs of lanes in the opposite order.
+/// The source of each lane when the order of sixteen pairs of lanes is reversed.
 const RISING: [usize; 32] = [
     30, 31, 28, 29, 26, 27, 24, 25, 22, 23, 20, 21, 18, 19, 16, 17, 14, 15, 12, 13, 10, 11, 8, 9,
     6, 7, 4, 5, 2, 3, 0, 1,
 ];
 
-/// The sums of sixteen diagonals of both planes, of which `top` is the highest, over the bytes of
-/// the steps below `step`. Lane i is diagonal top - i / 2 of plane i % 2.
+/// The sums of sixteen diagonals of both planes, over their bytes in the steps below `step`. `top`
+/// is the highest diagonal. Lane i is diagonal top - i / 2 of plane i % 2.
 #[derive(Clone, Copy)]
 struct Diagonals {
     top: usize,
@@ -50,7 +50,7 @@ struct Diagonals {
 }
 
 impl Diagonals {
-    /// The diagonals 25 to 10, of which none has a byte before step 10.
+    /// The sums of diagonals 25 to 10 before step 10, in which the first of them begins.
     fn high(bytes: &[u8; SECTOR_SIZE]) -> Self
         ensures top { result.top ≡ 25 }
         ensures step { result.step ≡ 10 }
@@ -63,7 +63,8 @@ impl Diagonals {
         }
     }
 
-    /// The diagonals 15 to 0, of which the last takes the first byte of its plane at step 0.
+    /// The sums of diagonals 15 to 0 after step 0, which adds the first byte of each plane to
+    /// diagonal 0.
     fn low(bytes: &[u8; SECTOR_SIZE]) -> Self
         ensures top { result.top ≡ 15 }
         ensures step { result.step ≡ 1 }
@@ -80,9 +81,9 @@ impl Diagonals {
         }
     }
 
-    /// Takes the steps below `end`, within one turn of 26 rows, at which some diagonals have not
-    /// begun and none has ended. The sums of those that have not begun are `00`, and a byte `00`
-    /// leaves them so.
+    /// Processes the steps below `end`, within one turn of 26 rows, in which some diagonals have
+    /// not begun and none has ended. The sums of diagonals that have not begun are `00`, and a byte
+    /// `00` does not change them.
     #[inline(always)]
     fn prologue(self, bytes: &[u8; SECTOR_SIZE], end: usize) -> Self
         requires forward { self.step ≤ end }
@@ -106,7 +107,8 @@ impl Diagonals {
         }
     }
 
-    /// Takes the steps below `end`, within one turn of 26 rows, at which all diagonals take a byte.
+    /// Processes the steps below `end`, within one turn of 26 rows, in which all diagonals have a
+    /// byte.
     #[inline(always)]
     fn steady(self, bytes: &[u8; SECTOR_SIZE], end: usize) -> Self
         requires forward { self.step ≤ end }
@@ -130,8 +132,8 @@ impl Diagonals {
         }
     }
 
-    /// Takes the steps below `end`, within one turn of 26 rows, at which some diagonals have ended.
-    /// The mask keeps the sums of those as they are.
+    /// Processes the steps below `end`, within one turn of 26 rows, in which some diagonals have
+    /// ended. The mask leaves the sums of these diagonals unchanged.
     #[inline(always)]
     fn epilogue(self, bytes: &[u8; SECTOR_SIZE], end: usize) -> Self
         requires forward { self.step ≤ end }
@@ -155,7 +157,7 @@ impl Diagonals {
         }
     }
 
-    /// The sums in the order of the diagonals.
+    /// The sums, the lowest diagonal first.
     fn rising(self) -> LaneSums
         ensures plain { (i : ℕ) → i < 32
             → slice_index result.plain i ≡ slice_index self.sums.plain (2 * (15 - i / 2) + i % 2) }
@@ -170,7 +172,7 @@ impl Diagonals {
     }
 }
 
-/// The bytes that the diagonals from `top` down take at a step, all of them in one row.
+/// The bytes of the diagonals from `top` down in a step, all of them in one row.
 #[inline(always)]
 fn lane_window(bytes: &[u8; SECTOR_SIZE], top: usize, step: usize, row: usize) -> u8x32
     requires row { row ≡ step % 26 }
@@ -183,8 +185,8 @@ fn lane_window(bytes: &[u8; SECTOR_SIZE], top: usize, step: usize, row: usize) -
     lanes_at(bytes, HEADER + COLUMNS * row + 2 * step - 2 * top)
 }
 
-/// The mask of step k: `FF` for each of 32 lanes that takes a byte, k steps after the first lane
-/// began.
+/// The mask of step k, counted from the step in which the lowest diagonal begins: `FF` for each of
+/// 32 lanes with a byte in this step, and `00` for the others.
 #[inline(always)]
 fn lane_mask(k: usize) -> u8x32
     requires { k < 58 }
@@ -196,7 +198,7 @@ fn lane_mask(k: usize) -> u8x32
     lanes_at(&LANE_MASKS, 2 * k)
 }
 
-/// Proof step: the lanes whose `mask` is `FF`, and `00` for those whose `mask` is `00`.
+/// Proof step: keeps the lanes whose `mask` is `FF`, and sets those whose `mask` is `00` to `00`.
 #[inline(always)]
 fn mask_lanes(lanes: u8x32, mask: u8x32) -> u8x32
     ensures takes { (i : ℕ) → i < 32 → slice_index mask i ≡ 255
@@ -206,19 +208,19 @@ fn mask_lanes(lanes: u8x32, mask: u8x32) -> u8x32
     lanes & mask
 }
 
-/// Sixteen pairs of lanes, the last one first.
+/// Reverses the order of sixteen pairs of lanes, but not the two lanes of a pair.
 fn reverse_pairs(v: u8x32) -> u8x32
     ensures { (i : ℕ) → i < 32 → slice_index result i ≡ slice_index v (2 * (15 - i / 2) + i % 2) }
 {
     v.swizzle(RISING)
 }
 
-/// The syndromes of the first 43 bytes of diagonals 0 to 15. Those of diagonals 10 to 15 are left
-/// unfinished.
+/// The syndromes of the first 43 bytes of diagonals 0 to 15. The sums of diagonals 10 to 15 remain
+/// incomplete.
 ///
-/// If few diagonals take a byte, the steps are divided into two loops, here and below: a loop so short is
-/// written out, with its masks as constants, and a register of which no lane takes a byte is left
-/// out.
+/// Here and below, the steps in which few diagonals have a byte are split into two loops. The
+/// compiler unrolls such a short loop, with its masks as constants, and omits a register if none of
+/// its lanes has a byte.
 pub(crate) fn low_input_sums(bytes: &[u8; SECTOR_SIZE]) -> LaneSums
     ensures { SumsOf (λ i. bytes_at bytes.now (diagonal_input (i % 2) (i / 2))) 20
         result.plain result.weighted }
@@ -269,7 +271,7 @@ fn join_halves(low: LaneSums, high: LaneSums) -> DiagonalSums
     sums
 }
 
-/// The syndromes of each diagonal and its parity (ECMA-130, Annex A).
+/// Computes both syndromes of each diagonal, including its parity (ECMA-130, Annex A).
 ///
 /// # Examples
 ///

@@ -1,5 +1,6 @@
-//! The P and the Q parity of a sector (ECMA-130, Annex A). The words of both planes are numbered in one
-//! row: word i is number i / 2 of plane i % 2, so the bytes of neighbouring words stand side by side.
+//! Writes the P and the Q parity of a sector (ECMA-130, Annex A). The words of both planes are
+//! numbered together: word i is number i / 2 of plane i % 2, so the bytes of neighbouring words are
+//! adjacent.
 
 ghost use Rattle.std.specs.Prelude.{◌≡◌, ℕ, ◌+◌, ◌<◌, ◌≤◌, ◌⊎◌, slice_index};
 ghost use Rattle.cd_code.specs.CodeWords.{column_of, diagonal_of};
@@ -13,7 +14,7 @@ use cd_code::{
     put_lanes,
 };
 
-/// Makes the P parity of each column (ECMA-130, Annex A).
+/// Computes and writes the P parity of each column (ECMA-130, Annex A).
 ///
 /// # Examples
 ///
@@ -34,7 +35,8 @@ pub fn fill_columns(bytes: &mut [u8; SECTOR_SIZE])
     put_pairs(bytes, P_PARITY + BACK_COLUMN, COLUMNS, lanes.back);
 }
 
-/// Makes the Q parity of each diagonal, which runs through the P parity too (ECMA-130, Annex A).
+/// Computes and writes the Q parity of each diagonal, whose bytes include P parity
+/// (ECMA-130, Annex A).
 ///
 /// # Examples
 ///

@@ -1,4 +1,4 @@
-//! One line of a report, a log or a message, made in place.
+//! One line of a report, a log, or a message, built in a fixed buffer.
 //!
 //! ```
 //! let mut line = Line::new();
@@ -7,7 +7,7 @@
 //! assert_eq!(rt; line.as_slice(), b"sectors 8".as_slice());
 //! ```
 //!
-//! A [`Line`] has at most [`LINE_SIZE`] bytes, and takes no memory.
+//! A [`Line`] has at most [`LINE_SIZE`] bytes, and allocates no memory.
 //!
 //! Tests: `crates/cd_example_tests`.
 #![tactic(auto)]

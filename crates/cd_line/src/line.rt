@@ -1,4 +1,4 @@
-//! One line of a report, a log or a message, made in place.
+//! One line of a report, a log, or a message, built in a fixed buffer.
 
 ghost use Rattle.std.specs.Prelude.{◌≡◌, ◌+◌, ◌≤◌, [], ◌++◌, decimal, drop, length, take};
 
@@ -6,12 +6,12 @@ use arrayvec::ArrayVec;
 use itoa::Buffer;
 use std::marker::Model;
 
-/// The largest number of bytes in a line. The longest line that is written names the place where
-/// old bytes differ: 51 bytes of text and three numbers of up to ten digits. Each `push` requires
-/// the room, so a line needs no memory.
+/// The largest number of bytes in a line. The longest line reports the place where old bytes
+/// differ: 51 bytes of text and three numbers of up to ten digits. Each `push` requires that there
+/// is room, so a line never allocates memory.
 pub const LINE_SIZE: usize = 96;
 
-/// The bytes of a line that is being made. A contract sees their list.
+/// A line that is being built. Contracts see it as the list of its bytes.
 #[derive(Debug, Drop)]
 pub struct Line {
     bytes: ArrayVec<u8, LINE_SIZE>,
@@ -29,7 +29,7 @@ impl Model for Line {
 }
 
 impl Line {
-    /// A line without a byte.
+    /// Creates an empty line.
     ///
     /// # Examples
     ///
@@ -48,7 +48,8 @@ impl Line {
         }
     }
 
-    /// Appends a text, for which there is room: both together have at most [`LINE_SIZE`] bytes.
+    /// Appends a text. The line must have room for it: both together have at most [`LINE_SIZE`]
+    /// bytes.
     ///
     /// See the example of [`Line::new`].
     pub fn push_text(&mut self, text: &[u8])
@@ -58,7 +59,7 @@ impl Line {
         let _ = self.bytes.try_extend_from_slice(text);
     }
 
-    /// Appends a number in decimal; there is room for ten digits.
+    /// Appends a number in decimal. The line must have room for ten digits.
     ///
     /// See the example of [`Line::new`].
     pub fn push_number(&mut self, number: u32)
@@ -80,7 +81,7 @@ impl Line {
     }
 
     /// Writes the line to the front of `text`, and returns its size in bytes. The rest of `text`
-    /// stays.
+    /// does not change.
     ///
     /// # Examples
     ///

@@ -1,8 +1,8 @@
 //! Tests of cd_code (`tests::codes`), cd_sector (`tests::sectors`), cd_delta (`tests::changes`) and cd_script (`tests::scripts`), and of
-//! these and cd_patch the examples of the rustdoc (`tests::examples`) and the laws (`tests::laws`).
+//! the examples of the rustdoc (`tests::examples`) and the laws (`tests::laws`) of these crates and cd_patch.
 //!
-//! The program is a test too, since a program can read a file and a test can't: it encodes the sectors of `data/cdrkit-8.bin` again from
-//! their headers and user data, and prints of each whether it is byte for byte the sector that independent encoders wrote.
+//! The program is also a test, because a program can read a file and a test cannot: it encodes the sectors of `data/cdrkit-8.bin` again
+//! from their headers and user data, and prints for each whether all its bytes are those that independent encoders wrote.
 #![tactic(auto)]
 
 #[cfg(test)]
@@ -26,7 +26,7 @@ fn main(rt: HostRuntime) -> io::Result<()> {
     println!(rt; "sectors {count} tail {left}")
 }
 
-/// Whether a sector is what its header and user data are encoded to.
+/// Whether encoding the header and the user data of a sector gives the same sector.
 fn is_encoded_alike(bytes: &[u8; SECTOR_SIZE]) -> bool {
     let sector = Sector::from_bytes(*bytes);
     let [minute, second, fraction, _] = sector.header();

@@ -1,4 +1,4 @@
--- What the host in memory gives, in terms of the files that are there.
+-- The answers of the host in memory, in terms of the existing files.
 use Rattle.std.proofs.Common.{◌≡◌, ℕ, Bool, true, false, ◌||◌, List, [], ◌∷◌, Option, None, Some, Result, codes, if◌then◌else◌, get_or, is_some, slice_set, refl, sym, ap, ◌∙◌}
 use Rattle.std.proofs.lemmas.Slice.Eq.{bytes_eq-Decides}
 use Rattle.std.proofs.lemmas.List.Quantifiers.{position-Some}
@@ -13,7 +13,7 @@ use Rattle.cd_memory.specs.Memory.{Opens, files_of, input_of, memory_hosting}
 use Rattle.cd_memory.specs.Whole.{environment, image_at}
 use Rattle.cd_memory.specs.declared.memory.Memory.{Memory}
 
--- ---- the image of a name
+-- ---- the image with a name
 
 module _ {O : Type 0} (gone : O → Outgoing) where
   pub TakesImage-opens : (name : List ℕ) (host host' : Memory)

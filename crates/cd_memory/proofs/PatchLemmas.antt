@@ -1,4 +1,4 @@
--- `check` and `apply` on a script and an image that are there.
+-- `check` and `apply` on a script and an image that exist.
 use Rattle.std.proofs.Common.{◌≡◌, ◌≢◌, ℕ, ◌+◌, ◌≤◌, false, List, [], ◌++◌, length, take, Some, Result, Ok, Err, refl, sym, ap, ◌∙◌, subst, arith, length-append}
 use Rattle.cd_image.specs.Applying.{Applies, Begins, Streams}
 use Rattle.cd_image.specs.Applying.{patch_tally}
@@ -19,7 +19,7 @@ use Rattle.cd_memory.specs.Whole.{Environment, Opened, Patches, Prints, ProgramR
 use Rattle.cd_memory.proofs.KnownLemmas.{Appends-Some, Consumes-known, Fits-beyond, MayBeImageAtEnd-within, Some-injective, cut-by-failure, read-whole, whole-by-none}
 use Rattle.cd_memory.proofs.PrintLemmas.{Leaves, Prints-line}
 
--- the call was done, or it was stopped, with these bytes sent
+-- the call was completed or stopped, with these bytes sent
 pub data Took (settings : Settings) {before : Environment} {image name : List ℕ} (after : ProgramResult)
     (files : Opened before image name) (sent : List ℕ) : Type 0 where
   done : (patches : Patches settings after files) → patches.last ≡ sent
@@ -27,7 +27,7 @@ pub data Took (settings : Settings) {before : Environment} {image name : List �
   stopped : StopsPatching settings after files sent → Took settings after files sent
 
 -- the streams of a call on an image in memory: all of its bytes are known, and no read of it fails;
--- the log had got nothing, and no flush fails
+-- nothing had been written to the log, and no flush fails
 pub record InMemory (bytes rest : List ℕ) (old new : Streams) : Type 0 where
   pub before : old.image.rest ≡ Some bytes
   pub after : new.image.rest ≡ Some rest
@@ -39,24 +39,24 @@ module _ (settings : Settings) {before : Environment} {image name : List ℕ} (a
     (files : Opened before image name) (rest : List ℕ) (old new : Streams) (log : Outgoing)
     (memory : InMemory files.bytes rest old new) (leaves : Leaves log after)
     (made : new.out.failures ≢ old.out.failures → after.made ≢ []) where
-  -- what was read and what is left
+  -- the bytes read and the bytes left
   parts : (read : List ℕ) → Consumes old.image.rest new.image.rest read → files.bytes ≡ read ++ rest
   parts read came =
       Consumes-known old.image.rest new.image.rest files.bytes rest read memory.before
       memory.after came
 
-  -- what the log has got
+  -- the bytes written to the log
   logged : (printed_before : List ℕ) → Appends old.log.written new.log.written printed_before
       → new.log.written ≡ Some printed_before
   logged printed_before went =
       Appends-Some old.log.written new.log.written [] printed_before (ap (λ o. o.written) memory.log) went
 
-  -- how many calls of the log have failed
+  -- the number of calls of the log that have failed
   failed-log : (n : ℕ) → new.log.failures ≡ old.log.failures + n → new.log.failures ≡ n
   failed-log n rose =
       let none : old.log.failures ≡ 0 = ap (λ o. o.failures) memory.log in omega (arith, rose, none)
 
-  -- the text that is left, if nothing followed
+  -- the resulting text, if nothing followed
   text-of : (printed_before : List ℕ) → Appends old.log.written new.log.written printed_before → log ≡ new.log
       → after.text ≡ printed_before
   text-of printed_before went same =
@@ -74,7 +74,7 @@ module _ (settings : Settings) {before : Environment} {image name : List ℕ} (a
   fits-beyond read is beyond =
       subst (λ b. MayBeImage read (take image_limit b)) (sym is) (Fits-beyond read rest beyond)
 
-  -- a line was said after what was logged
+  -- a line was printed after the bytes logged
   line-after : (line printed_before : List ℕ) → Appends old.log.written new.log.written printed_before
       → new.log.failures ≡ old.log.failures + 0 → PrintsLine line new.log log
       → Prints after printed_before line

@@ -1,4 +1,4 @@
--- From the sink of the standard output to the text that is left.
+-- From the sink of the standard output to the text of the result.
 use Rattle.std.proofs.Common.{◌≡◌, ℕ, ◌+◌, true, false, nat_eq, List, Some, Result, Ok, Err, OnOk, ap, ◌∙◌}
 use Rattle.cd_stream.specs.Stream.{Outgoing}
 use Rattle.cd_stream.specs.Transfer.{Counts}
@@ -7,7 +7,7 @@ use Rattle.cd_program.specs.Commands.{PrintsLine}
 use Rattle.cd_memory.specs.Whole.{Prints, ProgramResult}
 use Rattle.cd_memory.proofs.KnownLemmas.{Appends-known, cut-by-failure}
 
--- what is left has the text that this sink has got, and all of it if none of its calls failed
+-- the result has the text written to this sink, and all of it if none of its calls failed
 pub record Leaves (after : Outgoing) (left : ProgramResult) : Type 0 where
   pub text : after.written ≡ Some left.text
   pub complete : left.complete ≡ nat_eq after.failures 0

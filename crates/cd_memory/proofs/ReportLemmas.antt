@@ -1,4 +1,4 @@
--- `list` and `audit` on an image that is there.
+-- `list` and `audit` on an image that exists.
 use Rattle.std.proofs.Common.{◌≡◌, ℕ, ◌+◌, ◌≤◌, true, false, List, [], ◌++◌, length, take, Some, Result, Ok, Err, refl, sym, ap, ◌∙◌, subst, arith, length-append}
 use Rattle.std.specs.Io.KnownBytes.{Appends, IsAtEnd}
 use Rattle.cd_read.specs.Ends.{MayBeImage, MayBeImageAtEnd}
@@ -21,7 +21,7 @@ module _ {T : Type 0} (spec : ReportSpec T) (status_of : T → ℕ) (before : En
     (known : image.rest ≡ Some bytes) (left : image'.rest ≡ Some rest)
     (reads : image'.failures ≡ image.failures) (fresh : out ≡ fresh_outgoing)
     (leaves : Leaves log after) (none_made : after.made ≡ []) where
-  -- what the sink has got
+  -- the bytes written to the sink
   got : (sent : List ℕ) → Appends out.written out'.written sent → out'.written ≡ Some sent
   got sent went = Appends-Some out.written out'.written [] sent (ap (λ o. o.written) fresh) went
 

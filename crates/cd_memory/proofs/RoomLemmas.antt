@@ -11,9 +11,9 @@ use Rattle.cd_stream.specs.Stream.{Outgoing}
 use Rattle.cd_stream.specs.declared.adapters.slice_sink.SliceSink.{SliceSink}
 use Rattle.cd_memory.specs.Rooms.{FillsCounted, FillsFront, FillsRoom, Holds, fresh_over}
 
--- ---- the slice is found again
+-- ---- the slice is the same one
 
--- a sink stands over the slice that another one stood over
+-- a sink adapts the same slice as another sink
 pub record SameRoom (was now : SliceSink) : Type 0 where
   pub same_slice : now.space.ghost_name ≡ was.space.ghost_name
   pub same_bytes : (lent_to now).now ≡ (lent_to was).now
@@ -25,7 +25,7 @@ same-room was now same = record {
   same_bytes = ap (λ l. l.now) (Some-injective same);
 }
 
--- the clauses of a call that has left a sink over the same slice
+-- the clauses of a call that leaves a sink over the same slice
 pub room-clauses : (was now : SliceSink) {Does : Type 0} → Does
     → (slice_outgoing now).lent ≡ (slice_outgoing was).lent → record {
       report : Does;
@@ -43,7 +43,7 @@ same-or-other Log Log = inl refl
 same-or-other TooLong TooLong = inl refl
 same-or-other _ _ = inr (λ is. cc)
 
--- the line of a fault leaves it too
+-- printing the line for an error leaves the same slice
 pub Ends-lent : {T : Type 0} (own : Fault) (status_of : T → ℕ) (result : Result T Fault)
     (before after : Outgoing) (status : ℕ) → Ends own status_of result before after status
     → after.lent ≡ before.lent
@@ -73,7 +73,7 @@ fills-of sink held held' was now =
       full = λ failed. long ∙ sink.full failed ∙ size;
     }
 
--- a text that is known to have gone out is the one in the memory
+-- a text that is known to be written is the text in the memory
 pub same-text : (after : Outgoing) (room room' text : List ℕ) (fills : FillsFront after room room')
     → after.written ≡ Some text → fills.text ≡ text
 same-text after room room' text fills written =

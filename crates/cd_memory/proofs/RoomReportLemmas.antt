@@ -21,7 +21,7 @@ pub too-long : (image : List ℕ) (left : SliceSource)
     → IsTooLong (fresh_incoming image) (slice_incoming left) → image_limit < length image
 too-long image left is = omega (arith, is.beyond image left.rest.now refl refl)
 
--- one of no more than the largest size may be the one that was being read
+-- an image of at most the largest size may be the one that was being read
 pub may-be : (image read left : List ℕ) → image ≡ read ++ left → length read ≤ image_limit
     → length image ≤ image_limit → MayBeImageAtEnd (Some left) read image
 may-be image read left is within small =

@@ -67,7 +67,7 @@ module _ (before : Environment) (name : List ℕ) {log log' : Outgoing} where
   lacks-stopped bytes read file left NoMemory is opens came stops fails =
       (load_fault_line NoMemory, NoPatches.unread bytes is refl, fails)
 
-  -- the text has a fault, or memory was refused
+  -- the text has an error, or memory was refused
   lacks-faulty : {status : ℕ} (bytes : List ℕ) (fault : ScriptFault)
       → file_bytes before.files name ≡ Some bytes → length bytes ≤ text_limit
       → IsFaultOf bytes fault → PrintsAndFails (script_fault_line fault) log log' status
@@ -118,7 +118,7 @@ module _ (before : Environment) (name : List ℕ) {log log' : Outgoing} where
     lacks-patches (Some bytes) is (Ok file) opens comes =
         lacks-read bytes file comes.0 is opens comes.1
 
-    -- the patches, and nothing was printed
+    -- there are patches, and nothing was printed
     pub has-patches : (patches : List Patch) (found : Option (List ℕ))
         → file_bytes before.files name ≡ found
         → (answer : Result SliceSource OpenFault) → Opens found answer

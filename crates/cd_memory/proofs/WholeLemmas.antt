@@ -1,4 +1,4 @@
--- From what the program does with a host to what it does with files in memory.
+-- From the effect of the program on a host to its effect on files in memory.
 use Rattle.std.proofs.Common.{◌≡◌, ◌≢◌, ℕ, suc, zero, Bool, true, false, List, [], ◌∷◌, ◌++◌, Option, None, Some, Result, Ok, Err, is_some, string_bytes, refl, sym, ap, ◌∙◌, subst, inl, inr}
 use Rattle.cd_args.specs.Fault.{done_status, failed_status, no_memory, printed}
 use Rattle.cd_args.specs.declared.job.Job.{Job}
@@ -34,7 +34,7 @@ use Rattle.cd_memory.proofs.PrintLemmas.{Leaves, Prints-line}
 use Rattle.cd_memory.proofs.ReportLemmas.{reports}
 use Rattle.cd_memory.proofs.ScriptLemmas.{has-patches, lacks-patches}
 
--- passing on what a sink still held moved none of its bytes
+-- passing on the bytes that a sink still held moved none of its bytes
 rest-kept : (old new : Outgoing) (bytes : List ℕ) → FlushesRest old new → old.written ≡ Some bytes
     → new.written ≡ Some bytes
 rest-kept old new bytes rest got = go old.finished refl old.failures refl
@@ -59,7 +59,7 @@ module _ {O : Type 0} (gone : O → Outgoing) (host host' : Memory) (log : Outgo
   none-made : host' ≡ host → after.made ≡ []
   none-made same = as_made ∙ ap made_of same ∙ fresh_host
 
-  -- a line and nothing else
+  -- only a line was printed
   fails-with : (line : List ℕ) → after.made ≡ [] → PrintsLine line fresh_outgoing log
       → after.status ≡ failed_status → FailsWith after line
   fails-with line none says status = record {
@@ -68,7 +68,7 @@ module _ {O : Type 0} (gone : O → Outgoing) (host host' : Memory) (log : Outgo
     none_made = none;
   }
 
-  -- there is no image
+  -- the image does not exist
   no-image : (name : List ℕ)
       → NoImage slice_incoming gone (memory_hosting gone) host' log after.status name host
       fresh_outgoing
@@ -121,7 +121,7 @@ module _ {O : Type 0} (gone : O → Outgoing) (host host' : Memory) (log : Outgo
       missing.answer missing.asked.1 missing.comes in
       (lacks.0, lacks.1, fails-with lacks.0 (none-made missing.asked.0) lacks.2.0 lacks.2.1)
 
-  -- the script was read, nothing was printed, and the host is as it was
+  -- the script was read, nothing was printed, and the host is unchanged
   record ReadScript (name : List ℕ) (patches : List Patch) (second : Memory)
       (printed_log : Outgoing) : Type 0 where
     pub has : HasPatches before name patches
@@ -227,7 +227,7 @@ module _ {O : Type 0} (gone : O → Outgoing) (host host' : Memory) (log : Outgo
 
   -- ---- the new file
 
-  -- it is not there, and then it is, with no bytes
+  -- the file did not exist, and then exists without bytes
   record MadeFile (path : List ℕ) (out : O) (fourth : Memory) : Type 0 where
     pub absent : file_bytes before.files path ≡ None
     pub made : made_of fourth ≡ named_file path [] ∷ []
@@ -243,7 +243,7 @@ module _ {O : Type 0} (gone : O → Outgoing) (host host' : Memory) (log : Outgo
     fresh = makes.2;
   }
 
-  -- it came back with what was sent
+  -- the file was given back with the bytes sent
   came-back : (path sent : List ℕ) (out made_out last : O) (fourth : Memory)
       → MadeFile path out fourth → Appends (gone out).written (gone made_out).written sent
       → FlushesRest (gone made_out) (gone last) → TakesBack gone fourth path last host'
@@ -257,7 +257,7 @@ module _ {O : Type 0} (gone : O → Outgoing) (host host' : Memory) (log : Outgo
       as_made ∙ back.made ∙ ap (λ m. with_bytes m path back.bytes) file.made
       ∙ ap (λ b. with_bytes (named_file path [] ∷ []) path b) same ∙ with_bytes-one path [] sent
 
-  -- there is one already, or memory was refused
+  -- the file already exists, or memory was refused
   no-output : (name script path : List ℕ) (patches : List Patch) (image : SliceSource)
       (third : Memory)
       (both : OpenedBoth name script patches image third) (printed_log : Outgoing) → printed_log ≡ fresh_outgoing

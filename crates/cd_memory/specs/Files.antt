@@ -16,12 +16,12 @@ named_file name bytes = record { name = name; bytes = bytes }
 abbrev pub file_bytes : List NamedFile → List ℕ → Option (List ℕ)
 file_bytes files name = option_map (λ f. f.bytes) (find (λ f. bytes_eq f.name name) files)
 
--- plumbing of `with_bytes`: the files, with this one at the place, if there is a place
+-- plumbing of `with_bytes`: the files, with `file` at the place, if there is one
 abbrev pub with_file : List NamedFile → Option ℕ → NamedFile → List NamedFile
 with_file files None file = files
 with_file files (Some place) file = slice_set files place file
 
--- the files, of which the first one of this name has these bytes
+-- the files, with the bytes of the first file of this name replaced by these
 abbrev pub with_bytes : List NamedFile → List ℕ → List ℕ → List NamedFile
 with_bytes files name bytes =
     with_file files (position (λ f. bytes_eq f.name name) files) (named_file name bytes)

@@ -1,4 +1,4 @@
--- What the host in memory returns for each file, and what is left of it then: everything is known.
+-- The answers of the host in memory for each file, and its state afterwards: everything is known.
 use Rattle.std.specs.Prelude.{◌≡◌, ℕ, Bool, false, true, ◌||◌, List, [], ◌∷◌, ◌++◌, length, is_some}
 use Rattle.std.specs.Prelude.{Option, None, Some, Result, Ok, Err}
 use Rattle.cd_stream.specs.Stream.{Incoming, Outgoing}
@@ -11,7 +11,7 @@ use Rattle.cd_memory.specs.Files.{NamedFile, file_bytes, named_file, with_bytes}
 use Rattle.cd_memory.specs.declared.growing.Growing.{Growing}
 use Rattle.cd_memory.specs.declared.memory.Memory.{Memory}
 
--- the files that were there
+-- the existing files
 abbrev pub files_of : Memory → List NamedFile
 files_of h = h.files.now
 
@@ -27,16 +27,17 @@ made_of h = h.made.items
 abbrev pub is_there : Memory → List ℕ → Bool
 is_there h name = is_some (file_bytes (files_of h) name) || is_some (file_bytes (made_of h) name)
 
--- the files that were there and the standard input stay
+-- the existing files and the standard input are unchanged
 pub record Stays (h h' : Memory) : Type 0 where
   pub files : files_of h' ≡ files_of h
   pub input : input_of h' ≡ input_of h
 
--- a source that has given nothing yet of these bytes
+-- a source of these bytes, before its first read
 abbrev pub fresh_incoming : List ℕ → Incoming
 fresh_incoming bytes = record { rest = Some bytes; given = 0; failures = 0; ended = false }
 
--- a sink in memory that has got nothing yet; its flush never fails, and no slice was lent to it
+-- a sink in memory to which nothing was written yet; its flush never fails, and no slice was lent
+-- to it
 abbrev pub fresh_outgoing : Outgoing
 fresh_outgoing = record {
   written = Some [];
@@ -48,7 +49,8 @@ fresh_outgoing = record {
   lent = None;
 }
 
--- what a contract sees of memory that grows: all bytes that it has got; its flush never fails
+-- memory that grows, as contracts see it: all bytes written to it are known, and its flush never
+-- fails
 abbrev pub growing_outgoing : Growing → Outgoing
 growing_outgoing g = record {
   written = Some g.octets.items;
@@ -60,7 +62,7 @@ growing_outgoing g = record {
   lent = None;
 }
 
--- the bytes, or a refusal if there are none
+-- a source of the bytes, or a refusal if there are none
 abbrev pub Opens : Option (List ℕ) → Result SliceSource OpenFault → Type 0
 Opens (Some bytes) (Ok source) = slice_incoming source ≡ fresh_incoming bytes
 Opens (Some bytes) (Err fault) = ⊥
@@ -68,7 +70,7 @@ Opens None (Ok source) = ⊥
 Opens None (Err fault) = fault ≡ Refused
 
 module _ {O : Type 0} (gone : O → Outgoing) where
-  -- an empty file is made if none has this name, if memory is there for it
+  -- an empty file is made if no file has this name and there is memory for it
   abbrev pub Makes : Memory → List ℕ → Result O OpenFault → Memory → Type 0
   Makes h name (Ok file) h' =
       (is_there h name ≡ false) × (made_of h' ≡ made_of h ++ named_file name [] ∷ [])
@@ -76,14 +78,14 @@ module _ {O : Type 0} (gone : O → Outgoing) where
   Makes h name (Err Refused) h' = (is_there h name ≡ true) × (made_of h' ≡ made_of h)
   Makes h name (Err NoMemory) h' = (is_there h name ≡ false) × (made_of h' ≡ made_of h)
 
-  -- the file that comes back has the bytes that were written to it
+  -- the file that is taken back has the bytes that were written to it
   pub record TakesBack (h : Memory) (name : List ℕ) (file : O) (h' : Memory) : Type 0 where
     pub stays : Stays h h'
     pub bytes : List ℕ
     pub written : (gone file).written ≡ Some bytes
     pub made : made_of h' ≡ with_bytes (made_of h) name bytes
 
-  -- what a contract knows of this host: just which bytes each answer has
+  -- this host, as contracts see it: exactly which bytes each answer has
   abbrev pub memory_hosting : Hosting Memory SliceSource O
   memory_hosting = record {
     gives_input = λ h name answer h'. (h' ≡ h) × Opens (file_bytes (files_of h) name) answer;

@@ -1,4 +1,4 @@
--- What `list` and `audit` do on an image in memory.
+-- The effect of `list` and `audit` on an image in memory.
 use Rattle.std.specs.Prelude.{◌≡◌, ℕ, ◌<◌, ◌≤◌, ◌⊎◌, List, length}
 use Rattle.cd_args.specs.Fault.{failed_status}
 use Rattle.cd_memory.specs.Memory.{fresh_incoming}
@@ -12,8 +12,8 @@ use Rattle.cd_memory.specs.Rooms.{Holds}
 
 -- ---- on any output
 
--- a base that no image has prints nothing; else the command runs, and `left` is what it leaves of the
--- image
+-- for a base that no image can have, nothing is printed; otherwise the command runs, and `left` is
+-- the source of the image afterwards
 pub data ReportsInMemory {T : Type 0} (spec : ReportSpec T) (status_of : T → ℕ) (base : ℕ)
     (image : List ℕ) (out out' : Outgoing) (status : ℕ) : Type 0 where
   outside : base_limit < base → status ≡ failed_status → out' ≡ out
@@ -24,15 +24,15 @@ pub data ReportsInMemory {T : Type 0} (spec : ReportSpec T) (status_of : T → �
 
 -- ---- in plain words
 
--- the whole text was written, and the status is that of its tally
+-- all of the text was written, and the status is the status of its tally
 pub record WritesReport {T : Type 0} (spec : ReportSpec T) (status_of : T → ℕ) (image : List ℕ)
     (room room' : List ℕ) (size status : ℕ) : Type 0 where
   pub holds : Holds (spec.text image) room room'
   pub counted : size ≡ length (spec.text image)
   pub tally : status ≡ status_of (spec.tally image)
 
--- why a call fails that takes no script: no image has its base, the image is too long, or the
--- memory is full, and the text is longer than it
+-- why a call without a script fails: no image can have its base, the image is too long, or the text
+-- is longer than the memory, which is full
 abbrev pub ReportFails : {T : Type 0} → ReportSpec T → ℕ → List ℕ → List ℕ → ℕ → Type 0
 ReportFails spec base image room size =
     (base_limit < base) ⊎ (image_limit < length image)

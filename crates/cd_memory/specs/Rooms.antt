@@ -1,15 +1,16 @@
--- What a call leaves in memory that was lent for a text: a room.
+-- The contents of a room after a call. A room is memory that was lent for a text.
 use Rattle.std.specs.Prelude.{◌≡◌, ◌≢◌, ℕ, ◌≤◌, List, ◌++◌, length, drop, Some}
 use Rattle.std.specs.Borrow.{MutBor}
 use Rattle.cd_stream.specs.Stream.{Outgoing}
 use Rattle.cd_memory.specs.Memory.{fresh_outgoing}
 
--- its front is this text, and the rest is as it was
+-- the front of the room is this text, and the rest is unchanged
 pub record Holds (text room room' : List ℕ) : Type 0 where
   pub within : length text ≤ length room
   pub bytes : room' ≡ text ++ drop (length text) room
 
--- its front is what a sink has got. If a call of the sink has failed, it is full
+-- the front of the room is the text written to a sink. If a call of the sink has failed, the room
+-- is full
 pub record FillsFront (after : Outgoing) (room room' : List ℕ) : Type 0 where
   pub text : List ℕ
   pub written : after.written ≡ Some text
@@ -20,7 +21,7 @@ pub record FillsFront (after : Outgoing) (room room' : List ℕ) : Type 0 where
 abbrev pub fresh_over : MutBor (List ℕ) → Outgoing
 fresh_over lent = record fresh_outgoing { lent = Some lent }
 
--- a command has written to a new sink over it
+-- a command has written to a new sink over the room
 pub record FillsRoom (Does : Outgoing → Outgoing → Type 0) (room room' : List ℕ) : Type 0 where
   pub lent : MutBor (List ℕ)
   pub was : lent.now ≡ room
@@ -28,7 +29,7 @@ pub record FillsRoom (Does : Outgoing → Outgoing → Type 0) (room room' : Lis
   pub does : Does (fresh_over lent) after
   pub fills : FillsFront after room room'
 
--- the same, and `size` is the number of bytes that were written
+-- `FillsRoom`, and `size` is the number of bytes that were written
 pub record FillsCounted (Does : Outgoing → Outgoing → Type 0) (room room' : List ℕ) (size : ℕ)
     : Type 0 where
   pub room_filled : FillsRoom Does room room'

@@ -1,4 +1,4 @@
--- What the program does over files in memory: its status, its text, and the file that it makes.
+-- The result of the program over files in memory: its status, its text, and the new file.
 use Rattle.std.specs.Prelude.{◌≡◌, ◌≢◌, ℕ, ◌+◌, ◌<◌, ◌≤◌, ◌⊎◌, Bool, true, false, List, [], ◌∷◌, ◌++◌, length, take}
 use Rattle.std.specs.Prelude.{codes, if◌then◌else◌, Option, None, Some, Ok, Err}
 use Rattle.std.specs.Str.{bytes_eq}
@@ -43,19 +43,19 @@ pub record Environment : Type 0 where
   pub files : List NamedFile
   pub input : List ℕ
 
--- the two together
+-- a record of the two
 abbrev pub environment : List NamedFile → List ℕ → Environment
 environment files input = record { files = files; input = input }
 
--- the status, the text on the standard output and whether memory was there for all of it, and the
--- files that were made. All other files are as they were: the program is only lent them
+-- the status, the text on the standard output, whether there was memory for all of it, and the new
+-- files. All other files are unchanged: they are only lent to the program
 pub record ProgramResult : Type 0 where
   pub status : ℕ
   pub text : List ℕ
   pub complete : Bool
   pub made : List NamedFile
 
--- what the program leaves, as a contract sees it
+-- the result of the program, as contracts see it
 abbrev pub result_of : Ended → ProgramResult
 result_of e = record {
   status = e.status;
@@ -64,20 +64,21 @@ result_of e = record {
   made = e.made.items;
 }
 
--- the image of a name: `-` is the standard input
+-- the image with this name: `-` is the standard input
 abbrev pub image_at : Environment → List ℕ → Option (List ℕ)
 image_at before name =
     if bytes_eq name (codes "-") then Some before.input else file_bytes before.files name
 
--- the patches of the script in the file of a name, in the order in which they are taken
+-- the patches of the script in the file with this name, in the order in which they are applied
 pub record HasPatches (before : Environment) (name : List ℕ) (patches : List Patch) : Type 0 where
   pub text : List ℕ
   pub there : file_bytes before.files name ≡ Some text
   pub within : length text ≤ text_limit
   pub reads : (ps : List Patch) × (script text ≡ Ok ps) × (patches ≡ order ps)
 
--- why there are no patches, and the line that says so. Want of memory leaves a file unread, or a
--- script without its patches; if a text has a fault, the line is that of the fault
+-- why there are no patches, and the line that reports it. For a lack of memory, a file may be left
+-- unread, or a script without its patches. If a text that was read has an error, the line reports
+-- that error
 pub data NoPatches (before : Environment) (name line : List ℕ) : Type 0 where
   absent : file_bytes before.files name ≡ None → line ≡ no_script → NoPatches before name line
   too_long : (text : List ℕ) → file_bytes before.files name ≡ Some text → text_limit < length text
@@ -91,7 +92,7 @@ pub data NoPatches (before : Environment) (name line : List ℕ) : Type 0 where
       → length text ≤ text_limit → script text ≡ Ok ps
       → line ≡ script_fault_line script_fault.NoMemory → NoPatches before name line
 
--- both files are there
+-- both files exist
 pub record Opened (before : Environment) (image script_name : List ℕ) : Type 0 where
   pub patches : List Patch
   pub script : HasPatches before script_name patches
@@ -100,21 +101,21 @@ pub record Opened (before : Environment) (image script_name : List ℕ) : Type 0
 
 -- ---- what is printed
 
--- the text is this front and then a line, of which an end is missing only if memory was refused
+-- the text is this front and then a line, whose end is missing only if memory was refused
 pub record Prints (after : ProgramResult) (front line : List ℕ) : Type 0 where
   pub printed_log : List ℕ
   pub text : after.text ≡ front ++ printed_log
   pub begins : IsBeginning printed_log line
   pub whole : after.complete ≡ true → printed_log ≡ line
 
--- nothing but this line was printed, with status 2, and no file was made
+-- only this line was printed, the status is 2, and no file was made
 pub record FailsWith (after : ProgramResult) (line : List ℕ) : Type 0 where
   pub status : after.status ≡ failed_status
   pub prints : Prints after [] line
   pub none_made : after.made ≡ []
 
 -- why a report on an image of these bytes ended with status 2 after it had printed a front of its
--- text: the image is too long, or the text found no memory, and some of it is missing
+-- text: the image is too long, or there was no memory for the text, and some of it is missing
 pub data WhyStopped (after : ProgramResult) (bytes text printed_before : List ℕ) : Type 0 where
   too_long : image_limit < length bytes → Prints after printed_before (fault_line TooLong)
       → WhyStopped after bytes text printed_before
@@ -123,8 +124,9 @@ pub data WhyStopped (after : ProgramResult) (bytes text printed_before : List �
 
 -- ---- the commands
 
--- `list` and `audit`: the text of the image, or a beginning of it if the call was stopped. If it is
--- complete, that is just the lines that were due after one byte too many
+-- `list` and `audit`: the text of the image is printed, or a beginning of it if the call was
+-- stopped. If `complete` is true, this beginning is exactly the lines that were due when one byte
+-- too many was read
 pub data ReportsOn {T : Type 0} (spec : ReportSpec T) (status_of : T → ℕ) (image : List ℕ)
     (before : Environment) (after : ProgramResult) : Type 0 where
   without_image : image_at before image ≡ None → FailsWith after no_image
@@ -143,7 +145,7 @@ pub data ReportsOn {T : Type 0} (spec : ReportSpec T) (status_of : T → ℕ) (i
 module _ (settings : Settings) {before : Environment} {image script_name : List ℕ}
     (after : ProgramResult)
     (files : Opened before image script_name) where
-  -- each patch was taken in turn: the log of their outcomes was printed
+  -- each patch was decided in order, and the log of their outcomes was printed
   pub record Patches : Type 0 where
     pub within : length files.bytes ≤ image_limit
     pub outcomes : List Outcome
@@ -153,11 +155,13 @@ module _ (settings : Settings) {before : Environment} {image script_name : List 
     pub complete : after.complete ≡ true
     pub status : after.status ≡ script_status (patch_tally files.bytes outcomes)
 
-  -- why the patching ended with status 2, and how far the image, the new file and the log were then:
-  -- one byte too many was read, the log has just the lines of the patches before the first that
-  -- reaches past the largest size, and the new file just the sectors before it; or the new file found no memory, it lacks some of what was read, and
-  -- the log has just the lines that belong before what was sent; or the text found none, some of the
-  -- log is missing, and just the bytes that belong before the line that it was cut in were sent
+  -- why the patching ended with status 2, and the state of the image, the new file, and the log
+  -- then. Either one byte too many was read: the log has exactly the lines of the patches before
+  -- the first one that reaches past the largest size, and the new file exactly the sectors before
+  -- that patch. Or there was no memory for the new file: it lacks some of the bytes read, and the
+  -- log has exactly the lines that belong before the bytes sent. Or there was no memory for the
+  -- text: some of the log is missing, and exactly the bytes that belong before the line in which it
+  -- was cut were sent
   pub data WhyPatchingStopped (read sent printed_before : List ℕ) : Type 0 where
     too_long : image_limit < length files.bytes → length read ≡ image_limit + 1
         → EachPatching settings.carry files.patches settings.base (take image_limit files.bytes)
@@ -178,9 +182,9 @@ module _ (settings : Settings) {before : Environment} {image script_name : List 
         (take image_limit files.bytes) (length printed_before)))
         → after.text ≡ printed_before → WhyPatchingStopped read sent printed_before
 
-  -- the call was stopped: a front of the image was read, and at most `bytes_in_hand` more than was
-  -- sent; what was sent begins the patched image, and what was printed its log, in each way to patch
-  -- the image, cut at the largest size
+  -- the call was stopped: a front of the image was read, at most `bytes_in_hand` bytes more than
+  -- were sent. For each way to patch the image, cut at the largest size, the bytes sent begin the
+  -- patched image, and the bytes printed begin its log
   pub record StopsPatching (sent : List ℕ) : Type 0 where
     pub read : List ℕ
     pub read_begins : IsBeginning read files.bytes
@@ -228,7 +232,7 @@ pub data AppliesOn (settings : Settings) (image script_name out : List ℕ) (bef
       → after.made ≡ named_file out sent ∷ []
       → AppliesOn settings image script_name out before after
 
--- each task is the command of its name
+-- each task runs the command of its name
 abbrev pub DoesTask : Task → Environment → ProgramResult → Type 0
 DoesTask (Task.list base image) before after =
     ReportsOn (list_report base) (λ _. done_status) image before after
@@ -239,11 +243,11 @@ DoesTask (Task.check settings image script_name) before after =
 DoesTask (Task.apply settings image script_name out) before after =
     AppliesOn settings image script_name out before after
 
--- a job is its task
+-- a job does its task
 abbrev pub DoesOn : Job → Environment → ProgramResult → Type 0
 DoesOn job before after = DoesTask (task_of job) before after
 
--- the arguments ask for no job: no file is made, and help or the reason is printed
+-- the arguments ask for no job: no file is made, and the help or the reason is printed
 pub record Explains (args : List (List ℕ)) (after : ProgramResult) : Type 0 where
   pub fault : LineFault
   pub kind : HasKindOf args fault
@@ -255,8 +259,8 @@ pub record Explains (args : List (List ℕ)) (after : ProgramResult) : Type 0 wh
   pub cut : after.complete ≡ false → after.status ≡ failed_status
   pub none_made : after.made ≡ []
 
--- the whole theorem: the arguments ask for a job, and it is done; or they ask for none, and it is
--- explained why
+-- the theorem: the arguments ask for a job, and it is done; or they ask for no job, and the reason
+-- is explained
 abbrev pub RunsOn : List (List ℕ) → Environment → ProgramResult → Type 0
 RunsOn args before after =
     ((job : Job) × IsJobOf args job × (error_kinds args ≡ []) × DoesOn job before after)

@@ -24,7 +24,7 @@ impl Model for File {
 }
 
 impl File {
-    /// A file of this name, with these bytes.
+    /// Creates a file with this name and these bytes.
     ///
     /// # Examples
     ///
@@ -42,7 +42,7 @@ impl File {
         }
     }
 
-    /// Its name.
+    /// The name of the file.
     ///
     /// See the example of [`File::new`].
     pub fn name(&self) -> &str
@@ -51,7 +51,7 @@ impl File {
         self.path.as_str()
     }
 
-    /// Its bytes.
+    /// The bytes of the file.
     ///
     /// See the example of [`File::new`].
     pub fn bytes(&self) -> &[u8]
@@ -60,7 +60,7 @@ impl File {
         self.octets.as_slice()
     }
 
-    /// Replaces its bytes.
+    /// Replaces the bytes of the file.
     pub(crate) fn set_bytes(&mut self, bytes: Vec<u8>)
         ensures { self.new ≡ named_file self.old.name bytes.items }
     {
@@ -68,7 +68,7 @@ impl File {
     }
 }
 
-/// The bytes of the first file of a name.
+/// The bytes of the first file with this name, if there is one.
 pub(crate) fn bytes_at<'a>(files: &'a [File], name: &str) -> Option<&'a [u8]>
     ensures { option_map (λ bytes. bytes.now) result ≡ file_bytes files.now name.now }
 {
@@ -78,14 +78,14 @@ pub(crate) fn bytes_at<'a>(files: &'a [File], name: &str) -> Option<&'a [u8]>
         .map(|file| file.bytes())
 }
 
-/// The place of the first file of a name.
+/// The index of the first file with this name, if there is one.
 fn place_of(files: &[File], name: &str) -> Option<usize>
     ensures { result ≡ position (λ f. bytes_eq f.name name.now) files.now }
 {
     files.iter().position(|file| file.name() == name)
 }
 
-/// Replaces the bytes of the first file of a name.
+/// Replaces the bytes of the first file with this name, if there is one.
 pub(crate) fn set_bytes_at(files: &mut [File], name: &str, bytes: Vec<u8>)
     ensures { files.new ≡ with_bytes files.old name.now bytes.items }
 {

@@ -1,4 +1,4 @@
-//! Memory that grows, as a sink.
+//! A sink that appends its bytes to a vector.
 
 ghost use Rattle.std.specs.Prelude.{◌≡◌, Some};
 ghost use Rattle.cd_memory.specs.Memory.{fresh_outgoing, growing_outgoing};
@@ -6,8 +6,8 @@ ghost use Rattle.cd_memory.specs.Memory.{fresh_outgoing, growing_outgoing};
 use cd_stream::{Count, Sink, SinkFailed};
 use std::alloc::Global;
 
-/// Appends to a vector. A write fails only if the vector does, for want of memory; its flush never
-/// fails, and contracts know it.
+/// A sink that appends its bytes to a vector. A write fails only if the vector cannot grow for lack
+/// of memory. A flush never fails, and contracts know this.
 #[derive(Debug, Drop)]
 pub struct Growing {
     octets: Vec<u8>,
@@ -17,7 +17,7 @@ pub struct Growing {
 }
 
 impl Growing {
-    /// A sink that has got no byte.
+    /// Creates a sink to which nothing has been written.
     pub(crate) fn new(alloc: Global) -> Self
         ensures { growing_outgoing result ≡ fresh_outgoing }
     {
@@ -29,7 +29,7 @@ impl Growing {
         }
     }
 
-    /// The bytes that it has got.
+    /// The bytes that were written.
     pub(crate) fn into_bytes(self) -> Vec<u8>
         ensures { Some result.items ≡ (growing_outgoing self).written }
     {

@@ -1,5 +1,5 @@
-//! The program over files in memory, and the theorem about it: from its arguments and the files
-//! that are there to its status, its text, and each byte of the file that it makes.
+//! Runs the program over files in memory, and states the theorem about it. The theorem relates the
+//! arguments and the existing files to the status, the text, and each byte of the new file.
 //!
 //! ```
 //! let alloc = rt.alloc();
@@ -15,14 +15,14 @@
 //! assert_eq!(rt; ended.text.as_slice(), text.as_slice());
 //! ```
 //!
-//! [`run_on_files`] runs what `main` runs, over a host of which everything is known: so the theorem
-//! can name each byte. Whoever wants to know what the program does reads its contract. A new file
-//! cannot be read again, as no command does. If memory is refused, a text or a file may lack its
-//! end, and the theorem says so in each row.
+//! [`run_on_files`] runs the same code as `main`, over a host about which everything is known, so
+//! the theorem can state each byte. Read its contract to learn what the program does. A new file
+//! cannot be read again; no command does so. If memory is refused, a text or a file may lack its
+//! end, and the theorem says so in each case.
 //!
-//! [`list_image`] and [`audit_image`] run two commands on an image in memory, and write to memory
-//! that a caller lends for a text: a room. They take none. What the caller finds there afterwards
-//! stands in `specs/Rooms.antt`: its front is the text, and the rest is as it was.
+//! [`list_image`] and [`audit_image`] run two commands on an image in memory, and write the text to
+//! memory that the caller lends: a room. They allocate no memory. `specs/Rooms.antt` states what
+//! the room holds afterwards: its front is the text, and the rest is unchanged.
 //!
 //! Tests: `crates/cd_example_tests`, and `tests/library` over the calls of C.
 #![tactic(auto)]

@@ -8,9 +8,9 @@ use cd_program::{Host, OpenFault};
 use cd_stream::SliceSource;
 use std::alloc::Global;
 
-/// A host of files in memory, and of a standard input. The files are lent, so the type keeps them
-/// from changing. A new file is there, empty, as soon as it is made, and has its bytes when it
-/// comes back; it cannot be read.
+/// A host whose files and standard input are in memory. The files are borrowed, so they cannot
+/// change. A new file exists, empty, as soon as it is made, and has its bytes once it is taken
+/// back. It cannot be read.
 #[derive(Debug, Drop)]
 pub struct Memory<'a> {
     alloc: Global,
@@ -23,7 +23,7 @@ impl<'a> Memory<'a> {
     ghost use Rattle.std.specs.Prelude.{◌≡◌, []};
     ghost use Rattle.cd_memory.specs.Memory.{files_of, input_of, made_of};
 
-    /// These files, and this standard input.
+    /// Creates a host with these files and this standard input.
     ///
     /// # Examples
     ///
@@ -46,7 +46,7 @@ impl<'a> Memory<'a> {
         }
     }
 
-    /// The files that were made, the first one first.
+    /// The new files, in the order in which they were made.
     ///
     /// See the example of [`Memory::new`].
     pub fn into_made(self) -> Vec<File>

@@ -1,5 +1,5 @@
-//! The commands that need no script on an image in memory, each to memory that was lent. A base that
-//! no image has is a failure, with nothing written.
+//! The commands `list` and `audit` on an image in memory, which write to memory that the caller
+//! lends. If no image can have the base, they fail and write nothing.
 
 ghost use Rattle.std.specs.Prelude.{◌≡◌, ◌<◌};
 ghost use Rattle.cd_args.specs.Fault.{done_status};
@@ -15,8 +15,8 @@ use cd_program::{run_audit, run_list};
 use cd_report::MAX_BASE;
 use cd_stream::{SliceSink, SliceSource};
 
-/// Lists an image to `out`, whose first block has the number `base`, as [`run_list`], and returns
-/// the status: 0; or 2 if no image has the base, the image is too long, or the slice is full.
+/// Lists an image whose first block is `base` to `out`, as [`run_list`] does, and returns the
+/// status: 0, or 2 if no image can have this base, the image is too long, or the slice is full.
 ///
 /// # Examples
 ///
@@ -40,9 +40,9 @@ pub fn list_image(image: &[u8], base: u32, out: &mut SliceSink<'_>) -> u8
     run_list(&mut SliceSource::new(image), base, out)
 }
 
-/// Audits an image to `out`, whose first block has the number `base`, as [`run_audit`], and returns
-/// the status: 0; 1 if it has a finding; or 2 if no image has the base, the image is too long, or
-/// the slice is full.
+/// Audits an image whose first block is `base` to `out`, as [`run_audit`] does, and returns the
+/// status: 0, 1 if there is a finding, or 2 if no image can have this base, the image is too long,
+/// or the slice is full.
 ///
 /// # Examples
 ///

@@ -1,4 +1,4 @@
-//! The program over files in memory.
+//! Runs the program over files in memory.
 
 ghost use Rattle.std.specs.Prelude.{map, string_bytes};
 ghost use Rattle.cd_memory.specs.Whole.{RunsOn, environment, result_of};
@@ -10,21 +10,21 @@ use cd_program::run_args;
 use cd_stream::Sink;
 use std::alloc::Global;
 
-/// What the program leaves.
+/// The result of a run of the program.
 #[derive(Debug, Drop)]
 pub struct Ended {
-    /// The status: 0, 1 or 2.
+    /// The status: 0, 1, or 2.
     pub status: u8,
-    /// What it printed on the standard output.
+    /// The text that it printed on the standard output.
     pub text: Vec<u8>,
-    /// Whether all of the text found memory. If not, its end is missing.
+    /// Whether there was memory for all of the text. If not, the end of the text is missing.
     pub complete: bool,
     /// The new files.
     pub made: Vec<File>,
 }
 
-/// Does what the arguments after the program's name ask for, as the program does, over files in
-/// memory of which none changes, and a standard input.
+/// Runs the program with the arguments after its name, over files in memory and a standard input.
+/// It changes none of these files.
 ///
 /// # Examples
 ///

@@ -1,4 +1,4 @@
--- What an edit makes of a sector, be it the consistent one or the one with the old defect.
+-- The result of an edit of a sector: the consistent sector, or the sector with the old defect.
 use Rattle.std.proofs.Common.{◌≡◌, ℕ, Bool, true, false, List, length, get_or}
 use Rattle.std.proofs.Common.{drop, Option, Some, None, refl, sym, ap, subst, ◌∙◌, arith, lit<}
 use Rattle.std.specs.Option.{IfSome}
@@ -50,7 +50,7 @@ Becomes-consistent false old header user new sound mode h = h.is_consistent
 Becomes-consistent true old header user new sound mode h =
     carried_consistent old header user new sound mode h
 
--- what is made of a consistent sector without its defect has its defect, which is none
+-- a consistent sector has no defect to keep: the result without its defect also keeps its defect
 pub Becomes-nothing : (carried : Bool) (old header user new : List ℕ)
     → (carried ≡ true → IsConsistent old) → Becomes false old header user new
     → Becomes carried old header user new
@@ -62,26 +62,26 @@ Becomes-nothing true old header user new sound h =
 
 -- ---- by an edit
 
--- if it does not keep the defect
+-- an edit that does not keep the defect leaves a consistent sector
 pub EditResult-encoded : (carry : Bool) (edit : Edit) (old user new : List ℕ)
     → keeps_defect carry edit ≡ false → EditResult carry edit old user new → IsConsistent new
 EditResult-encoded carry edit old user new none h =
     let made = subst (λ b. Becomes b old (new_header edit (header_of old)) user new) none h in
     made.is_consistent
 
--- and if it does
+-- an edit that keeps the defect leaves the same damage
 pub EditResult-carried : (carry : Bool) (edit : Edit) (old user new : List ℕ)
     → keeps_defect carry edit ≡ true → EditResult carry edit old user new → SameDamage old new
 EditResult-carried carry edit old user new keeps h =
     let made = subst (λ b. Becomes b old (new_header edit (header_of old)) user new) keeps h in
     record { sync = made.same_sync; defect = made.same_defect }
 
--- the mode byte stays
+-- a consistent sector has the mode byte 01
 header-mode : (s : List ℕ) → IsConsistent s → get_or (header_of s) 3 0 ≡ 1
 unfolding header_of
 header-mode s h = range-byte s 12 16 3 (lit< tt) ∙ (mode1-parts s h.mode).1
 
--- and it stays after a new address
+-- a new address leaves the mode byte unchanged
 with_address-mode : (m : EditMeaning) (address : Option (List ℕ)) (header : List ℕ)
     → IfSome address (IsAddressAlone m) → get_or header 3 0 ≡ 1
     → get_or (with_address address header) 3 0 ≡ 1
@@ -90,7 +90,7 @@ with_address-mode m (Some bcd) header only h =
     let three : length bcd ≡ 3 = ap length only.is_address.are in
     get_or-append_right bcd (drop 3 header) 3 3 0 three (omega arith) ∙ get_or-drop 3 header 0 0 ∙ h
 
--- what a patch makes of a consistent sector is consistent
+-- the result of a patch of a consistent sector is consistent
 pub EditResult-consistent : (carry : Bool) (p : Patch) (old user new : List ℕ) → IsPatch p
     → IsConsistent old → EditResult carry p.edit old user new → IsConsistent new
 EditResult-consistent carry p old user new kept sound h =

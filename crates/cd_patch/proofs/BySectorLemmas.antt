@@ -1,4 +1,4 @@
--- What a run leaves, block by block and byte by byte.
+-- The result of a run, block by block and byte by byte.
 use Rattle.std.proofs.Common.{◌≡◌, ℕ, ◌+◌, ◌-◌, ◌<◌, ◌≤◌, inl, inr, true, false, ◌&&◌, ◌||◌, Bool, List, [], ◌∷◌, length, get_or, Some, refl, sym, ap, subst, ◌∙◌, arith}
 use Rattle.std.specs.Prelude.{if◌then◌else◌, not}
 use Rattle.std.specs.List.{All}
@@ -31,8 +31,8 @@ use Rattle.cd_patch.proofs.UserLemmas.{IsSector-at, byte_by-other, user_part-byt
 
 -- ---- one sector
 
--- what patches leave of a sector, if it is touched or not, and rebuilt or not: its new header, and
--- its new byte at each offset
+-- the effect of patches on a sector, by whether it is touched and whether it is rebuilt: its new
+-- header, and its new byte at each offset
 record LeavesSector (carry touched rebuilt : Bool) (header : List ℕ → List ℕ) (byte : ℕ → ℕ → ℕ)
     (before after : List ℕ) : Type 0 where
   sector : IsSector before → IsSector after
@@ -45,7 +45,7 @@ record LeavesSector (carry touched rebuilt : Bool) (header : List ℕ → List �
   user : (offset : ℕ) → offset < USER_SIZE
       → get_or (user_of after) offset 0 ≡ byte offset (get_or (user_of before) offset 0)
 
--- a sector that is as it was
+-- an unchanged sector
 LeavesSector-none : (carry : Bool) (byte : ℕ → ℕ → ℕ) (before after : List ℕ)
     → ((offset b : ℕ) → byte offset b ≡ b) → after ≡ before
     → LeavesSector carry false false (λ h. h) byte before after
@@ -61,7 +61,7 @@ LeavesSector-none carry byte before after kept e =
       user = λ offset low. sym (kept offset (get_or (user_of before) offset 0));
     })
 
--- what others leave of what some have left
+-- the effect of some patches, followed by the effect of others
 LeavesSector-then : {carry t t' r r' : Bool} {header header' : List ℕ → List ℕ}
     {byte byte' : ℕ → ℕ → ℕ} {before middle after : List ℕ}
     → LeavesSector carry t r header byte before middle
@@ -91,7 +91,8 @@ LeavesSector-then {carry} {t} {t'} {r} {r'} {header} {header'} {byte} {byte'} on
 
 -- ---- one patch
 
--- what a patch leaves of the sector of a block, if it is accepted or not, and meets the block or not
+-- the effect of a patch on the sector of a block, by whether the patch is accepted and whether it
+-- meets the block
 abbrev LeavesBy : Bool → Bool → Bool → Patch → ℕ → List ℕ → List ℕ → Type 0
 LeavesBy carry accepted met p block before after =
     LeavesSector carry (accepted && met) ((accepted && met) && not (keeps_old p.edit))
@@ -229,7 +230,7 @@ run-leaves_others carry ps os base old last kept each h =
           (at block before after is was).user offset low;
     }
 
--- ---- these words leave no choice
+-- ---- these properties determine the result
 
 pub leaves-one : (carry : Bool) (ps : List Patch) (os : List Outcome) (base : ℕ)
     (old last last' : List (List ℕ)) → LeavesOthers carry ps os base old last

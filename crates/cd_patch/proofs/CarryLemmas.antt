@@ -1,4 +1,5 @@
--- If damage is carried, no patch is refused for it, and without damage it makes no difference.
+-- If damage is carried, no patch is refused for damage; for sectors without damage, carrying makes
+-- no difference.
 use Rattle.std.proofs.Common.{◌≡◌, ℕ, zero, suc, ◌+◌, ◌<◌, Bool, true, false, List, Option, Some, None, refl, sym, ap₂, subst, ◌∙◌, arith}
 use Rattle.std.specs.Prelude.{not, unwrap_or}
 use Rattle.std.proofs.lemmas.Bool.{and_from, and_parts, and_right}
@@ -62,7 +63,7 @@ module _ (base : ℕ) (p : Patch) (old : List (List ℕ))
         first_refusal-loose old base (needs_consistent false p.edit) p.block (blocks_met p) before,
       ) (rw before at accepted)
 
-  -- a block that the patch meets, and whose defect it keeps, has none
+  -- a block that the patch meets has no defect, if the patch keeps defects
   sound : (k : ℕ) (before : List ℕ) → k < blocks_met p
       → sector_at old base (p.block + k) ≡ Some before → keeps_defect true p.edit ≡ true
       → IsConsistent before

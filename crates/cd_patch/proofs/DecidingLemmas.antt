@@ -1,5 +1,5 @@
--- Which blocks refuse a patch, what an accepted one has found there, and the bytes of joined user
--- data.
+-- Which blocks refuse a patch, which sectors an accepted patch has found, and the bytes of joined
+-- user data.
 use Rattle.std.proofs.Common.{◌≡◌, ℕ, zero, suc, ◌+◌, ◌-◌, ◌*◌, ◌/◌, ◌%◌, ◌<◌, ◌≤◌, inl, inr, Bool, true, false, cond, List, [], ◌∷◌, ◌++◌, length, get_or, drop, Option, Some, None, refl, sym, ap, ap₂, subst, ◌∙◌, eq-eqb, arith}
 use Rattle.std.specs.Prelude.{not, ◌&&◌, is_some, slice_get, unwrap_or}
 use Rattle.std.proofs.lemmas.Bool.{cases_eq, cases_lt, ne_eqb}
@@ -22,7 +22,7 @@ use Rattle.cd_patch.specs.declared.outcome.Outcome.TheVariants.{Applied, Damaged
 
 -- ---- refusals
 
--- a block that does not refuse has a sector of Mode 1, which is consistent if that is asked
+-- a block that does not refuse has a sector of Mode 1, which is consistent if this is required
 pub record IsMet (must_be_consistent : Bool) (found : Option (List ℕ)) : Type 0 where
   pub sector : List ℕ
   pub is : found ≡ Some sector
@@ -65,7 +65,7 @@ first_refusal-none ss base must_be_consistent first (suc count) h block from to 
           (omega arith) (omega arith)
     ]
 
--- what refuses a patch is no acceptance, and damage only if it is asked for
+-- a refusal is not an acceptance, and it is for damage only if consistent sectors are required
 abbrev pub is_refusal : Bool → Option Outcome → Bool
 is_refusal must_be_consistent None = true
 is_refusal must_be_consistent (Some (NoBlock block)) = true
@@ -99,7 +99,7 @@ applied-unrefused : (must_be_consistent : Bool) (found : Option Outcome) (other 
 applied-unrefused must_be_consistent None other is h = refl
 applied-unrefused must_be_consistent (Some r) other is h = let no = rw h at is in cc
 
--- an accepted patch was refused by no block
+-- no block has refused an accepted patch
 pub unrefused : (carry : Bool) (ss : List (List ℕ)) (base : ℕ) (p : Patch)
     → outcome carry ss base p ≡ Applied
     → first_refusal ss base (needs_consistent carry p.edit) p.block (blocks_met p) ≡ None
@@ -108,7 +108,7 @@ unrefused carry ss base p h =
     applied-unrefused (needs_consistent carry p.edit) _ _
     (first_refusal-is ss base (needs_consistent carry p.edit) p.block (blocks_met p)) h
 
--- each block that a patch meets is there and of Mode 1
+-- each block that a patch meets exists and is of Mode 1
 abbrev pub AreThere : Bool → List (List ℕ) → ℕ → Patch → Type 0
 AreThere carry ss base p =
     (block : ℕ) → p.block ≤ block → block < p.block + blocks_met p
@@ -120,7 +120,7 @@ accepted-there carry ss base p h =
     first_refusal-none ss base (needs_consistent carry p.edit) p.block (blocks_met p)
     (unrefused carry ss base p h)
 
--- what was searched is what the patch asks for
+-- the refusal found is the one for this patch
 pub refusal-asked : (p : Patch) (carry : Bool) (ss : List (List ℕ))
     {keeps must_be_consistent : Bool} {count : ℕ} {found : Option Outcome} → found ≡ first_refusal ss p.block must_be_consistent p.block count
     → must_be_consistent ≡ (keeps && not carry) → keeps ≡ keeps_old p.edit → count ≡ blocks_met p
@@ -163,7 +163,7 @@ length-joined size ss base block (suc count) h =
     let three = length-append first others in
     omega arith
 
--- byte j of block k among them
+-- byte j of block k in the joined user data
 pub joined-byte : (size : ℕ) (ss : List (List ℕ)) (base block count : ℕ)
     → BlocksHaveUsers size ss base block count
     → (k j : ℕ) → k < count → j < size
@@ -282,7 +282,7 @@ module _ (ss : List (List ℕ)) (offset : ℕ) (old : List ℕ) (base count : �
       first_difference-none offset from_offset old enough
       (λ k below. byte_from k below ∙ same k below)
 
-  -- byte i is the first that does
+  -- byte i is the first byte that differs
   pub a_difference : (i : ℕ) → i < length old
       → ((k : ℕ) → k < i → user_byte ss (offset + k) ≡ get_or old k 0)
       → (user_byte ss (offset + i) ≡ get_or old i 0 → ⊥)
@@ -301,7 +301,7 @@ read-byte ss place sector user is inside read =
 
 -- ---- the search for a refusal
 
--- block base + k is asked, by the sector at i, and then the blocks after it
+-- block base + k is tested, with the sector at i, and then the blocks after it
 pub first_refusal-at : (ss : List (List ℕ)) (base : ℕ) (must_be_consistent : Bool)
     (k count i block : ℕ) (refusal : Option Outcome)
     → refusal ≡ refusal_at must_be_consistent block (slice_get ss i) → i ≡ k → block ≡ base + k
@@ -320,9 +320,9 @@ pub either-some : (refusal other : Option Outcome) → is_some refusal ≡ true
 either-some None other some = cc
 either-some (Some r) other some = refl
 
--- ---- what an accepted patch has found
+-- ---- the sectors that an accepted patch has found
 
--- `count` sectors of Mode 1, each consistent if that is asked
+-- `count` sectors of Mode 1, each consistent if this is required
 pub record AreMet (must_be_consistent : Bool) (ss : List (List ℕ)) (count : ℕ) : Type 0 where
   pub enough : count ≤ length ss
   pub mode : (k : ℕ) → k < count → kind_of (get_or ss k []) ≡ Mode1

@@ -1,4 +1,4 @@
--- Each patch makes some sectors of any sectors, and so each list of patches has a run.
+-- Each patch has a result on any sectors, and so each list of patches has a run.
 use Rattle.std.proofs.Common.{◌≡◌, ℕ, ◌+◌, ◌-◌, ◌<◌, ◌≤◌, ◌⊎◌, inl, inr, Bool, true, false, List, [], ◌∷◌, ◌++◌, length, get_or, take, drop, Option, Some, None, refl, sym, ap, subst, ◌∙◌, arith, lit<, lit≤}
 use Rattle.std.specs.Prelude.{slice_range}
 use Rattle.std.specs.List.{All, slice_get}
@@ -69,7 +69,7 @@ mode-after header h =
     ap (drop 3) (sym h.whole) ∙ ap (λ n. drop n (h.address ++ 1 ∷ [])) (sym h.size)
     ∙ drop-append_seam h.address (1 ∷ [])
 
--- a header with a new address is one
+-- a header of Mode 1 with a new address is still a header of Mode 1
 IsHeader-new : (m : EditMeaning) (address : Option (List ℕ)) (header : List ℕ)
     → IfSome address (IsAddressAlone m) → IsHeader header → IsHeader (with_address address header)
 IsHeader-new m None header only h = h
@@ -80,7 +80,7 @@ IsHeader-new m (Some bcd) header only h = record {
   whole = ap (λ rest. bcd ++ rest) (sym (mode-after header h));
 }
 
--- by either rule
+-- there is a result, whether damage is carried or not
 sector_made : (carried : Bool) (old header user : List ℕ) → IsSector old → IsHeader header
     → AreBytes user → length user ≡ USER_SIZE
     → (after : List ℕ) × Becomes carried old header user after
@@ -101,9 +101,9 @@ sector_made true old header user h k bytes size =
     (AreBytes-all (1 ∷ []) (All-cons (λ b. b < 256) 1 [] (lit< tt) (All-nil (λ b. b < 256))))))
     (omega (arith, ap length k.whole, k.size, four)) bytes size
 
--- ---- the sectors that an accepted patch makes
+-- ---- the sectors that result from an accepted patch
 
--- what stands in a block after an accepted patch: what the patch makes of it, or what stood there
+-- the sector of a block after an accepted patch: the result of the patch, or the old sector
 abbrev Follows : Bool → ℕ → Patch → List (List ℕ) → ℕ → List ℕ → List ℕ → Type 0
 Follows carry base p old block before after =
     ((p.block ≤ block) × (block < p.block + blocks_met p)

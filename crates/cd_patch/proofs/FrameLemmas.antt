@@ -1,4 +1,4 @@
--- A patch sees and changes no more than the blocks that it meets: the same holds of a part of the
+-- A patch reads and changes only the blocks that it meets, so the same is true on a part of the
 -- sectors that has them.
 use Rattle.std.proofs.Common.{◌≡◌, ◌↔◌, ℕ, zero, suc, ◌+◌, ◌<◌, ◌≤◌, ◌⊎◌, inl, inr, Bool, true, false, List, [], ◌++◌, length, refl, sym, ap, ap₂, subst, ◌∙◌, arith, add-one}
 use Rattle.std.proofs.lemmas.Bool.{and_from, and_left, and_right, cases_lt, le-leb, le-ltb, lt-leb, lt-ltb}
@@ -15,7 +15,7 @@ use Rattle.cd_patch.specs.declared.outcome.Outcome.{Outcome}
 use Rattle.cd_patch.specs.declared.outcome.Outcome.TheVariants.{Applied, Damaged, Differs, NoBlock, NotMode1}
 use Rattle.cd_patch.proofs.SectorAtLemmas.{sector_at-back, sector_at-frame, sector_at-front, sector_at-missing}
 
--- ---- by what has become of a patch
+-- ---- by the outcome of a patch
 
 -- an accepted patch is applied, and any other has changed nothing
 pub by_effect : (carry : Bool) (base : ℕ) (p : Patch) (old new : List (List ℕ))
@@ -37,7 +37,7 @@ EffectOf-refused carry (NotMode1 b) base p old new none = (λ h. h, λ h. h)
 EffectOf-refused carry (Damaged b) base p old new none = (λ h. h, λ h. h)
 EffectOf-refused carry (Differs b offset) base p old new none = (λ h. h, λ h. h)
 
--- the effect of a patch that has one outcome on two lists of sectors
+-- the effect of a patch that has the same outcome on two lists of sectors
 pub Effect-as : (carry : Bool) (base base' : ℕ) (p : Patch) (old new old' new' : List (List ℕ))
     → outcome carry old base p ≡ outcome carry old' base' p
     → (IsApplied carry base p old new → IsApplied carry base' p old' new')

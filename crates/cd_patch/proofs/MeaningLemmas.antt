@@ -1,4 +1,5 @@
--- What the meaning of an edit keeps to, with a row for each edit; no other proof has a case for each.
+-- The limits of the meaning of an edit, with a row for each edit; no other proof has a case for
+-- each edit.
 use Rattle.std.proofs.Common.{◌≡◌, ℕ, ◌+◌, ◌*◌, ◌<◌, ◌≤◌, inl, inr, true, false, List, [], ◌∷◌}
 use Rattle.std.proofs.Common.{length, get_or, replicate, Option, Some, None, refl, sym, subst}
 use Rattle.std.proofs.Common.{arith, lit<}
@@ -19,7 +20,7 @@ use Rattle.cd_sector.specs.declared.sector.TheConstants.{USER_SIZE}
 use Rattle.cd_patch.specs.Blocks.{block_limit}
 use Rattle.cd_patch.specs.EditMeaning.{EditMeaning, meaning}
 
--- an edit that writes an address writes no bytes, and builds on the sector
+-- an edit that writes an address writes no bytes, and changes the existing sector
 pub record IsAddressAlone (m : EditMeaning) (address : List ℕ) : Type 0 where
   pub is_address : IsAddress address
   pub no_bytes : m.bytes ≡ []
@@ -29,12 +30,12 @@ pub record FitsMeaning (offset : ℕ) (m : EditMeaning) : Type 0 where
   -- the bytes lie in as many blocks as a patch may meet
   pub room : offset + length m.bytes ≤ USER_SIZE * block_limit
   pub each : AreBytes m.bytes
-  -- no more are asked for than are written
+  -- there are at most as many old bytes as bytes to write
   pub must_be_consistent : length m.old ≤ length m.bytes
-  -- an edit that builds on the sector and writes no address writes bytes
+  -- an edit that changes the existing sector and writes no address writes bytes
   pub some : m.keeps_old ≡ true → m.address ≡ None → 1 ≤ length m.bytes
   pub address : IfSome m.address (IsAddressAlone m)
-  -- one that encodes the sector again writes neither
+  -- an edit that encodes the sector again writes neither bytes nor an address
   pub encoded : m.keeps_old ≡ false → (m.bytes ≡ []) × (m.address ≡ None)
 
 -- ---- bytes
@@ -61,7 +62,7 @@ AreBytes-address bytes h =
     (All-cons P (bcd h.second) (bcd h.fraction ∷ []) second
     (All-cons P (bcd h.fraction) [] fraction (All-nil P)))))
 
--- as many old bytes are asked for as new ones are written, or none
+-- there are as many old bytes as new ones, or none
 length-asked : (bytes : List ℕ) (was : Option (List ℕ))
     → IfSome was (λ old. IsBytes old × (length old ≡ length bytes))
     → length (unwrap_or was []) ≤ length bytes
@@ -105,7 +106,7 @@ fits_meaning offset (Address address) low h = record {
   encoded = λ encoded. cc;
 }
 
--- a patch's edit fits at its offset
+-- the edit of a patch keeps these limits at the patch's offset
 pub patch-fits : (p : Patch) → IsPatch p → FitsMeaning p.offset (meaning p.edit)
 patch-fits p h = fits_meaning p.offset p.edit h.offset h.edit
 

@@ -1,4 +1,4 @@
--- What the bytes of an edit make of the sectors in which they lie.
+-- The effect of an edit's bytes on the sectors in which they lie.
 use Rattle.std.proofs.Common.{◌≡◌, ◌≢◌, ℕ, ◌+◌, ◌-◌, ◌*◌, ◌<◌, ◌≤◌, ◌⊎◌, inl, inr, Bool, List, [], length, get_or, set, take, drop, replicate, sym, ap, subst, ◌∙◌, below_more, arith}
 use Rattle.std.specs.Prelude.{slice_range}
 use Rattle.std.proofs.lemmas.Bool.{cases_lt}
@@ -59,7 +59,8 @@ HasPart-nothing carried k offset bytes header before after none is_made =
       outside = λ j below out. ap (λ u. get_or u j 0) user;
     }
 
--- its user data is its part of the joined user data with the bytes in their range
+-- the sector's user data is its part of the joined user data after the bytes were written into
+-- their range
 pub user_part-of : (carried : Bool) (k count offset : ℕ) (bytes joined header before after : List ℕ)
     → k < count → length joined ≡ 2048 * count
     → offset + length bytes ≤ 2048 * count → length (user_of after) ≡ 2048
@@ -102,7 +103,7 @@ user_part-of carried k count offset bytes joined header before after inside size
 
 -- ---- one sector after the other
 
--- those below k are made by the rule for their number, the others are as they were
+-- the sectors below index k result from the rule for their index, and the others are unchanged
 pub record MadeBelow (Rule : ℕ → List ℕ → List ℕ → Type 0) (k : ℕ)
     (old new : List (List ℕ)) : Type 0 where
   pub size : length new ≡ length old
@@ -136,7 +137,7 @@ read_old {Rule} {k} {old} {new} d below inside =
 
 -- ---- bytes that are copied, or equal
 
--- those of a range that lie in a sector, copied
+-- the bytes of a range that lie in a sector, copied
 pub HasPart-copied : (carried : Bool) (k offset place first end : ℕ)
     (bytes header before after : List ℕ) → IsPart k offset (length bytes) place first end
     → length (user_of before) ≡ 2048
@@ -147,7 +148,8 @@ HasPart-copied carried k offset place first end bytes header before after at siz
     HasPart-written carried k offset place first end bytes (drop first bytes) header before after at
     size (omega (arith, length-drop first bytes)) (λ i below. get_or-drop first bytes i 0) is_made
 
--- those of a filled range: any of them are the first of a sector of equal bytes
+-- the bytes of a filled range that lie in a sector: they equal the first bytes of a sector filled
+-- with the value
 pub HasPart-filled : (carried : Bool) (k offset place first end count value : ℕ)
     (header before after : List ℕ)
     → IsPart k offset (length (replicate count value)) place first end

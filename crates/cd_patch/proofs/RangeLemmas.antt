@@ -1,5 +1,4 @@
--- How far a patch reaches: into three blocks at most, and its range lies in the blocks that it
--- meets.
+-- The extent of a patch: at most three blocks, and its range lies in the blocks that it meets.
 use Rattle.std.proofs.Common.{ℕ, ◌+◌, ◌*◌, ◌<◌, ◌≤◌, length, arith}
 use Rattle.cd_script.specs.Patch.{IsPatch}
 use Rattle.cd_script.specs.PatchForm.{Patch}
@@ -23,7 +22,7 @@ old-fits p h =
     let within = (patch-fits p h).must_be_consistent in
     (omega (arith, range-inside p), omega (arith, (patch-fits p h).room))
 
--- a range lies in each of its blocks, and no patch meets more of them than three
+-- a range lies in each of its blocks, and no patch meets more than three blocks
 pub record Spans (offset count blocks : ℕ) : Type 0 where
   pub few : blocks ≤ block_limit
   pub some : USER_SIZE * blocks < offset + count + USER_SIZE

@@ -33,7 +33,7 @@ pub sector_at-missing : (sectors : List (List ℕ)) (base block : ℕ)
 sector_at-missing sectors base block (inl below) = sector_at-below sectors base block below
 sector_at-missing sectors base block (inr after) = sector_at-after sectors base block after
 
--- if there is a sector
+-- a block that has a sector lies within the list
 pub sector_at-within : (sectors : List (List ℕ)) (base block : ℕ) (sector : List ℕ)
     → sector_at sectors base block ≡ Some sector → (base ≤ block) × (block < base + length sectors)
 sector_at-within sectors base block sector e = elim (cases_lt block base) [
@@ -51,7 +51,7 @@ sector_at-some sectors base block from inside =
     sector_at-from sectors base block from
     ∙ slice_get-get_or sectors (block - base) [] (omega arith)
 
--- a list as long has a sector if the other has one
+-- a list of the same length has a sector if the other list has one
 pub sector_at-other : (sectors others : List (List ℕ)) (base block : ℕ) (sector : List ℕ)
     → length others ≡ length sectors → sector_at sectors base block ≡ Some sector
     → (other : List ℕ) × (sector_at others base block ≡ Some other)
@@ -59,7 +59,7 @@ sector_at-other sectors others base block sector same e =
     let within = sector_at-within sectors base block sector e in
     (get_or others (block - base) [], sector_at-some others base block within.0 (omega arith))
 
--- and none if the other has none
+-- a list of the same length has no sector if the other list has none
 pub sector_at-none : (sectors others : List (List ℕ)) (base block : ℕ)
     → length others ≡ length sectors → sector_at sectors base block ≡ None
     → sector_at others base block ≡ None
@@ -93,7 +93,8 @@ sector_at-back front others base middle block e h =
     ∙ slice_get-append_right front others (block - middle) (block - base) (omega arith)
     ∙ sym (sector_at-from others middle block h)
 
--- a part of a list has the sectors of its blocks, and of those after it if nothing follows
+-- a part of a list has the sectors of its blocks, and also of the blocks after it if nothing
+-- follows the part
 pub sector_at-frame : (front window more : List (List ℕ)) (base middle block : ℕ)
     → middle ≡ base + length front → middle ≤ block
     → (block < middle + length window) ⊎ (more ≡ [])
@@ -107,14 +108,14 @@ sector_at-frame front window more base middle block e from (inr none) =
 
 -- ---- equal sectors
 
--- equal at each block, equal lists
+-- lists with equal sectors at each block are equal
 pub same_sectors : (old new : List (List ℕ)) (base : ℕ)
     → ((block : ℕ) → sector_at new base block ≡ sector_at old base block) → new ≡ old
 same_sectors old new base h =
     same_elements new old
     (λ k. sym (sector_at-add new base k) ∙ h (base + k) ∙ sector_at-add old base k)
 
--- equal below a block, equal fronts
+-- lists with equal sectors below a block have equal fronts
 pub same_front : (old new : List (List ℕ)) (base count : ℕ)
     → ((block : ℕ) → block < base + count → sector_at new base block ≡ sector_at old base block)
     → take count new ≡ take count old

@@ -1,5 +1,5 @@
--- Sequences of patches: their lengths, how they are joined and cut, what they leave as it is, and that
--- there is only one.
+-- Sequences of patches: their lengths, how they are joined and cut, which sectors they leave
+-- unchanged, and that there is only one result.
 use Rattle.std.proofs.Common.{◌≡◌, ℕ, suc, ◌+◌, ◌-◌, ◌<◌, ◌≤◌, ◌⊎◌, inl, inr, Bool, List, [], ◌∷◌, ◌++◌, length, take, drop, Some, refl, sym, ap, subst, ◌∙◌, arith}
 use Rattle.std.specs.List.{All}
 use Rattle.std.proofs.lemmas.List.{take-append-drop, take_at}
@@ -70,7 +70,7 @@ PatchSequence-split carry (p ∷ ps) ps' (o ∷ os) base old last h =
     } in
     (o ∷ r.0, r.1, r.2, ap (λ l. o ∷ l) r.3, first, r.5)
 
--- ---- what patches leave as it is
+-- ---- the sectors that patches leave unchanged
 
 pub Effect-keeps : (carry : Bool) (base : ℕ) (p : Patch) (old new : List (List ℕ))
     → Effect carry base p old new → (block : ℕ)

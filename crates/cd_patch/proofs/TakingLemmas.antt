@@ -1,4 +1,4 @@
--- What an accepted patch makes of the sectors, and the ranges of edits.
+-- The effect of an accepted patch on the sectors, and the ranges of edits.
 use Rattle.std.proofs.Common.{◌≡◌, ℕ, ◌+◌, ◌-◌, ◌<◌, ◌≤◌, inl, inr, Bool, true, false, List, [], ◌++◌, length, get_or, take, drop, Option, Some, None, refl, sym, ap, subst, ◌∙◌, arith}
 use Rattle.std.specs.Prelude.{All, ◌&&◌}
 use Rattle.std.proofs.lemmas.List.{get_or_append_left, length-append, length-drop, length-take-le}
@@ -33,16 +33,16 @@ part_by carry p k before after =
     HasPart (keeps_defect carry p.edit) k p.offset (new_bytes p.edit)
     (new_header p.edit (header_of before)) before after
 
--- ---- the ways of an edit
+-- ---- the kinds of edits
 
--- one that builds on the sector and writes no address writes bytes
+-- an edit that changes the existing sector and writes no address writes bytes
 pub part-spans : (p : Patch) {keeps : Bool} {address : Option (List ℕ)} → IsPatch p
     → keeps ≡ keeps_old p.edit → keeps ≡ true → address ≡ (meaning p.edit).address → address ≡ None
     → Spans p.offset (length (new_bytes p.edit)) (blocks_met p)
 part-spans p patch row builds cell none =
     range-spans p patch ((patch-fits p patch).some (sym row ∙ builds) (sym cell ∙ none))
 
--- one that writes an address writes no bytes
+-- an edit that writes an address writes no bytes
 pub part-address : {m : EditMeaning} (carry : Bool) (k offset : ℕ) (address before after : List ℕ)
     → FitsMeaning offset m → m.address ≡ Some address
     → Becomes carry before (address ++ drop 3 (header_of before)) (user_of before) after
@@ -54,7 +54,7 @@ part-address {m} carry k offset address before after fits is made =
     rw (is, only.keeps_old)
     (HasPart-nothing carry k offset m.bytes header before after (ap length only.no_bytes) made)
 
--- one that encodes the sector again writes neither
+-- an edit that encodes the sector again writes neither bytes nor an address
 pub part-encoded : {m : EditMeaning} (carry : Bool) (k offset : ℕ) (before after : List ℕ)
     → FitsMeaning offset m → m.keeps_old ≡ false
     → Becomes false before (header_of before) (user_of before) after
@@ -85,7 +85,7 @@ accepted (NotMode1 block) h = cc
 accepted (Damaged block) h = cc
 accepted (Differs block offset) h = cc
 
--- what holds of each of the first elements holds of all of the front
+-- a property of each of the first n elements is a property of the front
 All-front : (P : List ℕ → Type 0) (ss : List (List ℕ)) (n : ℕ) → n ≤ length ss
     → ((k : ℕ) → k < n → P (get_or ss k [])) → All P (take n ss)
 All-front P ss n room each k d inside =

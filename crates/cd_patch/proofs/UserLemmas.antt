@@ -55,7 +55,7 @@ AreBytes-joined sectors base first (suc count) h =
 
 -- ---- user data with a patch's bytes
 
--- each byte is the patch's in its range, and else the one before
+-- each byte is the patch's byte within its range, and the old byte elsewhere
 written-byte : (user : List ℕ) (offset : ℕ) (bytes : List ℕ) (place : ℕ)
     → offset + length bytes ≤ length user
     → get_or (with_range user offset bytes) place 0
@@ -161,7 +161,7 @@ module _ (carry : Bool) (sectors : List (List ℕ)) (base : ℕ) (p : Patch)
         ∙ ap (λ t. if t && inside then get_or (new_bytes p.edit) (place - p.offset) 0
         else get_or (user_of sector) offset 0) (sym (le-leb p.block block from))
 
--- a patch leaves the bytes of the blocks that it does not meet
+-- a patch leaves the bytes of the blocks that it does not meet unchanged
 pub byte_by-other : (p : Patch) (block offset before : ℕ) → IsPatch p
     → (block < p.block) ⊎ (p.block + blocks_met p ≤ block) → byte_by p block offset before ≡ before
 byte_by-other p block offset before kept (inl below) =

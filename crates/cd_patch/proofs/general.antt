@@ -1,2 +1,2 @@
--- Lemmas that name nothing of this crate.
+-- Lemmas that use no definition of this crate.
 pub mod Elements

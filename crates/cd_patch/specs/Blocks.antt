@@ -4,11 +4,12 @@ use Rattle.cd_script.specs.PatchForm.{Edit, Patch}
 use Rattle.cd_sector.specs.declared.sector.TheConstants.{USER_SIZE}
 use Rattle.cd_patch.specs.EditMeaning.{new_bytes}
 
--- how many blocks a patch may meet
+-- the largest number of blocks that a patch may meet
 abbrev pub block_limit : ℕ
 block_limit = 3
 
--- the number of blocks in which bytes from an offset on lie; no bytes are of one block
+-- the number of blocks in which `count` bytes from an offset on lie; no bytes count as lying in one
+-- block
 abbrev pub blocks_spanned : ℕ → ℕ → ℕ
 blocks_spanned offset count = (offset + count - 1) / USER_SIZE + 1
 
@@ -20,6 +21,6 @@ blocks_of offset edit = blocks_spanned offset (length (new_bytes edit))
 unfoldable pub blocks_met : Patch → ℕ
 blocks_met p = blocks_of p.offset p.edit
 
--- the sector of a block, if these sectors, the first of which is block `base`, have it
+-- the sector of a block, if it is among these sectors, which start at block `base`
 unfoldable pub sector_at : List (List ℕ) → ℕ → ℕ → Option (List ℕ)
 sector_at sectors base block = if nat_lt block base then None else slice_get sectors (block - base)

@@ -1,5 +1,5 @@
--- What patches leave of each sector, in the reader's words: its header, its bytes, and whether it
--- is consistent or damaged.
+-- The effect of patches on each sector, in plain terms: its header, its bytes, and whether it is
+-- consistent or damaged.
 use Rattle.std.specs.Prelude.{◌≡◌, ℕ, ◌+◌, ◌-◌, ◌*◌, ◌<◌, nat_lt, nat_le, Bool, true, false, not, ◌&&◌, ◌||◌, if◌then◌else◌, List, [], ◌∷◌, All, length, slice_index, Some}
 use Rattle.cd_code.specs.Field.{AreBytes}
 use Rattle.cd_script.specs.PatchForm.{Patch}
@@ -27,8 +27,8 @@ is_met [] os block = false
 is_met (p ∷ ps) [] block = false
 is_met (p ∷ ps) (o ∷ os) block = (is_applied o && meets p block) || is_met ps os block
 
--- the user byte at an offset of a block that an accepted patch leaves: its own if its range has the
--- place, else the byte before
+-- the user byte at an offset of a block after an accepted patch: the patch's own byte if its range
+-- has this place, else the old byte
 abbrev pub byte_by : Patch → ℕ → ℕ → ℕ → ℕ
 byte_by p block offset before =
     let place = USER_SIZE * (block - p.block) + offset in
@@ -36,14 +36,14 @@ byte_by p block offset before =
     && (nat_le p.offset place && nat_lt place (p.offset + length (new_bytes p.edit)))
     then slice_index (new_bytes p.edit) (place - p.offset) else before
 
--- the user byte that the accepted patches leave, in order
+-- the user byte after the accepted patches, in order
 abbrev pub byte_left : List Patch → List Outcome → ℕ → ℕ → ℕ → ℕ
 byte_left [] os block offset before = before
 byte_left (p ∷ ps) [] block offset before = before
 byte_left (p ∷ ps) (o ∷ os) block offset before =
     byte_left ps os block offset (if is_applied o then byte_by p block offset before else before)
 
--- the header that the accepted patches leave, in order
+-- the header after the accepted patches, in order
 abbrev pub header_left : List Patch → List Outcome → ℕ → List ℕ → List ℕ
 header_left [] os block before = before
 header_left (p ∷ ps) [] block before = before
@@ -58,15 +58,15 @@ is_rebuilt (p ∷ ps) [] block = false
 is_rebuilt (p ∷ ps) (o ∷ os) block =
     ((is_applied o && meets p block) && not (keeps_old p.edit)) || is_rebuilt ps os block
 
--- the damage of one sector is that of the other
+-- both sectors have the same damage
 pub record SameDamage (before after : List ℕ) : Type 0 where
   pub sync : sync_of after ≡ sync_of before
   pub defect : defect_of after ≡ defect_of before
 
--- a sector that no accepted patch meets is the old one; each other one has the header and the user
--- bytes that the accepted patches leave in order. If no damage is carried it is consistent; if
--- damage is carried it has the sync field and the defect of the old one, or is consistent if it was
--- rebuilt. A consistent one stays consistent
+-- a sector that no accepted patch meets is unchanged. Every other sector has the header and the
+-- user bytes that the accepted patches leave in order. If no damage is carried, it is consistent.
+-- If damage is carried, it has the sync field and the defect of the old sector, or is consistent if
+-- it was rebuilt. A consistent sector stays consistent
 pub record LeavesOthers (carry : Bool) (ps : List Patch) (os : List Outcome) (base : ℕ)
     (old last : List (List ℕ)) : Type 0 where
   pub count : length last ≡ length old

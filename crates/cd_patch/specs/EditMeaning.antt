@@ -1,21 +1,22 @@
--- What each edit means for the sectors that its patch meets: the one definition of patches that has a
--- row for each.
+-- The meaning of each edit for the sectors that its patch meets. This is the only definition of
+-- patches that has a row for each edit.
 use Rattle.std.specs.Prelude.{ℕ, Bool, true, false, not, ◌&&◌, List, [], ◌++◌, drop, replicate, Option, Some, None, unwrap_or}
 use Rattle.cd_script.specs.PatchForm.{Edit}
 use Rattle.cd_script.specs.declared.patch.Edit.TheVariants.{Put, Fill, Rebuild, Address}
 
--- what an edit means for the blocks that its patch meets
+-- the meaning of an edit for the blocks that its patch meets
 pub record EditMeaning : Type 0 where
   -- the user bytes that it writes, from the patch's offset on
   pub bytes : List ℕ
-  -- the bytes that have to stand in their place before; none if any may
+  -- the old bytes that must be in their place; none if any bytes may be there
   pub old : List ℕ
   -- the address that it writes into the header
   pub address : Option (List ℕ)
-  -- whether it changes the sector as it stands; false if it encodes the sector again
+  -- whether it changes the existing sector; false if it encodes the sector again
   pub keeps_old : Bool
 
--- what each row begins with: nothing is written, no old byte is named, and the sector stays
+-- the defaults of each row: nothing is written, no old byte is named, and the sector is not encoded
+-- again
 abbrev pub nothing : EditMeaning
 nothing = record { bytes = []; old = []; address = None; keeps_old = true }
 
@@ -30,7 +31,7 @@ meaning (Address bcd) = record nothing { address = Some bcd }
 abbrev pub new_bytes : Edit → List ℕ
 new_bytes edit = (meaning edit).bytes
 
--- the bytes that have to stand in their place before
+-- the old bytes that must be in their place
 abbrev pub old_bytes : Edit → List ℕ
 old_bytes edit = (meaning edit).old
 
@@ -39,11 +40,11 @@ abbrev pub with_address : Option (List ℕ) → List ℕ → List ℕ
 with_address None header = header
 with_address (Some bcd) header = bcd ++ drop 3 header
 
--- the header that an edit makes of an old one
+-- the header that results from an edit of this header
 abbrev pub new_header : Edit → List ℕ → List ℕ
 new_header edit header = with_address (meaning edit).address header
 
--- whether an edit changes the sector as it stands, and does not encode it again
+-- whether an edit changes the existing sector, and does not encode it again
 abbrev pub keeps_old : Edit → Bool
 keeps_old edit = (meaning edit).keeps_old
 

@@ -1,5 +1,5 @@
--- What a patch makes of the sectors, as a relation between those before and those after: it says
--- what is true of both, and computes no sector. A law says that there is just one result.
+-- The effect of a patch, as a relation between the sectors before and after it. The relation states
+-- facts about both, and calculates no sector. A law says that there is only one result.
 use Rattle.std.specs.Prelude.{◌≡◌, ℕ, ◌+◌, ◌*◌, ◌<◌, ◌≤◌, ◌⊎◌, Bool, true, false, List, length, slice_range, Some}
 use Rattle.cd_script.specs.PatchForm.{Edit, Patch}
 use Rattle.cd_sector.specs.Carried.{IsCarried}
@@ -18,14 +18,14 @@ pub record IsRemade (header user sector : List ℕ) : Type 0 where
   pub has_header : header_of sector ≡ header
   pub has_user : user_of sector ≡ user
 
--- what a sector becomes, with this header and user data: if damage is carried it keeps its old sync
--- field and defect (`IsCarried`), else it is consistent (`IsRemade`)
+-- the result for a sector, with this header and user data: if damage is carried, it keeps its old
+-- sync field and defect (`IsCarried`), else it is consistent (`IsRemade`)
 abbrev pub Becomes : Bool → List ℕ → List ℕ → List ℕ → List ℕ → Type 0
 Becomes false old header user new = IsRemade header user new
 Becomes true old header user new = IsCarried old header user new
 
--- what an edit makes of a sector to which it gives this user data: if damage is carried, each edit
--- but `rebuild` keeps the old defect; else the result is the consistent sector
+-- the result of an edit that gives a sector this user data: if damage is carried, each edit except
+-- `rebuild` keeps the old defect; else the result is the consistent sector
 abbrev pub EditResult : Bool → Edit → List ℕ → List ℕ → List ℕ → Type 0
 EditResult carry edit old user new =
     Becomes (keeps_defect carry edit) old (new_header edit (header_of old)) user new
@@ -34,13 +34,13 @@ EditResult carry edit old user new =
 unfoldable pub patched_user : List (List ℕ) → ℕ → Patch → List ℕ
 patched_user sectors base p = with_range (user_met sectors base p) p.offset (new_bytes p.edit)
 
--- the part of joined user data that lies in the block at number k among them
+-- the part of joined user data that lies in the block with index k among the joined ones
 unfoldable pub user_part : List ℕ → ℕ → List ℕ
 user_part user k = slice_range user (USER_SIZE * k) (USER_SIZE * (k + 1))
 
--- an accepted patch: each block that it meets has the header that the patch makes of its old one
--- and its part of the patched user data, and is consistent, or has the old defect if that is
--- carried; every other block is as it was
+-- the effect of an accepted patch: each block that it meets has the new header and its part of the
+-- patched user data, and is consistent, or has the old defect if damage is carried. Every other
+-- block is unchanged
 pub record IsApplied (carry : Bool) (base : ℕ) (p : Patch) (old new : List (List ℕ)) : Type 0 where
   pub count : length new ≡ length old
   pub met : (k : ℕ) (before after : List ℕ) → k < blocks_met p
@@ -50,7 +50,7 @@ pub record IsApplied (carry : Bool) (base : ℕ) (p : Patch) (old new : List (Li
   pub others : (block : ℕ) → (block < p.block) ⊎ (p.block + blocks_met p ≤ block)
       → sector_at new base block ≡ sector_at old base block
 
--- an accepted patch is applied; a refused one changes nothing, whatever refused it
+-- an accepted patch is applied; a refused patch changes nothing, whatever the reason
 abbrev pub EffectOf : Bool → Outcome → ℕ → Patch → List (List ℕ) → List (List ℕ) → Type 0
 EffectOf carry Applied base p old new = IsApplied carry base p old new
 EffectOf carry (NoBlock block) base p old new = new ≡ old
@@ -58,6 +58,6 @@ EffectOf carry (NotMode1 block) base p old new = new ≡ old
 EffectOf carry (Damaged block) base p old new = new ≡ old
 EffectOf carry (Differs block offset) base p old new = new ≡ old
 
--- what a patch makes of the sectors `old`, the first of which is block `base`
+-- the effect of a patch on the sectors `old`, which start at block `base`
 abbrev pub Effect : Bool → ℕ → Patch → List (List ℕ) → List (List ℕ) → Type 0
 Effect carry base p old new = EffectOf carry (outcome carry old base p) base p old new

@@ -1,4 +1,5 @@
--- What follows from the definitions of patches; each law is a contract of `laws.rt`.
+-- Laws that follow from the definitions of patches. Each is the contract of a function in
+-- `laws.rt`.
 use Rattle.std.specs.Prelude.{◌≡◌, ◌↔◌, ℕ, ◌+◌, ◌≤◌, ◌≢◌, Bool, true, false, List, All, take, slice_get, Some}
 use Rattle.std.specs.List.Sorted.{IsNonDecreasingBy}
 use Rattle.cd_script.specs.Patch.{IsPatch}
@@ -12,7 +13,7 @@ use Rattle.cd_patch.specs.Sequence.{PatchSequence}
 use Rattle.cd_patch.specs.declared.outcome.Outcome.{Outcome}
 use Rattle.cd_patch.specs.declared.outcome.Outcome.TheVariants.{Applied, Damaged}
 
--- a run's outcomes and last sectors follow from the patches and the sectors
+-- the patches and the sectors determine the outcomes and the final sectors of a run
 abbrev pub SequenceIsDetermined : Type 0
 SequenceIsDetermined =
     (carry : Bool) (ps : List Patch) (os os' : List Outcome) (base : ℕ)
@@ -28,8 +29,8 @@ SequenceExists =
     → (os : List Outcome) × (last : List (List ℕ)) × PatchSequence carry ps os base old last
     × All IsSector last
 
--- if the first i + block_limit sectors are equal, the patches up to block base + i have equal
--- outcomes, and leave equal sectors 0 to i
+-- if the first i + block_limit sectors of two images are equal, the patches up to block base + i
+-- have equal outcomes on both, and leave equal sectors 0 to i
 abbrev pub SequencesAgree : Type 0
 SequencesAgree =
     (carry : Bool) (i base : ℕ) (ps : List Patch) (os os' : List Outcome)
@@ -41,7 +42,7 @@ SequencesAgree =
     → slice_get os k ≡ slice_get os' k)
     × (take (i + 1) last ≡ take (i + 1) last')
 
--- what a run leaves is as `LeavesOthers` says
+-- the result of a run is as `LeavesOthers` says
 abbrev pub SequenceLeavesOthers : Type 0
 SequenceLeavesOthers =
     (carry : Bool) (ps : List Patch) (os : List Outcome) (base : ℕ) (old last : List (List ℕ))
@@ -57,8 +58,8 @@ LeavesOne =
 
 -- ---- the hand stands for the image
 
--- a patch has on its hand the outcome that it has on the image, and what it leaves there, put back,
--- is what it makes of the image
+-- a patch has the same outcome on its hand as on the image, and its effect on the hand, put back,
+-- is its effect on the image
 abbrev pub HandStandsForImage : Type 0
 HandStandsForImage =
     (carry : Bool) (base : ℕ) (p : Patch) (sectors changed : List (List ℕ)) → IsPatch p
@@ -66,7 +67,7 @@ HandStandsForImage =
     × (Effect carry p.block p (hand sectors base p.block) changed
     → Effect carry base p sectors (put_back sectors base p.block changed))
 
--- patches taken hand by hand are a run, and each run can be taken so
+-- applying patches hand by hand is a run, and each run can be made this way
 abbrev pub HandSequenceIsRun : Type 0
 HandSequenceIsRun =
     (carry : Bool) (ps : List Patch) (os : List Outcome) (base : ℕ) (old last : List (List ℕ))
@@ -75,14 +76,15 @@ HandSequenceIsRun =
 
 -- ---- if there is nothing to carry
 
--- a patch that is accepted if no damage is carried is accepted if it is, and makes equal sectors
+-- a patch that is accepted without carrying damage is also accepted with it, and leaves equal
+-- sectors
 abbrev pub NothingToCarry : Type 0
 NothingToCarry =
     (base : ℕ) (p : Patch) (old new : List (List ℕ)) → outcome false old base p ≡ Applied
     → Effect false base p old new
     → (outcome true old base p ≡ Applied) × Effect true base p old new
 
--- if damage is carried no patch is refused for it
+-- if damage is carried, no patch is refused for damage
 abbrev pub NeverDamaged : Type 0
 NeverDamaged =
     (base block : ℕ) (p : Patch) (sectors : List (List ℕ))

@@ -3,7 +3,7 @@ use Rattle.std.specs.Prelude.{Bool, true, false}
 use Rattle.cd_patch.specs.declared.outcome.Outcome.{Outcome}
 use Rattle.cd_patch.specs.declared.outcome.Outcome.TheVariants.{Applied, Damaged, Differs, NoBlock, NotMode1}
 
--- whether an outcome is that of an accepted patch
+-- whether the outcome is an acceptance
 abbrev pub is_applied : Outcome → Bool
 is_applied Applied = true
 is_applied (NoBlock block) = false

@@ -1,9 +1,9 @@
--- The numbers by which calls of C name the outcome of a patch, those of `enum cdpatch_result`.
+-- The numbers of a patch's outcomes in C calls, as in `enum cdpatch_result`.
 use Rattle.std.specs.Prelude.{ℕ, ◌==◌, Option, Some, None, if◌then◌else◌}
 use Rattle.cd_patch.specs.declared.outcome.Outcome.{Outcome}
 use Rattle.cd_patch.specs.declared.outcome.Outcome.TheVariants.{Applied, Damaged, Differs, NoBlock, NotMode1}
 
--- the record is that of no patch
+-- the record is not a valid patch
 abbrev pub no_patch : ℕ
 no_patch = 6
 
@@ -25,7 +25,7 @@ outcome_of number block offset =
     else if number == 5 then Some (Differs block offset)
     else None
 
--- the block that refuses a patch, else 0
+-- the block that refused a patch; 0 if it was accepted
 abbrev pub outcome_block : Outcome → ℕ
 outcome_block Applied = 0
 outcome_block (NotMode1 block) = block
@@ -33,7 +33,7 @@ outcome_block (Damaged block) = block
 outcome_block (NoBlock block) = block
 outcome_block (Differs block offset) = block
 
--- the user byte there that differs, else 0
+-- the offset of the user byte that differs in that block; 0 for every other outcome
 abbrev pub outcome_offset : Outcome → ℕ
 outcome_offset Applied = 0
 outcome_offset (NotMode1 block) = 0

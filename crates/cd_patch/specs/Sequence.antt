@@ -1,12 +1,12 @@
--- A run: patches taken one after the other, each on the sectors as the earlier ones leave them.
+-- A run: patches applied one after the other, each to the sectors that the earlier ones leave.
 use Rattle.std.specs.Prelude.{◌≡◌, ℕ, Bool, List, [], ◌∷◌}
 use Rattle.cd_script.specs.PatchForm.{Patch}
 use Rattle.cd_patch.specs.Deciding.{outcome}
 use Rattle.cd_patch.specs.Effect.{Effect}
 use Rattle.cd_patch.specs.declared.outcome.Outcome.{Outcome}
 
--- one step of a run: the first patch has this outcome, and the others go on from the sectors that
--- it leaves
+-- one step of a run: the first patch has this outcome, and the others continue from the sectors
+-- that it leaves
 pub record PatchThen (carry : Bool) (p : Patch) (o : Outcome) (base : ℕ) (old : List (List ℕ))
     (HoldsInvariant : List (List ℕ) → Type 0) : Type 0 where
   pub decided : o ≡ outcome carry old base p
@@ -14,8 +14,8 @@ pub record PatchThen (carry : Bool) (p : Patch) (o : Outcome) (base : ℕ) (old 
   pub effect : Effect carry base p old next
   pub others : HoldsInvariant next
 
--- the patches, with damage carried or not, have these outcomes, and lead from the sectors `old`,
--- the first of which is block `base`, to `last`
+-- the patches, with damage carried or not, have these outcomes, and turn the sectors `old`, which
+-- start at block `base`, into `last`
 abbrev pub PatchSequence : Bool → List Patch → List Outcome → ℕ → List (List ℕ) → List (List ℕ)
     → Type 0
 PatchSequence carry [] [] base old last = last ≡ old

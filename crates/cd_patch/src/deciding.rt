@@ -1,4 +1,5 @@
-//! Whether a patch is accepted: its blocks are tested upwards, then the old bytes that it names.
+//! Decides whether a patch is accepted: tests its blocks in ascending order, then the old bytes
+//! that it names.
 
 ghost use Rattle.std.specs.Prelude.{◌≡◌, ℕ, ◌+◌, ◌*◌, ◌<◌, ◌≤◌, drop, IfSome, length, None, [], slice_get, slice_index_or};
 ghost use Rattle.cd_script.specs.Limits.{number_limit};
@@ -14,8 +15,8 @@ use crate::outcome::Outcome;
 use cd_script::{LentBytes, Patch};
 use cd_sector::{Sector, SectorKind, USER_SIZE, is_consistent, kind};
 
-/// Decides a patch, which meets `count` blocks, on the sectors from its first block on; damage may
-/// be carried.
+/// Decides a patch that meets `count` blocks, on the sectors from its first block on. With `carry`,
+/// damage is carried.
 pub(crate) fn decide(
     sectors: &[Sector],
     patch: &Patch<LentBytes<'_>>,
@@ -42,8 +43,8 @@ pub(crate) fn decide(
     }
 }
 
-/// The first refusal of `count` blocks from `block` on, whose sectors these are;
-/// `must_be_consistent` if they have to be consistent.
+/// The first refusal among `count` blocks from `block` on, whose sectors are `sectors`. With
+/// `must_be_consistent`, an inconsistent sector refuses the patch.
 fn first_refusal(
     sectors: &[Sector],
     block: u32,
@@ -64,8 +65,8 @@ fn first_refusal(
     None
 }
 
-/// Why a block, whose sector is that at `k`, refuses a patch; `must_be_consistent` if it has to be
-/// consistent. None if it does not refuse.
+/// Why a block refuses a patch, or `None` if it does not. The sector of the block is `sectors[k]`,
+/// if the image has it. With `must_be_consistent`, an inconsistent sector refuses the patch.
 fn refusal_at(sectors: &[Sector], k: usize, block: u32, must_be_consistent: bool) -> Option<Outcome>
     ensures refusal { result ≡ refusal_at must_be_consistent block (slice_get sectors.now k) }
     ensures user { result ≡ None → length (user_of (slice_index_or sectors.now k [])) ≡ USER_SIZE }
@@ -95,7 +96,8 @@ pub(crate) fn lemma_user_size(sector: &Sector)
     sector.user();
 }
 
-/// The place, in the joined user data of the sectors, of the first byte from `offset` on that is not the old one.
+/// The index, in the joined user data of the sectors, of the first byte from `offset` on that
+/// differs from the old byte; `None` if all are equal.
 fn first_difference(sectors: &[Sector], offset: u16, old: &[u8]) -> Option<usize>
     requires { offset + length old.now ≤ 2048 * length sectors.now }
     ensures value { (base count : ℕ) → HaveUsers sectors.now count → count ≤ length sectors.now

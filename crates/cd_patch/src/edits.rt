@@ -1,4 +1,5 @@
-//! What each edit means for the sectors that its patch meets. Nothing else here tells them apart.
+//! The meaning of each edit for the sectors that its patch meets. No other file of this crate
+//! distinguishes the kinds of edits.
 
 ghost use Rattle.std.specs.Prelude.{◌≡◌, ◌+◌, ◌*◌, ◌≤◌, ◌&&◌, length, not};
 ghost use Rattle.cd_script.specs.Patch.{IsPatch};
@@ -9,7 +10,8 @@ ghost use Rattle.cd_patch.specs.Parts.{bytes_to_write};
 use cd_script::{Edit, HexEdit, HexPatch, LentBytes, Patch, lend};
 use cd_sector::USER_SIZE;
 
-/// How many blocks a patch may meet: 4096 bytes lie in at most three, from any offset on.
+/// The largest number of blocks that a patch may meet: from any offset, 4096 bytes lie in at most
+/// three blocks.
 pub const MAX_BLOCKS_MET: usize = 3;
 
 /// User bytes that an edit writes.
@@ -17,12 +19,12 @@ pub const MAX_BLOCKS_MET: usize = 3;
 pub(crate) enum NewBytes<'a> {
     /// These bytes of the patch.
     Borrowed(&'a [u8]),
-    /// So many bytes of one value.
+    /// This many bytes of one value.
     Repeated(usize, u8),
 }
 
 impl NewBytes<'_> {
-    /// How many bytes they are.
+    /// The number of bytes.
     pub(crate) fn len(&self) -> usize
         ensures { result ≡ length (bytes_to_write self.now) }
     {
@@ -33,21 +35,21 @@ impl NewBytes<'_> {
     }
 }
 
-/// What an edit means for the blocks that its patch meets.
+/// The meaning of an edit for the blocks that its patch meets.
 #[derive(Clone, Copy)]
 pub(crate) struct EditMeaning<'a> {
     /// The user bytes that it writes, from the patch's offset on.
     pub(crate) bytes: NewBytes<'a>,
-    /// The bytes that have to stand in their place before; none if any may.
+    /// The old bytes that must be in their place; empty if any bytes may be there.
     pub(crate) old: &'a [u8],
-    /// The address that it writes into the header: minute, second and fraction, each in BCD.
+    /// The address that it writes into the header: minute, second, and fraction, each in BCD.
     pub(crate) address: Option<[u8; 3]>,
-    /// Whether it changes the sector as it stands; false if it encodes the sector again.
+    /// Whether it changes the existing sector; false if it encodes the sector again.
     pub(crate) keeps_old: bool,
 }
 
 impl EditMeaning<'_> {
-    /// Whether a damaged sector refuses the edit: not if damage is carried.
+    /// Whether a damaged sector refuses the edit. It does not if damage is carried.
     pub(crate) fn needs_consistent(&self, carry: bool) -> bool
         ensures { result ≡ (self.now.keeps_old && not carry) }
     {
@@ -55,7 +57,8 @@ impl EditMeaning<'_> {
     }
 }
 
-/// What each row begins with: nothing is written, no old byte is named, and the sector stays.
+/// The defaults of each row of `meaning`: nothing is written, no old byte is named, and the sector
+/// is not encoded again.
 const NOTHING: EditMeaning<'static> = EditMeaning {
     bytes: NewBytes::Borrowed(&[]),
     old: &[],
@@ -63,7 +66,7 @@ const NOTHING: EditMeaning<'static> = EditMeaning {
     keeps_old: true,
 };
 
-/// The meaning of an edit: a row for each.
+/// The meaning of an edit, with a row for each kind of edit.
 pub(crate) fn meaning<'a>(edit: &Edit<LentBytes<'a>>) -> EditMeaning<'a>
     ensures bytes { bytes_to_write result.bytes ≡ (meaning edit.now).bytes }
     ensures old { result.old.now ≡ (meaning edit.now).old }
@@ -94,7 +97,8 @@ pub(crate) fn meaning<'a>(edit: &Edit<LentBytes<'a>>) -> EditMeaning<'a>
     }
 }
 
-/// The number of blocks that a patch meets, 1 to [`MAX_BLOCKS_MET`]: its first block, and those after it.
+/// The number of blocks that a patch meets, from 1 to [`MAX_BLOCKS_MET`]: its first block, and
+/// those after it.
 ///
 /// # Examples
 ///
@@ -114,7 +118,7 @@ pub fn blocks_met(patch: &Patch) -> usize
     blocks_met_lent(&lend(patch))
 }
 
-/// As [`blocks_met`], of a patch whose bytes are borrowed.
+/// As [`blocks_met`], for a patch whose bytes are borrowed.
 pub(crate) fn blocks_met_lent(patch: &Patch<LentBytes<'_>>) -> usize
     requires { IsPatch patch.now }
     ensures number { result ≡ blocks_met patch.now }
@@ -124,7 +128,7 @@ pub(crate) fn blocks_met_lent(patch: &Patch<LentBytes<'_>>) -> usize
     blocks_spanned(patch.offset, meaning(&patch.edit).bytes.len())
 }
 
-/// How many user bytes an edit writes whose bytes are still the hex words of its line.
+/// The number of user bytes written by an edit whose bytes are still the hex words of its line.
 fn spelled_len(edit: &HexEdit<'_>) -> usize
     ensures { result ≡ length (meaning edit.now).bytes }
 {
@@ -135,7 +139,7 @@ fn spelled_len(edit: &HexEdit<'_>) -> usize
     }
 }
 
-/// As [`blocks_met`], of a patch whose bytes are still the hex words of its line.
+/// As [`blocks_met`], for a patch whose bytes are still the hex words of its line.
 ///
 /// # Examples
 ///
@@ -155,8 +159,8 @@ pub fn blocks_met_spelled(patch: &HexPatch<'_>) -> usize
     blocks_spanned(patch.offset, spelled_len(&patch.edit))
 }
 
-/// The number of blocks in which user bytes from an offset on lie; no bytes are of one
-/// block.
+/// The number of blocks in which `count` user bytes from `offset` on lie. No bytes count as lying
+/// in one block.
 fn blocks_spanned(offset: u16, count: usize) -> usize
     requires room { offset + count ≤ USER_SIZE * block_limit }
     ensures number { result ≡ blocks_spanned offset count }

@@ -1,6 +1,6 @@
-//! Taking a patch: if it is accepted, each sector that it meets gets its part of the patched user
-//! data, or the patch's address, and is consistent, or keeps the damage that it had if damage is
-//! carried.
+//! Applies one patch: if it is accepted, each sector that it meets gets its part of the patched
+//! user data, or the patch's address. The sector is then consistent, or keeps its old damage if
+//! damage is carried.
 
 ghost use Rattle.std.specs.Prelude.{◌≡◌, ℕ, ◌+◌, ◌*◌, ◌<◌, ◌≤◌, ◌++◌, All, drop, false, length, replicate, true};
 ghost use Rattle.cd_script.specs.Limits.{offset_limit};
@@ -22,11 +22,11 @@ use cd_delta::{carry_header, carry_user, change_header, change_user};
 use cd_script::{LentBytes, Patch, lend};
 use cd_sector::{Sector, USER_SIZE, rebuild};
 
-/// Decides a patch on the sectors from its first block on: as many as the image has, or
-/// [`MAX_BLOCKS_MET`], which serve any patch. If the patch is accepted, makes of each sector that
-/// it meets the one consistent sector with its old header, or the one with the patch's address, and
-/// its part of the patched user data. With `carry` no sector is refused for its damage, and each
-/// that is not rebuilt keeps its damage.
+/// Applies a patch to the sectors from its first block on: all that the image has, or the first
+/// [`MAX_BLOCKS_MET`], which are enough for any patch. If the patch is accepted, each sector that
+/// it meets becomes the one consistent sector with its part of the patched user data and the old
+/// header, or the header with the patch's address. With `carry`, no sector is refused for its
+/// damage, and each sector that is not rebuilt keeps its damage.
 ///
 /// # Examples
 ///
@@ -45,7 +45,8 @@ pub fn apply_patch(sectors: &mut [Sector], patch: &Patch, carry: bool) -> Outcom
     apply_lent(sectors, &lend(patch), carry)
 }
 
-/// As [`apply_patch`], of a patch whose bytes are borrowed: for a caller without memory of its own.
+/// As [`apply_patch`], for a patch whose bytes are borrowed, so that a caller needs no memory of
+/// its own.
 ///
 /// # Examples
 ///
@@ -91,9 +92,9 @@ fn change_blocks(sectors: &mut [Sector], patch: &Patch<LentBytes<'_>>, carry: bo
     }
 }
 
-/// Changes the sector at number `k` among those that an accepted patch meets. User data and
-/// addresses are written by differences; a rebuild encodes the sector, since a damaged sector's
-/// parity may be wrong too. Both give the one consistent sector.
+/// Changes the sector with index `k` among those that an accepted patch meets. User data and
+/// addresses are written by differences; a rebuild encodes the sector, since the parity of a
+/// damaged sector may be wrong too. Both give the one consistent sector.
 fn change_sector(sector: &mut Sector, k: usize, patch: &Patch<LentBytes<'_>>, carry: bool)
     requires patch { IsPatch patch.now }
     requires met { k < blocks_met patch.now }
@@ -114,9 +115,9 @@ fn change_sector(sector: &mut Sector, k: usize, patch: &Patch<LentBytes<'_>>, ca
     }
 }
 
-/// Writes an address into the header of a sector. The mode byte stays: it is 01, since `decide` has
-/// tested the kind. Whether the address is that of the block is not tested here: `audit` reports
-/// it.
+/// Writes an address into the header of a sector. The mode byte stays 01, since `decide` has tested
+/// the kind. Whether the address is the block's own is not tested here: `audit` reports a wrong
+/// address.
 fn write_address(sector: &mut Sector, bcd: [u8; 3], carry: bool)
     requires mode { kind_of sector.old ≡ Mode1 }
     requires sound { carry ≡ false → IsConsistent sector.old }
@@ -130,7 +131,7 @@ fn write_address(sector: &mut Sector, bcd: [u8; 3], carry: bool)
     }
 }
 
-/// Writes those bytes of a range that lie in the sector at number `k`.
+/// Writes the bytes of a range that lie in the sector with index `k`.
 fn write_part(sector: &mut Sector, k: usize, offset: u16, bytes: NewBytes<'_>, carry: bool)
     requires mode { kind_of sector.old ≡ Mode1 }
     requires sound { carry ≡ false → IsConsistent sector.old }
@@ -156,9 +157,9 @@ fn write_part(sector: &mut Sector, k: usize, offset: u16, bytes: NewBytes<'_>, c
     }
 }
 
-/// Writes bytes into the user data of a sector. Of a consistent sector both calls make the same;
-/// only if damage is carried does the sector's old EDC cost a division, and what is proved of the
-/// other call needs no clause on damage.
+/// Writes bytes into the user data of a sector. For a consistent sector both calls give the same
+/// result. Only if damage is carried does the sector's old EDC cost a division, and the clauses
+/// proved of `change_user` need no condition on damage.
 fn write_user(sector: &mut Sector, place: u16, bytes: &[u8], carry: bool)
     requires mode { kind_of sector.old ≡ Mode1 }
     requires range { place + length bytes.now ≤ 2048 }
@@ -176,7 +177,8 @@ fn write_user(sector: &mut Sector, place: u16, bytes: &[u8], carry: bool)
     }
 }
 
-/// Where bytes `first` to `end` of a range stand in a block: at `place` of its user data.
+/// The part of a range that lies in one block: the range's bytes from `first` to before `end`,
+/// which begin at offset `place` of the block's user data.
 #[derive(Clone, Copy)]
 struct Part {
     place: u16,
@@ -184,8 +186,8 @@ struct Part {
     end: usize,
 }
 
-/// The part of a range of `count` joined user bytes from `offset` on that lies in the block at
-/// number `k`.
+/// The part of a range of `count` joined user bytes from `offset` on that lies in the block with
+/// index `k`.
 fn part_of_block(k: usize, offset: usize, count: usize) -> Part
     requires few { k < block_limit }
     requires offset { offset < 2048 * k + 2048 }

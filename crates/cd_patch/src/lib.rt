@@ -1,5 +1,5 @@
-//! What one patch of a script makes of the sectors that it meets: whether it is accepted, and the
-//! sectors that it leaves (ECMA-130, 14 and Annex A).
+//! Applies one patch of a script to the sectors that it meets: decides whether the patch is
+//! accepted, and changes the sectors (ECMA-130, 14 and Annex A).
 //!
 //! ```
 //! let script = parse(rt.alloc(), b"cdpatch 1\nset 0 0 41\n")?;
@@ -9,11 +9,12 @@
 //! }
 //! ```
 //!
-//! A patch meets one block, or the two or three that its bytes lie in ([`blocks_met`], at most
-//! [`MAX_BLOCKS_MET`]). It is refused if a block is not there, is not of Mode 1 or is damaged, or
-//! if an old byte differs; then no sector changes. Else each sector that it meets becomes the one
-//! consistent sector with its part of the patched user data. If damage is carried, a damaged sector
-//! is patched too, and keeps its damage. No call takes memory.
+//! A patch meets one block, or the two or three in which its bytes lie ([`blocks_met`], at most
+//! [`MAX_BLOCKS_MET`]). It is refused if the image does not have a block, if a sector is not of
+//! Mode 1 or is damaged, or if an old byte differs; then no sector changes. Otherwise each sector
+//! that it meets becomes the one consistent sector with its part of the patched user data. If
+//! damage is carried, a damaged sector is patched too, and keeps its damage. No call allocates
+//! memory.
 //!
 //! Tests: `crates/cd_low_tests`, and on whole images `crates/cd_image_tests`.
 #![tactic(auto)]

@@ -1,4 +1,4 @@
-//! What has become of a patch.
+//! The outcome of a patch.
 
 ghost use Rattle.std.specs.Prelude.{◌≡◌, ◌≢◌, IfSome, Some};
 ghost use Rattle.cd_patch.specs.Outcome.{is_applied};
@@ -6,17 +6,17 @@ ghost use Rattle.cd_patch.specs.OutcomeNumbers.{no_patch, outcome_block, outcome
 
 use crate::result_numbers::{DAMAGED, DIFFERS, NO_BLOCK, NOT_MODE1, OK};
 
-/// Whether a patch was accepted, or why it was refused. Blocks are named by their numbers, which
+/// Whether a patch was accepted, or why it was refused. Blocks are given by their numbers, which
 /// begin at the base.
 #[derive(Clone, Copy, Debug, PartialEq, Eq, Drop)]
 pub enum Outcome {
     /// The patch was accepted, and each block that it meets holds its bytes.
     Applied,
-    /// The patch meets this block, and the image does not have it.
+    /// The patch meets this block, which the image does not have.
     NoBlock(u32),
-    /// The patch meets this block, and its sector is not of Mode 1.
+    /// The patch meets this block, whose sector is not of Mode 1.
     NotMode1(u32),
-    /// The patch meets this block, and its sector is not consistent.
+    /// The patch meets this block, whose sector is not consistent.
     Damaged(u32),
     /// The user byte at this offset of this block is not the old byte that the patch names.
     Differs(u32, u16),
@@ -41,7 +41,7 @@ impl Outcome {
         }
     }
 
-    /// The number by which calls of C name it, one of [`result_numbers`](crate::result_numbers).
+    /// The number of the outcome in C calls, one of [`result_numbers`](crate::result_numbers).
     ///
     /// # Examples
     ///
@@ -64,7 +64,8 @@ impl Outcome {
         }
     }
 
-    /// The outcome that a number names, at this block and user byte, if it is that of one.
+    /// Converts a result number to an `Outcome` at this block and user byte; `None` if the number
+    /// does not belong to an outcome.
     ///
     /// See the example of [`Outcome::number`].
     pub fn of_number(number: u32, block: u32, offset: u16) -> Option<Self>

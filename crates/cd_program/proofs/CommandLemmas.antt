@@ -1,4 +1,4 @@
--- How a line of the program's own goes out, and how a command ends.
+-- The printing of a line of the program itself, and the end of a command.
 use Rattle.std.proofs.Common.{◌≡◌, ◌≢◌, ◌⊎◌, arith, ℕ, ◌+◌, ◌==◌, Bool, true, false, cond, subst, List, [], take, drop, Result, Ok, Err, OnOk, is_ok, refl, sym, ap, ◌∙◌, inl, inr, append-nil, take-append-drop}
 use Rattle.cd_stream.specs.Stream.{Incoming, Outgoing}
 use Rattle.cd_stream.specs.Transfer.{Counts, CountsFlush, Flushes, Sends}
@@ -32,7 +32,7 @@ module _ (line : List ℕ) (before after : Outgoing) where
     unflushed = λ short. sends.flushes;
   }
 
-  -- the line went out, and the flush returned
+  -- the line was written, and the flush returned
   pub PrintsLine-whole : (middle : Outgoing) (sent : Unit {0})
       (flushed : Result (Unit {0}) SinkFailed) → Sends {E = SinkFailed} before middle line (Ok sent)
       → Flushes middle after flushed → PrintsLine line before after
@@ -52,11 +52,11 @@ module _ (line : List ℕ) (before after : Outgoing) where
       finished (Ok y) is = (refl, is)
       finished (Err e) is = tt
 
--- a count that has risen is another
+-- a count that has risen differs from the old one
 pub one-more : {m n : ℕ} → m ≡ n + 1 → m ≢ n
 one-more up same = omega (arith, up, same)
 
--- an audit or a script that came to its end has another status
+-- the status of a completed audit or script is not the status of a failure
 pub not-failed : {status : ℕ} (b : Bool) → status ≡ cond b 0 1 → status ≢ failed_status
 not-failed true is failed = omega (arith, is, failed)
 not-failed false is failed = omega (arith, is, failed)

@@ -1,4 +1,4 @@
--- What came of a script's file before a fault.
+-- The bytes read of a script's file before an error.
 use Rattle.std.proofs.Common.{◌≡◌, ℕ, ◌+◌, ◌≤◌, List, ◌++◌, length, take, Result, Ok, Err, inl, inr, ap, sym, subst, arith, length-append}
 use Rattle.std.proofs.lemmas.List.{length-take-le}
 use Rattle.std.specs.Result.{IsErrAnd}
@@ -11,13 +11,13 @@ use Rattle.cd_program.specs.ScriptLines.{Gathers, PrintsFailedReads, StopsLoadin
 use Rattle.cd_program.specs.declared.script.LoadFault.{LoadFault}
 use Rattle.cd_program.specs.declared.script.LoadFault.TheVariants.{NoMemory, Read, TooLong}
 
--- the bytes that had come, and those of the last read
+-- the bytes that were read before, and those of the last read
 pub length-with_last : (earlier into : List ℕ) (n : ℕ) → n ≤ length into
     → length (earlier ++ take n into) ≡ length earlier + n
 length-with_last earlier into n h =
     omega (arith, length-append earlier (take n into), length-take-le n into h)
 
--- a fault after a read
+-- an error after a read
 pub Gathers-stopped : {T : Type 0} (bytes_of : T → List ℕ) (file middle file' : Incoming)
     (fault : LoadFault) (earlier came : List ℕ)
     → Gives file middle earlier → Gives middle file' came → StopsLoading fault (earlier ++ came) file file'
@@ -28,7 +28,7 @@ Gathers-stopped bytes_of file middle file' fault earlier came first last stops =
   answers = stops;
 }
 
--- the fault was want of memory
+-- the error was a lack of memory
 pub Gathers-refused : {T : Type 0} (bytes_of : T → List ℕ) (file middle file' : Incoming)
     (result : Result T LoadFault) (earlier came : List ℕ)
     → IsErrAnd result (λ fault. fault ≡ NoMemory)
@@ -40,7 +40,7 @@ Gathers-refused bytes_of file middle file' (Err fault) earlier came refused firs
     Gathers-stopped bytes_of file middle file' fault earlier came first last
     (subst (λ f. StopsLoading f (earlier ++ came) file file') (sym refused) stops)
 
--- a fault and its line say whether a read failed
+-- an error and its line say whether a read failed
 pub Stops-read_failed : {T : Type 0} (fault : LoadFault) (read : List ℕ) (file file' : Incoming)
     (log log' : Outgoing) (status : ℕ)
     → status ≡ 2 → StopsLoading fault read file file' → PrintsLine (load_fault_line fault) log log'

@@ -1,4 +1,4 @@
--- The status is 0, 1 or 2.
+-- The status is 0, 1, or 2.
 use Rattle.std.proofs.Common.{◌≡◌, ℕ, ◌≤◌, ◌==◌, Bool, true, false, cond, List, Result, Ok, Err, inl, inr, arith}
 use Rattle.std.specs.Prelude.{Option, Some, None}
 use Rattle.cd_args.specs.Fault.{printed_status}

@@ -1,4 +1,5 @@
--- What the program does with the result of a call on an image: the fault's line, and the status.
+-- The program's reaction to the result of a call on an image: the line for an error, and the
+-- status.
 use Rattle.std.specs.Prelude.{◌≡◌, ◌≢◌, ℕ, ◌==◌, ◌<◌, if◌then◌else◌, List, length, true, Result, Ok, Err, OnOk}
 use Rattle.cd_stream.specs.Stream.{IsBeginning, Outgoing}
 use Rattle.cd_stream.specs.Transfer.{Counts, CountsFlush, Takes}
@@ -9,8 +10,8 @@ use Rattle.cd_report.specs.declared.auditing.AuditTally.{AuditTally}
 use Rattle.cd_read.specs.declared.fault.Fault.{Fault}
 use Rattle.cd_image.specs.declared.patch_log.Tally.{Tally}
 
--- a line went out whole and was passed on by one flush; or a failure was counted, a beginning of it
--- went out, and no flush was made before all of it
+-- a line was written completely and passed on by one flush; or a failure was counted, a beginning
+-- of the line was written, and no flush was made before all of it was written
 pub record PrintsLine (line : List ℕ) (before after : Outgoing) : Type 0 where
   pub sent : List ℕ
   pub takes : Takes before after sent
@@ -21,7 +22,7 @@ pub record PrintsLine (line : List ℕ) (before after : Outgoing) : Type 0 where
   pub flushes : CountsFlush before.flushes after.flushes answer
   pub unflushed : length sent < length line → after.flushes ≡ before.flushes
 
--- the fault's line, or nothing if it is `own`: the fault that this very sink has failed
+-- the line for an error, or nothing if the error is `own`: a failure of this very sink
 abbrev pub PrintsFaultLine : Fault → Fault → Outgoing → Outgoing → Type 0
 PrintsFaultLine own fault before after =
     (fault ≡ own → after ≡ before) × (fault ≢ own → PrintsLine (fault_line fault) before after)
@@ -30,7 +31,7 @@ PrintsFaultLine own fault before after =
 abbrev pub found_status : ℕ
 found_status = 1
 
--- the status of a script of which a patch was refused
+-- the status of a script with a refused patch
 abbrev pub refused_status : ℕ
 refused_status = 1
 
@@ -49,8 +50,9 @@ Ends own status_of (Ok reported) before after status = (after ≡ before)
 Ends own status_of (Err fault) before after status = PrintsFaultLine own fault before after
     × (status ≡ failed_status)
 
--- a call, and then the line of its fault: what the call did is stated of the sink in the `middle` and
--- of its result; `own` is the fault that gets no line, since it is that of the sink itself
+-- a call, and then the line for its error. The effect of the call is stated for the sink after the
+-- call, `middle`, and for the call's result. `own` is the error that gets no line, since it is an
+-- error of the sink itself
 pub record CallThenLine {T : Type 0} (Does : Outgoing → Result T Fault → Type 0) (own : Fault)
     (status_of : T → ℕ) (after : Outgoing) (status : ℕ) : Type 0 where
   pub result : Result T Fault

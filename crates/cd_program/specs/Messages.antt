@@ -1,5 +1,5 @@
--- The lines that the program itself prints. The line for want of memory is cd_args's, those of a
--- script's fault, of a failed read, and of an image that is too long are cd_run's.
+-- The lines that the program itself prints. The line for a lack of memory is in cd_args; those for
+-- an error in a script, a failed read, and an image that is too long are in cd_run.
 use Rattle.std.specs.Prelude.{ℕ, List, [], codes}
 use Rattle.cd_args.specs.Fault.{no_memory}
 use Rattle.cd_read.specs.declared.fault.Fault.{Fault}
@@ -14,11 +14,11 @@ use Rattle.cd_program.specs.declared.script.LoadFault.TheVariants as load_fault
 abbrev pub no_script : List ℕ
 no_script = codes "cdpatch: cannot read the script\n"
 
--- there is no image
+-- the image was not opened
 abbrev pub no_image : List ℕ
 no_image = codes "cdpatch: cannot open the image\n"
 
--- no new file was made
+-- the new file was not made
 abbrev pub no_output : List ℕ
 no_output = codes "cdpatch: cannot make the output file\n"
 
@@ -26,19 +26,19 @@ no_output = codes "cdpatch: cannot make the output file\n"
 abbrev pub not_text : List ℕ
 not_text = codes "cdpatch: the words are not text\n"
 
--- the line for a file that is not there: `line` if it was refused, and else that its buffer found
--- no memory
+-- the line for a file that was not opened or made: `line` if it was refused, else the line for a
+-- lack of memory
 unfoldable pub open_fault_line : List ℕ → OpenFault → List ℕ
 open_fault_line line open_fault.Refused = line
 open_fault_line line open_fault.NoMemory = no_memory
 
--- the line of a fault of a script's file
+-- the line for a script's file that could not be loaded
 unfoldable pub load_fault_line : LoadFault → List ℕ
 load_fault_line load_fault.Read = no_script
 load_fault_line load_fault.TooLong = long_script
 load_fault_line load_fault.NoMemory = no_memory
 
--- the line of a call's fault; a log that failed has none
+-- the line for an error of a call on an image; a failed log has none
 unfoldable pub fault_line : Fault → List ℕ
 fault_line fault.Read = failed_read
 fault_line fault.Write = codes "cdpatch: writing the output failed\n"

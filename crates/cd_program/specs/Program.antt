@@ -1,5 +1,5 @@
--- What the program does for a job: which files it asks for, by which names and in which order, and
--- what it does with them.
+-- The program's actions for a job: which files it asks for, by which names and in which order, and
+-- its use of them.
 use Rattle.std.specs.Prelude.{◌≡◌, ◌≢◌, ℕ, ◌≤◌, ◌⊎◌, List, [], Option, None, Result, Ok, Err, codes, false, true}
 use Rattle.cd_args.specs.CommandLine.{IsAccepted, IsJobOf}
 use Rattle.cd_args.specs.Fault.{HasKindOf, done_status, error_kinds, failed_status, printed, printed_status}
@@ -30,14 +30,14 @@ use Rattle.cd_args.specs.declared.settings.Settings.{Settings}
 
 -- ---- what is printed if a file is not there
 
--- a line of the program's own is printed, with the status of a failure
+-- a line of the program itself is printed, with the status of a failure
 abbrev pub PrintsAndFails : List ℕ → Outgoing → Outgoing → ℕ → Type 0
 PrintsAndFails line before after status = PrintsLine line before after × (status ≡ failed_status)
 
 -- ---- scripts
 
--- the whole file was read and is a script, and nothing was printed; or a line was: that of the
--- fault of the file, or of its text
+-- all of the file was read and is a script, and nothing was printed; or a line was printed, for an
+-- error of the file or of its text
 abbrev pub ReadsScript : Incoming → Incoming → Outgoing → Outgoing → Result (List Patch) ℕ → Type 0
 ReadsScript file file' log log' (Ok patches) =
     (text : List ℕ) × Gives file file' text × ReadsWhole text file file'
@@ -53,15 +53,14 @@ ReadsScript file file' log log' (Err status) =
 -- ---- which files are there
 
 module _ {H I O : Type 0} (on : Hosting H I O) where
-  -- an image is asked for by its name: `-` is the standard input, and each other name that of a
-  -- file
+  -- an image is asked for by its name: `-` means the standard input, and every other name a file
   pub record TakesImage (name : List ℕ) (host : H) (answer : Result I OpenFault) (host' : H)
       : Type 0 where
     pub standard : name ≡ codes "-" → on.gives_standard_input host answer host'
     pub file : name ≢ codes "-" → on.gives_input host name answer host'
 
 module _ {H I O : Type 0} (come : I → Incoming) (on : Hosting H I O) where
-  -- what came of a script's file, or that it is not there
+  -- the result of reading a script's file, or that it could not be opened
   abbrev pub ComesOfFile : Outgoing → Outgoing → Result (List Patch) ℕ → Result I OpenFault → Type 0
   ComesOfFile log log' result (Ok file) =
       (left : I) × ReadsScript (come file) (come left) log log' result
@@ -75,8 +74,8 @@ module _ {H I O : Type 0} (come : I → Incoming) (on : Hosting H I O) where
     pub asked : on.gives_input host name answer host'
     pub comes : ComesOfFile log log' result answer
 
--- a file that is finished, or of which a call has failed, stays as it is, and each other one is
--- finished by one flush
+-- a file that is finished, or of which a call has failed, is left as it is; any other file is
+-- flushed once
 pub record FlushesRest (before after : Outgoing) : Type 0 where
   pub idle : (before.finished ≡ true) ⊎ (before.failures ≢ 0) → after ≡ before
   pub once : before.finished ≡ false → before.failures ≡ 0
@@ -84,16 +83,16 @@ pub record FlushesRest (before after : Outgoing) : Type 0 where
 
 -- ---- the commands
 
--- A command asks for its files in turn. It has one ending for each file that is not there, whose
--- line is printed and after which nothing more is asked of the host, and one if all are there. The
--- host, the log and the status are those at the end.
+-- A command asks for its files one after the other. It has one ending for each file that is not
+-- there: the line for that file is printed, and nothing more is asked of the host. It has one
+-- ending if all files are there. The host, the log, and the status are those at the end.
 module _ {H I O : Type 0} (come : I → Incoming) (gone : O → Outgoing) (on : Hosting H I O)
     (host' : H) (after : Outgoing) (status : ℕ) where
-  -- the script could not be read: its line was printed, and nothing more asked for
+  -- the script could not be read: its line was printed, and nothing more was asked for
   abbrev pub NoScript : List ℕ → H → Outgoing → Type 0
   NoScript name host before = TakesScript come on name host host' before after (Err status)
 
-  -- the image is not there: its line was printed, and nothing more asked for
+  -- the image is not there: its line was printed, and nothing more was asked for
   abbrev pub NoImage : List ℕ → H → Outgoing → Type 0
   NoImage name host before =
       (fault : OpenFault) × TakesImage on name host (Err fault) host'
@@ -105,8 +104,8 @@ module _ {H I O : Type 0} (come : I → Incoming) (gone : O → Outgoing) (on : 
       (fault : OpenFault) × on.gives_output host path (Err fault) host'
       × PrintsAndFails (open_fault_line no_output fault) before after status
 
-  -- `apply`: the image was patched into the new file, what that still held was passed on, and the
-  -- host has it back
+  -- `apply`: the patched image was written to the new file, the bytes that the file still held were
+  -- passed on, and the host has it back
   pub record AppliesImage (settings : Settings) (patches : List Patch) (before : Outgoing)
       (image : I) (host : H) (path : List ℕ) (out : O) : Type 0 where
     pub left : I
@@ -117,7 +116,7 @@ module _ {H I O : Type 0} (come : I → Incoming) (gone : O → Outgoing) (on : 
     pub rest : FlushesRest (gone made) (gone last)
     pub back : on.takes_back host path last host'
 
-  -- `list` and `audit`; `left` is the image as the call leaves it
+  -- `list` and `audit`; `left` is the state of the image after the call
   pub data DoesReport {T : Type 0} (spec : ReportSpec T) (status_of_tally : T → ℕ) (name : List ℕ)
       (host : H) (before : Outgoing) : Type 0 where
     without_image : NoImage name host before → DoesReport spec status_of_tally name host before
@@ -158,8 +157,8 @@ module _ {H I O : Type 0} (come : I → Incoming) (gone : O → Outgoing) (on : 
 
 -- ---- jobs and arguments
 
--- each task is the command of its name, with its texts and its settings: the script is read first,
--- then the image is asked for, and then the output is made
+-- each task runs the command of its name, with its file names and settings: the script is read
+-- first, then the image is asked for, and then the output is made
 abbrev pub RunsTask : {H I O : Type 0} → (I → Incoming) → (O → Outgoing) → Hosting H I O → Task
     → H → H → Outgoing → Outgoing → ℕ → Type 0
 RunsTask come gone on (Task.list base image) host host' before after status =
@@ -172,14 +171,14 @@ RunsTask come gone on (Task.check settings image script) host host' before after
 RunsTask come gone on (Task.apply settings image script out) host host' before after status =
     DoesApply come gone on host' after status settings image script out host before
 
--- a job is its task
+-- a job does its task
 abbrev pub RunsJob : {H I O : Type 0} → (I → Incoming) → (O → Outgoing) → Hosting H I O → Job
     → H → H → Outgoing → Outgoing → ℕ → Type 0
 RunsJob come gone on job host host' before after status =
     RunsTask come gone on (task_of job) host host' before after status
 
--- what is printed of a fault: the parser's text, or the line for want of memory; one that went out
--- in part is a failure
+-- the text printed for arguments that ask for no job: the parser's text, or the line for a lack of
+-- memory. A text that was written only in part is a failure
 pub record PrintsFault (fault : LineFault) (before after : Outgoing) (status : ℕ) : Type 0 where
   pub text : Option (List ℕ)
   pub memory : fault ≡ line_fault.NoMemory → text ≡ None
@@ -197,8 +196,8 @@ pub record RefusesArgs {H : Type 0} (args : List (List ℕ)) (host host' : H)
   pub memory : IsAccepted args → fault ≡ line_fault.NoMemory
   pub done : PrintsFault fault before after status
 
--- the arguments ask for a job, with no fault, no help asked for and a base that has an address, and
--- it is done; or they ask for none
+-- the arguments ask for a job, without an error, without asking for help, and with a base that has
+-- an address, and the job is done; or they ask for no job
 abbrev pub RunsArgs : {H I O : Type 0} → (I → Incoming) → (O → Outgoing) → Hosting H I O
     → List (List ℕ) → H → H → Outgoing → Outgoing → ℕ → Type 0
 RunsArgs come gone on args host host' before after status =

@@ -1,5 +1,5 @@
--- What a command does on an image: the whole contracts of `run_list` and `run_audit`, of `run_check`
--- and of `run_apply`, whatever the source and the sinks are.
+-- The effect of a command on an image: the complete contracts of `run_list`, `run_audit`,
+-- `run_check`, and `run_apply`, whatever the source and the sinks are.
 use Rattle.std.specs.Prelude.{◌≡◌, ◌≢◌, ℕ, ◌+◌, ◌<◌, ◌⊎◌, Bool, true, false, List, [], ◌++◌, length, Some}
 use Rattle.cd_args.specs.Fault.{failed_status}
 use Rattle.cd_args.specs.declared.settings.Settings.{Settings}
@@ -15,8 +15,8 @@ use Rattle.cd_report.specs.Report.{Reports, ReportSpec}
 use Rattle.cd_script.specs.PatchForm.{Patch}
 use Rattle.cd_stream.specs.Stream.{Incoming, Outgoing}
 
--- if the bytes of the image and the sink are known: the whole image was read, the sink has got its
--- text after what it had, and the status is that of its tally
+-- if the bytes of the image and the sink are known: all of the image was read, its text was
+-- appended to the sink, and the status is the status of its tally
 abbrev pub PrintsText : {T : Type 0} → ReportSpec T → (T → ℕ) → Incoming → Incoming → Outgoing
     → Outgoing → ℕ → Type 0
 PrintsText spec status_of image image' out out' status =
@@ -24,8 +24,8 @@ PrintsText spec status_of image image' out out' status =
     → (image'.rest ≡ Some []) × (out'.written ≡ Some (earlier ++ spec.text bytes))
     × (status ≡ status_of (spec.tally bytes))
 
--- if the bytes of the image and the log are known: the log has got the log of the patches after
--- what it had, and the status is that of its counts
+-- if the bytes of the image and the log are known: the log of the patches was appended to the log,
+-- and the status is the status of its counts
 abbrev pub PrintsPatchLog : Bool → List Patch → ℕ → Incoming → Outgoing → Outgoing → ℕ → Type 0
 PrintsPatchLog carry patches base image log log' status =
     (bytes earlier : List ℕ) → image.rest ≡ Some bytes → log.written ≡ Some earlier
@@ -41,44 +41,44 @@ pub record IsTooLong (image image' : Incoming) : Type 0 where
 
 -- ---- the contracts
 
--- `list` or `audit`: the report of the image, then the line of a fault
+-- `list` or `audit`: the report of the image, then the line for an error
 pub record RunsReport {T : Type 0} (spec : ReportSpec T) (status_of : T → ℕ)
     (image image' : Incoming) (out out' : Outgoing) (status : ℕ) : Type 0 where
   pub runs : CallThenLine (λ middle answer. Reports spec image image' out middle answer) Write
       status_of out' status
-  -- what it says if nothing failed, and when something has
+  -- the result if nothing failed, and the conditions of a failure
   pub text : status ≢ failed_status → PrintsText spec status_of image image' out out' status
   pub ends_well : status ≢ failed_status → EndsWell image image' out out'
   pub flushed : status ≢ failed_status → out'.flushes ≡ out.flushes + 1
   pub failed : status ≡ failed_status → (image'.failures ≢ image.failures)
       ⊎ (out'.failures ≢ out.failures) ⊎ IsTooLong image image'
 
--- `check`: the patches decided on the image, then the line of a fault
+-- `check`: the patches are decided on the image, then the line for an error is printed
 pub record RunsCheck (carry : Bool) (patches : List Patch) (base : ℕ) (image image' : Incoming)
     (log log' : Outgoing) (status : ℕ) : Type 0 where
   pub runs : CallThenLine (λ middle answer. Checks carry patches base image image' log middle
       answer)
       Log script_status log' status
-  -- what it says if nothing failed, and when something has
+  -- the result if nothing failed, and the conditions of a failure
   pub text : status ≢ failed_status → PrintsPatchLog carry patches base image log log' status
   pub ends_well : status ≢ failed_status → EndsWell image image' log log'
   pub flushed : status ≢ failed_status → log'.flushes ≡ log.flushes + 1
   pub failed : status ≡ failed_status → (image'.failures ≢ image.failures)
       ⊎ (log'.failures ≢ log.failures) ⊎ IsTooLong image image'
 
--- `check` by the settings of a job
+-- `check` with the settings of a job
 abbrev pub RunsCheckBy : Settings → List Patch → Incoming → Incoming → Outgoing → Outgoing → ℕ
     → Type 0
 RunsCheckBy settings patches image image' log log' status =
     RunsCheck settings.carry patches settings.base image image' log log' status
 
--- `apply`: the image patched to the output, then the line of a fault
+-- `apply`: the patched image is written to the output, then the line for an error is printed
 pub record RunsApply (carry : Bool) (patches : List Patch) (base : ℕ) (image image' : Incoming)
     (out out' log log' : Outgoing) (status : ℕ) : Type 0 where
   pub runs : CallThenLine (λ middle answer. Applies carry patches base (streams image out log)
       (streams image' out' middle) answer)
       Log script_status log' status
-  -- what it says if nothing failed, when something has, and how much it holds
+  -- the result if nothing failed, the conditions of a failure, and how many bytes are held
   pub output : status ≢ failed_status → WritesPatched carry patches base image image' out out'
   pub carried : carry ≡ true → status ≢ failed_status → WritesCarried patches base image out out'
   pub text : status ≢ failed_status → PrintsPatchLog carry patches base image log log' status
@@ -90,7 +90,7 @@ pub record RunsApply (carry : Bool) (patches : List Patch) (base : ℕ) (image i
       ⊎ (out'.failures ≢ out.failures) ⊎ (log'.failures ≢ log.failures) ⊎ IsTooLong image image'
   pub holds_few : HoldsFew (streams image out log) (streams image' out' log')
 
--- `apply` by the settings of a job
+-- `apply` with the settings of a job
 abbrev pub RunsApplyBy : Settings → List Patch → Incoming → Incoming → Outgoing → Outgoing
     → Outgoing → Outgoing → ℕ → Type 0
 RunsApplyBy settings patches image image' out out' log log' status =

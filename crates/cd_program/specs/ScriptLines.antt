@@ -1,4 +1,4 @@
--- What reading a script does: the line of each fault, and what came of the file.
+-- The effect of reading a script: the line for each error, and the state of the file.
 use Rattle.std.specs.Prelude.{◌≡◌, ◌≢◌, ℕ, ◌+◌, ◌≤◌, ◌⊎◌, List, length, false, true, Result, Ok, Err, OnErr}
 use Rattle.std.specs.Io.KnownBytes.{IsAtEnd}
 use Rattle.cd_stream.specs.Stream.{Incoming, Outgoing}
@@ -15,8 +15,8 @@ use Rattle.cd_program.specs.declared.script.LoadFault.TheVariants.{Read, TooLong
 
 -- ---- the text of a script
 
--- the fault that is printed of a text: the text's own if it has one, whatever memory there is, and
--- else want of memory
+-- the error that is printed for a text: the text's own error if it has one, however much memory
+-- there is, else a lack of memory
 pub record IsFaultOf (text : List ℕ) (fault : ScriptFault) : Type 0 where
   pub own : (e : ScriptFault) → script text ≡ Err e → fault ≡ e
   pub other : fault ≢ script_fault.NoMemory → script text ≡ Err fault
@@ -30,8 +30,8 @@ pub record ReadsWhole (read : List ℕ) (file file' : Incoming) : Type 0 where
   pub ended : file'.ended ≡ true
   pub within : length read ≤ text_limit
 
--- the reading stopped before the end of the file: a read failed, a byte too many came, or memory
--- was refused
+-- the reading stopped before the end of the file: a read failed, a byte too many was read, or
+-- memory was refused
 abbrev pub StopsLoading : LoadFault → List ℕ → Incoming → Incoming → Type 0
 StopsLoading Read read file file' = (file'.failures ≡ file.failures + 1) × (file'.ended ≡ false)
     × (length read ≤ text_limit)
@@ -47,14 +47,14 @@ GatherAnswers bytes_of read file file' (Ok text) = (bytes_of text ≡ read)
     × ReadsWhole read file file'
 GatherAnswers bytes_of read file file' (Err fault) = StopsLoading fault read file file'
 
--- plumbing of `load_script`: some bytes of the file were read, all or those before a fault
+-- plumbing of `load_script`: some bytes of the file were read, all or those before an error
 pub record Gathers {T : Type 0} (bytes_of : T → List ℕ) (file file' : Incoming)
     (result : Result T LoadFault) : Type 0 where
   pub read : List ℕ
   pub gives : Gives file file' read
   pub answers : GatherAnswers bytes_of read file file' result
 
--- all bytes of the file, or the line of its fault and the status of a failure
+-- all bytes of the file, or the line for its error and the status of a failure
 abbrev pub LoadAnswers : {T : Type 0} → (T → List ℕ) → List ℕ → Incoming → Incoming → Outgoing
     → Outgoing → Result T ℕ → Type 0
 LoadAnswers bytes_of read file file' log log' (Ok text) = (bytes_of text ≡ read)
@@ -63,15 +63,15 @@ LoadAnswers bytes_of read file file' log log' (Err status) = (status ≡ failed_
     × ((fault : LoadFault) × StopsLoading fault read file file'
     × PrintsLine (load_fault_line fault) log log')
 
--- some bytes of the file were read: all, and then nothing was printed, or those before a fault, and
--- then its line was
+-- some bytes of the file were read: either all bytes, and nothing was printed, or the bytes before
+-- an error, and its line was printed
 pub record Loads {T : Type 0} (bytes_of : T → List ℕ) (file file' : Incoming) (log log' : Outgoing)
     (result : Result T ℕ) : Type 0 where
   pub read : List ℕ
   pub gives : Gives file file' read
   pub answers : LoadAnswers bytes_of read file file' log log' result
 
--- the fault's line was printed, and the status is 2
+-- the line for the error was printed, and the status is 2
 abbrev pub RefusesScript : {T : Type 0} → LoadFault → Outgoing → Outgoing → Result T ℕ → Type 0
 RefusesScript fault log log' result = (result ≡ Err failed_status)
     × PrintsLine (load_fault_line fault) log log'

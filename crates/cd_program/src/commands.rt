@@ -1,4 +1,5 @@
-//! The commands: a call on an image, then the line of its fault, and the status.
+//! The commands: each makes one call on an image, prints a line if the call fails, and returns the
+//! status.
 
 ghost use Rattle.std.specs.Prelude.{◌≡◌, ◌≢◌, ◌≤◌};
 ghost use Rattle.cd_args.specs.Fault.{done_status, failed_status};
@@ -19,14 +20,14 @@ use cd_stream::write_all;
 /// The status of an audit with a finding.
 const FOUND: u8 = 1;
 
-/// The status of a script of which a patch was refused.
+/// The status of a script with a refused patch.
 const REFUSED: u8 = 1;
 
-/// Prints a line of the program's own and passes it on.
+/// Prints a message of the program and flushes the sink.
 ///
 /// # Errors
 ///
-/// A write failed, or the flush.
+/// A write or the flush failed.
 pub(crate) fn print_line<O: Sink>(line: &[u8], out: &mut O) -> Result<(), SinkFailed>
     requires { CanCountFailure (O.seen out.old).failures }
     ensures line { PrintsLine line.now (O.seen out.old) (O.seen out.new) }
@@ -56,8 +57,8 @@ pub fn print_and_fail<O: Sink>(line: &[u8], out: &mut O) -> u8
     FAILED
 }
 
-/// Prints the line of a fault to `out`, and returns the status 2. No line is printed for `own`, the
-/// fault of `out` itself.
+/// Prints the message for an error to `out`, and returns the status 2. No message is printed for
+/// `own`, the error of `out` itself.
 fn report_fault<O: Sink>(fault: Fault, own: Fault, out: &mut O) -> u8
     requires { fault ≢ own → CanCountFailure (O.seen out.old).failures }
     ensures line { PrintsFaultLine own fault (O.seen out.old) (O.seen out.new) }
@@ -69,8 +70,8 @@ fn report_fault<O: Sink>(fault: Fault, own: Fault, out: &mut O) -> u8
     print_and_fail(fault_line(fault).as_slice(), out)
 }
 
-/// Lists an image to `out`, whose first block has the number `base`, and returns the status: 0, or
-/// 2 after the line of a fault.
+/// Lists an image whose first block is `base` to `out`, and returns the status: 0, or 2 after an
+/// error. The error is reported in `out`, unless `out` itself has failed.
 ///
 /// # Examples
 ///
@@ -93,15 +94,15 @@ pub fn run_list<I: Source, O: Sink>(image: &mut I, base: u32, out: &mut O) -> u8
     }
 }
 
-/// The status of an audit that came to its end.
+/// The status of an audit that was completed.
 fn audit_status_of(tally: &AuditTally) -> u8
     ensures { result ≡ audit_status tally.now }
 {
     if tally.findings == 0 { DONE } else { FOUND }
 }
 
-/// Audits an image to `out`, whose first block has the number `base`, and returns the status: 0, 1
-/// if it has a finding, or 2 after the line of a fault.
+/// Audits an image whose first block is `base` to `out`, and returns the status: 0, 1 if there is a
+/// finding, or 2 after an error. The error is reported in `out`, unless `out` itself has failed.
 ///
 /// # Examples
 ///
@@ -125,16 +126,16 @@ pub fn run_audit<I: Source, O: Sink>(image: &mut I, base: u32, out: &mut O) -> u
     }
 }
 
-/// The status of a script that was applied to the end.
+/// The status of a script that was applied or checked completely.
 fn status_of(tally: &Tally) -> u8
     ensures { result ≡ script_status tally.now }
 {
     if tally.refused == 0 { DONE } else { REFUSED }
 }
 
-/// Decides each patch of a script on an image, writes its line to `log`, and returns the
-/// status: 0, 1 if a patch is refused, or 2 after the line of a fault. A log that has failed gets
-/// no line. Damage is carried or refused.
+/// Decides each patch of a script on an image, writes its line to `log`, and returns the status: 0,
+/// 1 if a patch is refused, or 2 after an error. The error is reported in `log`, unless the log
+/// itself has failed. `carry` says whether damage is carried.
 ///
 /// # Examples
 ///
@@ -164,7 +165,7 @@ pub fn run_check<I: Source, L: Sink>(
     }
 }
 
-/// The same by the settings of a job.
+/// As [`run_check`], with the settings of a job.
 pub(crate) fn run_check_by<I: Source, L: Sink>(
     image: &mut I,
     script: &Script,
@@ -180,8 +181,9 @@ pub(crate) fn run_check_by<I: Source, L: Sink>(
     run_check(image, script, settings.base, settings.carry, log)
 }
 
-/// Patches an image to `out`, writes the line of each patch to `log`, and returns the status:
-/// 0, 1 if a patch is refused, or 2 after the line of a fault. A log that has failed gets no line.
+/// Applies a script to an image, writes the patched image to `out` and the line of each patch to
+/// `log`, and returns the status: 0, 1 if a patch is refused, or 2 after an error. The error is
+/// reported in `log`, unless the log itself has failed.
 ///
 /// # Examples
 ///
@@ -213,7 +215,7 @@ pub fn run_apply<I: Source, O: Sink, L: Sink>(
     }
 }
 
-/// The same by the settings of a job.
+/// As [`run_apply`], with the settings of a job.
 pub(crate) fn run_apply_by<I: Source, O: Sink, L: Sink>(
     image: &mut I,
     script: &Script,

@@ -1,5 +1,5 @@
-//! The program as a function of its arguments: which files it asks a host for, what it does with
-//! them, and the status.
+//! The program as a function of its arguments: opens files of a host, runs the command on them, and
+//! returns the status.
 
 ghost use Rattle.std.specs.Prelude.{◌≡◌, ◌<◌, ◌≤◌, IfOk, OnOk, map, string_bytes};
 ghost use Rattle.cd_args.specs.Options.{base_in};
@@ -24,11 +24,11 @@ use cd_image::{Sink, Source};
 use cd_script::Script;
 use std::alloc::Global;
 
-/// The name of the standard input as an image.
+/// The image name that means the standard input.
 const STANDARD_INPUT: &str = "-";
 
-/// Prints why there is no file, and returns the status. `line` is the line for a file that was
-/// refused.
+/// Prints why a file was not opened or made, and returns the status. `line` is the message for a
+/// file that was refused.
 fn report_open_fault<O: Sink>(fault: OpenFault, line: &'static str, out: &mut O) -> u8
     requires { CanCountFailure (O.seen out.old).failures }
     ensures { PrintsAndFails (open_fault_line line.now fault) (O.seen out.old) (O.seen out.new)
@@ -37,7 +37,7 @@ fn report_open_fault<O: Sink>(fault: OpenFault, line: &'static str, out: &mut O)
     print_and_fail(open_fault_line(line, fault).as_bytes(), out)
 }
 
-/// Opens the image that a name stands for.
+/// Opens the image with this name, or the standard input.
 fn image_at<H: Host>(host: &mut H, name: &str) -> Result<H::Input, OpenFault>
     ensures asked { TakesImage H.hosting name.now host.old result host.new }
     ensures fresh { IfOk result (λ file. (H.Input.seen file).failures ≡ 0) }
@@ -49,7 +49,8 @@ fn image_at<H: Host>(host: &mut H, name: &str) -> Result<H::Input, OpenFault>
     }
 }
 
-/// The script of a file. For a fault prints its line to `log`, and returns the status.
+/// Reads the script in an open file. On an error it prints the message to `log` and returns the
+/// status.
 fn script_of<I: Source, L: Sink>(alloc: Global, file: &mut I, log: &mut L) -> Result<Script, u8>
     requires file_countable { CanCountFailure (I.seen file.old).failures }
     requires log_countable { CanCountFailure (L.seen log.old).failures }
@@ -60,7 +61,8 @@ fn script_of<I: Source, L: Sink>(alloc: Global, file: &mut I, log: &mut L) -> Re
     read_script(alloc, text.as_slice(), log)
 }
 
-/// The script in the file at a path. For a fault prints its line to `log`, and returns the status.
+/// Reads the script in the file at a path. On an error it prints the message to `log` and returns
+/// the status.
 fn script_at<H: Host, L: Sink>(
     alloc: Global,
     host: &mut H,
@@ -78,8 +80,9 @@ fn script_at<H: Host, L: Sink>(
     }
 }
 
-/// Passes on what a sink still holds, unless one of its calls has failed or it is finished. It
-/// holds something if a call on an image ended early, by a fault of the image or of the log.
+/// Passes on the bytes that a sink still holds, unless one of its calls has failed or it is
+/// finished. It holds bytes if a call on an image ended early, by an error of the image or of the
+/// log.
 fn flush_rest<O: Sink>(out: &mut O)
     ensures { FlushesRest (O.seen out.old) (O.seen out.new) }
 {
@@ -88,7 +91,7 @@ fn flush_rest<O: Sink>(out: &mut O)
     }
 }
 
-/// The command `list`: opens its image, and runs it.
+/// The command `list`: opens the image and lists it.
 fn open_and_list<H: Host, O: Sink>(host: &mut H, image: &str, base: u32, out: &mut O) -> u8
     requires base { base ≤ base_limit }
     requires countable { CanCountFailure (O.seen out.old).failures }
@@ -102,7 +105,7 @@ fn open_and_list<H: Host, O: Sink>(host: &mut H, image: &str, base: u32, out: &m
     }
 }
 
-/// The command `audit`: opens its image, and runs it.
+/// The command `audit`: opens the image and audits it.
 fn open_and_audit<H: Host, O: Sink>(host: &mut H, image: &str, base: u32, out: &mut O) -> u8
     requires base { base ≤ base_limit }
     requires countable { CanCountFailure (O.seen out.old).failures }
@@ -116,7 +119,7 @@ fn open_and_audit<H: Host, O: Sink>(host: &mut H, image: &str, base: u32, out: &
     }
 }
 
-/// The command `check`: reads its script, opens its image, and runs it.
+/// The command `check`: reads the script, opens the image, and checks the patches.
 fn open_and_check<H: Host, L: Sink>(
     alloc: Global,
     host: &mut H,
@@ -141,8 +144,9 @@ fn open_and_check<H: Host, L: Sink>(
     run_check_by(&mut image, &script, settings, log)
 }
 
-/// The command `apply`: reads its script, opens its image, makes its file, and runs it.
-// Not inlined: in its caller the pass would find fewer registers free.
+/// The command `apply`: reads the script, opens the image, makes the new file, and applies the
+/// patches.
+// Not inlined: inside its caller, fewer registers would be free for the pass.
 #[inline(never)]
 fn open_and_apply<H: Host, L: Sink>(
     alloc: Global,
@@ -177,8 +181,8 @@ fn open_and_apply<H: Host, L: Sink>(
     status
 }
 
-/// Proof step: does a job, and returns the status. One clause for the four commands, from which
-/// that of `run_args` follows.
+/// Proof step: does a job, and returns the status. It has one clause for the four commands, from
+/// which the clause of `run_args` follows.
 fn run_job<H: Host, O: Sink>(alloc: Global, host: &mut H, job: &Job, out: &mut O) -> u8
     requires base { base_in job.now ≤ base_limit }
     requires countable { CanCountFailure (O.seen out.old).failures }
@@ -204,8 +208,8 @@ fn run_job<H: Host, O: Sink>(alloc: Global, host: &mut H, job: &Job, out: &mut O
     }
 }
 
-/// Prints why the arguments ask for no job, and returns the status. If help cannot be written, the
-/// status is 2.
+/// Prints the text for arguments that ask for no job, such as an error or the help, and returns the
+/// status. If the text cannot be written, the status is 2.
 fn explain<O: Sink>(alloc: Global, fault: &LineFault, out: &mut O) -> u8
     requires { CanCountFailure (O.seen out.old).failures }
     ensures { PrintsFault fault.now (O.seen out.old) (O.seen out.new) result }
@@ -219,8 +223,8 @@ fn explain<O: Sink>(alloc: Global, fault: &LineFault, out: &mut O) -> u8
     }
 }
 
-/// Does what the arguments after the program's name ask for, and returns the status: 0, 1 if
-/// `audit` has a finding or a patch was refused, 2 after a fault. Every text goes to `out`.
+/// Runs the program with the arguments after its name, and returns the status: 0, 1 if `audit` has
+/// a finding or a patch was refused, 2 after an error. All text is written to `out`.
 ///
 /// # Examples
 ///

@@ -1,5 +1,5 @@
-//! What the program does, as functions: from its arguments over a host's files to the text that it
-//! prints, the file that it makes, and its status. `main` only calls [`run_program`].
+//! The program as functions: from its arguments and a host's files to the text that it prints, the
+//! file that it makes, and its status. `main` only calls [`run_program`].
 //!
 //! ```
 //! let mut space = [0; 64];
@@ -12,13 +12,13 @@
 //! |---|---|
 //! | 0 | done |
 //! | 1 | a patch was refused, or `audit` has a finding |
-//! | 2 | a fault, which has its line, or arguments that are refused |
+//! | 2 | an error, which has its line, or arguments that are refused |
 //!
-//! [`run_args`] takes the arguments and a [`Host`], whose files it asks for in turn: the script,
-//! the image, the new file. [`System`] is the host of the system; cd_memory has one whose files are
-//! in memory. [`run_list`], [`run_audit`], [`run_check`] and [`run_apply`] are the commands on
-//! streams. A script has at most [`MAX_TEXT`](cd_script::MAX_TEXT) bytes, and is read whole; images
-//! (ECMA-130, 14) are not.
+//! [`run_args`] gets the arguments and a [`Host`], which it asks for files in this order: the
+//! script, the image, the new file. [`System`] is the host of the operating system; cd_memory has a
+//! host whose files are in memory. [`run_list`], [`run_audit`], [`run_check`], and [`run_apply`]
+//! are the commands on streams. A script has at most [`MAX_TEXT`](cd_script::MAX_TEXT) bytes, and
+//! is loaded completely; images (ECMA-130, 14) are not.
 //!
 //! Tests: `crates/cd_image_tests`.
 #![tactic(auto)]

@@ -1,5 +1,5 @@
-//! The lines that the program itself prints, each with its line feed. One more is
-//! `cd_args::NO_MEMORY`, and those of a run that does not come to its end are cd_run's.
+//! The messages of the program, each a line with its line feed. The message for a lack of memory is
+//! `cd_args::NO_MEMORY`; the messages of a run that ends early are in cd_run.
 
 ghost use Rattle.std.specs.Prelude.{◌≡◌};
 ghost use Rattle.cd_program.specs.Messages.{fault_line, load_fault_line, open_fault_line};
@@ -11,23 +11,23 @@ use cd_image::Fault;
 use cd_line::Line;
 use cd_run::{failed_read_line, long_image_line, long_script_line, text_line};
 
-/// There is no file of a script, or a read of it failed.
+/// The file of a script was not opened, or a read of it failed.
 pub(crate) const NO_SCRIPT: &str = "cdpatch: cannot read the script\n";
 
-/// There is no image.
+/// The image was not opened.
 pub(crate) const NO_IMAGE: &str = "cdpatch: cannot open the image\n";
 
-/// No new file was made.
+/// The new file was not made.
 pub(crate) const NO_OUTPUT: &str = "cdpatch: cannot make the output file\n";
 
-/// A standard stream is closed, and the file that was to take its number was not opened.
+/// A standard stream is closed, and the file that would occupy its number was not opened.
 pub(crate) const NO_ROOT: &str = "cdpatch: cannot open the root directory\n";
 
 /// An argument is not valid UTF-8.
 pub(crate) const NOT_TEXT: &str = "cdpatch: the words are not text\n";
 
-/// The line for a file that is not there; `refused` if it was refused, else that for want of
-/// memory.
+/// The message for a file that was not opened or made: `refused` if it was refused, else the
+/// message for a lack of memory.
 #[tactic(auto, unfolding(crate::specs::Messages::open_fault_line))]
 pub(crate) fn open_fault_line(refused: &'static str, fault: OpenFault) -> &'static str
     ensures { result.now ≡ open_fault_line refused.now fault }
@@ -38,7 +38,7 @@ pub(crate) fn open_fault_line(refused: &'static str, fault: OpenFault) -> &'stat
     }
 }
 
-/// The line of a fault of a script's file.
+/// The message for a script's file that could not be loaded.
 ///
 /// See the example of [`print_and_fail`].
 #[tactic(auto, unfolding(crate::specs::Messages::load_fault_line))]
@@ -52,7 +52,8 @@ pub fn load_fault_line(fault: LoadFault) -> Line
     }
 }
 
-/// The line of a call's fault. A log that failed has none, since the lines go to the log.
+/// The message for an error of a call on an image. A failed log has none, since the messages go to
+/// the log.
 #[tactic(auto, unfolding(crate::specs::Messages::fault_line))]
 pub(crate) fn fault_line(fault: Fault) -> Line
     ensures { result ≡ fault_line fault }

@@ -1,4 +1,4 @@
-//! The program of a process: its arguments, and its standard output.
+//! Runs the program in a process, with its arguments and its standard output.
 
 ghost use Rattle.std.specs.Prelude.{◌≡◌, ◌≢◌, ◌≤◌, IfErr, IfOk, map, string_bytes};
 ghost use Rattle.std.specs.IoError.{error_kind};
@@ -20,10 +20,11 @@ use std::io::{self, ErrorKind};
 use std::os::fd::AsFd;
 use std::{env, fs};
 
-/// Does what the arguments after the program's name ask for, and returns the status. Every text
-/// goes to the standard output, which is buffered, except for the line for want of memory.
+/// Runs the program with the arguments of the process, and returns the status. All text goes to the
+/// standard output, which is buffered. Only the messages that are printed because the buffer or a
+/// standard stream is missing are not buffered.
 ///
-/// It has no example: it is the whole of `main`, and [`run_args`] is what a test runs.
+/// It has no example: it is all of `main`, and tests run [`run_args`].
 pub fn run_program(rt: &HostRuntime) -> u8
     ensures { result ≤ 2 }
 {
@@ -37,10 +38,11 @@ pub fn run_program(rt: &HostRuntime) -> u8
     }
 }
 
-/// Files for the numbers of closed standard streams, and none if all three are open. The next file
-/// to be opened takes the number of a closed stream; while these have it, no file of the user's
-/// gets it, and no message goes into that file. To read or to write them fails. A pipe would not
-/// do: a read of its free end looks like the end of an image.
+/// Opens files that occupy the numbers of closed standard streams; `None` if all three streams are
+/// open. The next file to be opened gets the number of a closed stream. While these files have the
+/// numbers, no file of the user gets one of them, and no message is written into a file of the
+/// user. Reading or writing them fails. A pipe would not do: a read of its free end looks like the
+/// end of an image.
 ///
 /// # Errors
 ///
@@ -59,9 +61,10 @@ fn has_standard_streams(rt: &HostRuntime) -> bool {
         && rt.stderr().as_fd().try_clone_to_owned().is_ok()
 }
 
-/// Proof step: does what the arguments ask for, or says why there are none, and returns the status.
-/// The contract of the whole program, which `run_program` can't state of a process. std gives the
-/// arguments all or none, so no command is looked for among others that are not text.
+/// Proof step: runs the program with the arguments, or prints why there are none, and returns the
+/// status. It states the contract of the program, which `run_program` cannot state for a process.
+/// std returns all arguments or none, so no command is looked for among arguments that are not
+/// text.
 fn run_or_explain<H: Host, O: Sink>(
     alloc: Global,
     host: &mut H,

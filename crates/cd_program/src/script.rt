@@ -1,4 +1,4 @@
-//! How the file of a script is read, and what its text says.
+//! Loads the file of a script, and parses its text.
 
 ghost use Rattle.std.specs.Prelude.{◌≡◌, ◌+◌, ◌<◌, ◌≤◌, List, Ok, IfOk, IfErr, IfSome, OnOk, OnErr, length};
 ghost use Rattle.cd_args.specs.Fault.{failed_status};
@@ -20,15 +20,15 @@ use cd_run::script_fault_line;
 use cd_script::{MAX_TEXT, Script, ScriptFault, parse};
 use std::alloc::{AllocError, Global};
 
-/// The number of bytes that are read of a script at a time.
+/// The largest number of bytes that are read of a script at a time.
 const CHUNK_SIZE: usize = 16_384;
 
-/// Why the file of a script was not read whole.
+/// Why the file of a script was not loaded.
 #[derive(Clone, Copy, Debug)]
 pub enum LoadFault {
     /// A read of the file failed.
     Read,
-    /// A byte was read after the longest text.
+    /// The file is longer than a script may be.
     TooLong,
     /// Memory was refused.
     NoMemory,
@@ -56,11 +56,11 @@ impl From<AllocError> for LoadFault {
     }
 }
 
-/// The script of a text of at most [`MAX_TEXT`] bytes.
+/// Parses a script of at most [`MAX_TEXT`] bytes.
 ///
 /// # Errors
 ///
-/// The status 2, for a fault of the text or want of memory: its line goes to `log`.
+/// The status 2, for an error in the text or a lack of memory; its message is printed to `log`.
 ///
 /// # Examples
 ///
@@ -87,7 +87,7 @@ pub fn read_script<L: Sink>(alloc: Global, text: &[u8], log: &mut L) -> Result<S
     }
 }
 
-/// The bytes of a script's file, to its end.
+/// Reads the bytes of a script's file, to its end.
 fn read_all<I: Source>(alloc: Global, file: &mut I) -> Result<Vec<u8>, LoadFault>
     requires { CanCountFailure (I.seen file.old).failures }
     ensures { Gathers (λ bytes. bytes.items) (I.seen file.old) (I.seen file.new) result }
@@ -108,12 +108,12 @@ fn read_all<I: Source>(alloc: Global, file: &mut I) -> Result<Vec<u8>, LoadFault
     }
 }
 
-/// The bytes of a script's file, all that it has, at most [`MAX_TEXT`].
+/// Reads all bytes of a script's file, at most [`MAX_TEXT`].
 ///
 /// # Errors
 ///
-/// The status 2, if a read fails, or a byte comes after that many, or memory is refused,
-/// whichever is first: a line in `log` says so.
+/// The status 2, if a read fails, the file has more bytes than that, or memory is refused,
+/// whichever is first; its message is printed to `log`.
 ///
 /// # Examples
 ///

@@ -1,4 +1,4 @@
-//! The system as a host: its files, and its standard streams.
+//! The operating system as a host: its files, and its standard streams.
 
 ghost use Rattle.std.specs.Prelude.{◌≡◌, IfOk};
 ghost use Rattle.cd_program.specs.Hosting.{any_answers};
@@ -12,21 +12,21 @@ use std::fs;
 use std::fs::File;
 use std::io::{self, BufReader, IsTerminal, Read, Stdin, Stdout, Write};
 
-/// The number of bytes that are read or written at a time: 64 KiB as near as whole sectors come, so
-/// that no sector is copied in two parts.
+/// The number of bytes that are read or written at a time: about 64 KiB, and a multiple of the
+/// sector size, so that no sector is copied in two parts.
 const BUFFER_SIZE: usize = 28 * SECTOR_SIZE;
 
-/// Where the bytes of an image or a script come from.
+/// The reader of an image or a script: a file or the standard input.
 #[derive(Drop)]
 pub enum Reader {
-    /// A file, from its front on.
+    /// A file, from its beginning.
     File(File),
-    /// The standard input, from where it stands.
+    /// The standard input, from its current position.
     StandardInput(Stdin),
 }
 
 impl Debug for Reader {
-    // `Stdin` has none.
+    // `Stdin` has no `Debug`.
     fn fmt<W: fmt::Write>(&self, f: &mut Formatter<W>) -> fmt::Result {
         match self {
             Reader::File(file) => f.debug_tuple("File").field(file).finish(),
@@ -36,7 +36,7 @@ impl Debug for Reader {
 }
 
 impl Read for Reader {
-    // Called once in 28 sectors. Inlined, it would keep the work on each sector from being inlined.
+    // Called once in 28 sectors. If it were inlined, the work on each sector would not be.
     #[cold]
     #[inline(never)]
     fn read(&mut self, buf: &mut [u8]) -> io::Result<usize> {
@@ -47,15 +47,15 @@ impl Read for Reader {
     }
 }
 
-/// A file whose flush succeeds when the system has written its data to the disk, so that an error
-/// that comes late (a full disk, a file on another machine) is a failed flush. `sync_data` also
-/// syncs the file's length; its name, which is data of its directory, is not synced. std repeats an
-/// interrupted sync, which moves no byte.
+/// A file whose flush succeeds when the system has written its data to the disk, so that a late
+/// error (a full disk, a file on a remote machine) is a failed flush. `sync_data` also syncs the
+/// file's length, but not its name, which is data of its directory. std repeats an interrupted
+/// sync, which moves no byte.
 #[derive(Debug, Drop)]
 pub struct Synced(File);
 
 impl Write for Synced {
-    // Not inlined, as `Reader`'s `read`.
+    // Not inlined, for the same reason as `Reader`'s `read`.
     #[cold]
     #[inline(never)]
     fn write(&mut self, buf: &[u8]) -> io::Result<usize> {
@@ -74,21 +74,21 @@ pub struct System<'a> {
 }
 
 impl Debug for System<'_> {
-    // `HostRuntime` has none.
+    // `HostRuntime` has no `Debug`.
     fn fmt<W: fmt::Write>(&self, f: &mut Formatter<W>) -> fmt::Result {
         f.debug_struct("System").finish_non_exhaustive()
     }
 }
 
 impl<'a> System<'a> {
-    /// The files and streams that the process of `rt` has.
+    /// The host with the files and streams of the process of `rt`.
     ///
     /// See the example of [`run_args`].
     pub fn new(rt: &'a HostRuntime) -> Self {
         System { rt }
     }
 
-    /// A source of a reader's bytes, which reads as many at a time as the buffer holds.
+    /// A source of a reader's bytes, with a buffer of `BUFFER_SIZE` bytes.
     fn buffered(&self, reader: Reader) -> Result<FromRead<BufReader<Reader>>, OpenFault>
         ensures { IfOk result (λ file.
             (⟦<FromRead<BufReader<Reader>> as Source>⟧.seen file).failures ≡ 0) }
@@ -99,13 +99,13 @@ impl<'a> System<'a> {
         }
     }
 
-    /// The standard output. A terminal gets each line at once, so none is held back from someone
-    /// who watches; a file or a pipe gets as many bytes at a time as are read. It is not synced: a
-    /// pipe and a terminal cannot be.
+    /// The standard output. A terminal gets each line at once, so that a user who watches sees it;
+    /// a file or a pipe gets `BUFFER_SIZE` bytes at a time. It is not synced, since a pipe or a
+    /// terminal cannot be.
     ///
     /// # Errors
     ///
-    /// Its buffer found no memory.
+    /// There was no memory for its buffer.
     pub(crate) fn standard_output(&self) -> Result<Buffered<ToWrite<Stdout>>, AllocError>
         ensures { IfOk result (λ out.
             (⟦<Buffered<ToWrite<Stdout>> as Sink>⟧.seen out).failures ≡ 0) }
@@ -121,7 +121,8 @@ impl<'a> Host for System<'a> {
 
     type Output = Buffered<ToWrite<Synced>>;
 
-    // std's contracts state nothing of a file's bytes. Tests show which files it opens and makes.
+    // std's contracts state nothing about a file's bytes. Tests show which files the program opens
+    // and makes.
     ghost hosting = { any_answers };
 
     fn input_at(&mut self, path: &str) -> Result<FromRead<BufReader<Reader>>, OpenFault> {
@@ -137,18 +138,18 @@ impl<'a> Host for System<'a> {
 
     fn output_at(&mut self, path: &str) -> Result<Buffered<ToWrite<Synced>>, OpenFault> {
         let mut new = File::options();
-        // Only to be written, so that nothing can be read from it, whatever its number.
+        // Write-only, so that nothing can be read from it, whatever its number.
         new.write(true).create_new(true);
         let Ok(file) = new.open(self.rt, path) else {
             return Err(OpenFault::Refused);
         };
         match vec![in self.rt.alloc(); 0; BUFFER_SIZE] {
             Ok(space) => Ok(Buffered::new(ToWrite::new(Synced(file)), space)),
-            // The new file stays, empty.
+            // The new file remains, empty.
             Err(_) => Err(OpenFault::NoMemory),
         }
     }
 
-    // What was written is synced, and stays under its path. A close that fails here loses nothing.
+    // The written bytes are synced, and remain at the path. A close that fails here loses nothing.
     fn take_back(&mut self, _: &str, _: Buffered<ToWrite<Synced>>) {}
 }

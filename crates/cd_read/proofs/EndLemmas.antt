@@ -1,4 +1,4 @@
--- How a call that reads an image ends.
+-- The end of a call that reads an image.
 use Rattle.std.proofs.Common.{◌≡◌, ◌↔◌, ℕ, ◌+◌, false, true, List, [], ◌∷◌, ◌++◌, Option, None, Some, Result, Ok, Err, OnOk, refl, sym, ap, ◌∙◌, arith, append-nil, length, ◌<◌, ◌≤◌, take_all}
 use Rattle.std.specs.Io.KnownBytes.{Consumes, IsAtEnd}
 use Rattle.std.proofs.lemmas.Bool.{true≢false}
@@ -9,7 +9,7 @@ use Rattle.cd_read.specs.declared.fault.Fault.TheVariants.{Log, Read, TooLong, W
 use Rattle.cd_stream.specs.Stream.{Incoming, IsBeginning}
 use Rattle.cd_read.proofs.general.KnownBytes.{consumed_all, consumed_length, consumed_within}
 
--- an image that fits begins with what was read
+-- an image that may be the one being read begins with the bytes read
 pub Fits-begins : (read whole : List ℕ) → length read ≤ image_limit → MayBeImage read whole
     → IsBeginning read whole
 Fits-begins read whole within fits =
@@ -29,13 +29,13 @@ MayBeImageAtEnd-end (Some (x ∷ xs)) read whole end fits = cc
 
 -- ---- the plain clauses of all four calls
 
--- how many reads, writes and writes of the log have failed meanwhile
+-- the numbers of reads, of writes, and of writes to the log that have failed between the two states
 pub record Failed (image image' out out' log log' reads writes logs : ℕ) : Type 0 where
   pub reads_failed : image' ≡ image + reads
   pub writes_failed : out' ≡ out + writes
   pub logs_failed : log' ≡ log + logs
 
--- by the answer: what has failed, how much was read, and whether the source has ended
+-- by the result: which calls have failed, how much was read, and whether the source has ended
 abbrev pub EndsBy : {T : Type 0} → List ℕ → Incoming → Incoming → (out out' log log' : ℕ)
     → Result T Fault → Type 0
 EndsBy read image image' out out' log log' (Ok x) =
@@ -51,8 +51,8 @@ EndsBy read image image' out out' log log' (Err TooLong) =
     Failed image.failures image'.failures out out' log log' 0 0 0 × (image_limit < length read)
     × (image'.ended ≡ false)
 
--- how a call has ended that has read some of an image, with the failures that its output and its
--- log have counted
+-- the end of a call that has read some of an image, with the failures that its output and its log
+-- have counted
 pub record Ending {T : Type 0} (image image' : Incoming) (out out' log log' : ℕ)
     (result : Result T Fault) : Type 0 where
   pub read : List ℕ

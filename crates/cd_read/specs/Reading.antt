@@ -1,5 +1,5 @@
--- What reading one more sector of an image does, after `count` others. `list`, `audit`, `apply` and
--- `check` all read so.
+-- The effect of reading the next sector of an image, after `count` others. `list`, `audit`,
+-- `apply`, and `check` all read this way.
 use Rattle.std.specs.Prelude.{◌≡◌, ℕ, ◌+◌, ◌*◌, ◌<◌, ◌≤◌, false, true, List, length, take, Option}
 use Rattle.std.specs.Prelude.{None, Some, Result, Ok, Err}
 use Rattle.std.specs.Io.KnownBytes.{Consumes, IsAtEnd}
@@ -9,7 +9,7 @@ use Rattle.cd_read.specs.declared.fault.Fault.{Fault}
 use Rattle.cd_read.specs.declared.fault.Fault.TheVariants.{Log, Read, TooLong, Write}
 use Rattle.cd_stream.specs.Stream.{Incoming}
 
--- a whole sector has come
+-- a complete sector was read
 pub record SectorComes (count : ℕ) (bytes : List ℕ) (image image' : Incoming) : Type 0 where
   pub consumes : Consumes image.rest image'.rest bytes
   pub counted : image'.given ≡ image.given + SECTOR_SIZE
@@ -39,7 +39,7 @@ pub record ReadFails (count : ℕ) (image image' : Incoming) : Type 0 where
   pub unended : image'.ended ≡ false
   pub within : SECTOR_SIZE * count + length came ≤ image_limit
 
--- a byte has come after the last sector that an image may have
+-- a byte was read after the last sector that an image may have
 pub record TooMuchComes (count : ℕ) (image image' : Incoming) : Type 0 where
   pub came : List ℕ
   pub one : length came ≡ 1

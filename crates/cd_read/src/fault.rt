@@ -7,8 +7,8 @@ use cd_sector::MAX_SECTORS;
 use cd_stream::{SinkFailed, SourceFailed};
 use thiserror::Error;
 
-/// Why a call on an image ended early. It ends at the first fault. `Write` and `Log` are those of
-/// the calls above, in cd_report and cd_image.
+/// Why a call on an image ended early. It ends at its first error. `Write` and `Log` are the errors
+/// of the calls in cd_report and cd_image.
 #[derive(Clone, Copy, Debug, PartialEq, Eq, Drop, Error)]
 pub enum Fault {
     /// A read of the image failed.
@@ -17,7 +17,7 @@ pub enum Fault {
     /// A write to the output, or its flush, failed.
     #[error("writing the output failed")]
     Write,
-    /// A write to the log failed, or its flush.
+    /// A write to the log, or its flush, failed.
     #[error("writing the log failed")]
     Log,
     /// A byte was read after the millionth sector.

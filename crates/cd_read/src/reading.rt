@@ -1,4 +1,4 @@
-//! Reading an image sector by sector, as far as an image may go.
+//! Reads an image sector by sector, up to the largest size of an image.
 
 ghost use Rattle.std.specs.Prelude.{◌≡◌, ◌<◌, ◌≤◌};
 ghost use Rattle.cd_read.specs.Reading.{ReadsSector};
@@ -9,15 +9,15 @@ use crate::fault::Fault;
 use cd_sector::{MAX_SECTORS, SECTOR_SIZE, Sector};
 use cd_stream::{Source, fill_buffer};
 
-/// Reads the next sector of an image, after `count` others, to `sector`, in the place of its bytes.
-/// At the end of the image returns the number of bytes of its tail, which is then at the front
-/// of `sector`. The one call by which `list`, `audit`, `apply` and `check` read an image and
-/// keep to its limit.
+/// Reads the next sector of an image, after `count` others, directly into the bytes of `sector`. At
+/// the end of the image it returns the number of bytes of the tail, which is then at the front of
+/// `sector`. `list`, `audit`, `apply`, and `check` read an image only by this call, which keeps to
+/// the limit of an image.
 ///
 /// # Errors
 ///
-/// `Read` if a read of the image failed, `TooLong` if a byte came after the last sector that
-/// an image may have.
+/// `Read` if a read of the image fails, `TooLong` if a byte is read after the last sector that an
+/// image may have.
 ///
 /// # Examples
 ///
@@ -36,12 +36,12 @@ pub fn read_sector<I: Source>(
     requires few { count ≤ sector_limit }
     ensures { ReadsSector count sector.new (I.seen image.old) (I.seen image.new) result }
 {
-    // Proof step: the source goes through the call, since nothing would be known of what the
-    // closure captured.
+    // Proof step: the source is passed through the call, since nothing would be known of a variable
+    // that the closure captured.
     sector.with_bytes_mut(image, |image, bytes| read_bytes(image, count, bytes))
 }
 
-/// Reads the next sector of an image, after `count` others, to the bytes of a sector.
+/// Reads the next sector of an image, after `count` others, into the bytes of a sector.
 fn read_bytes<I: Source>(
     image: &mut I,
     count: u32,
@@ -61,9 +61,9 @@ fn read_bytes<I: Source>(
     Ok(None)
 }
 
-/// Makes sure that the image has ended after its last possible sector, by a read of one byte, which
-/// must not come. So an image of exactly 2,352,000,000 bytes is whole, and of a longer one just one
-/// byte more is read.
+/// Tests that the image ends after its last possible sector, by trying to read one more byte. So an
+/// image of exactly 2,352,000,000 bytes is accepted, and of a longer image only one byte more is
+/// read.
 fn read_end<I: Source>(image: &mut I, bytes: &mut [u8; SECTOR_SIZE]) -> Result<Option<usize>, Fault>
     requires { CanCountFailure (I.seen image.old).failures }
     ensures { ReadsSector sector_limit bytes.new (I.seen image.old) (I.seen image.new) result }

@@ -1,4 +1,4 @@
--- An audit sector by sector, and that it reports what it should of the whole image.
+-- An audit sector by sector, and the proof that it reports what it should for the complete image.
 use Rattle.std.proofs.Common.{◌≡◌, ℕ, ◌+◌, ◌<◌, ◌==◌, Bool, true, false, not, ◌&&◌, ◌||◌, cond, count_by, List, [], ◌∷◌, ◌++◌, length, take, Option, None, Some, refl, sym, ap, ◌∙◌, subst, arith, add-zero, zero-add, add_assoc, append-nil}
 use Rattle.std.specs.List.{list_all}
 use Rattle.std.proofs.lemmas.Bool.Decides.{nat_tests}
@@ -74,7 +74,7 @@ tally_of-same s s' m m' d d' f f' t p q r u =
     ap (λ n. tally_of n m d f t) p ∙ ap (λ n. tally_of s' n d f t) q
     ∙ ap (λ n. tally_of s' m' n f t) r ∙ ap (λ n. tally_of s' m' d' n t) u
 
--- a count with one more
+-- a count with one more sector
 one_more : (n k m : ℕ) (b c : Bool) → b ≡ c → k ≡ cond b 1 0 + m → n + k ≡ n + cond c 1 0 + m
 one_more n k m b c same is =
     ap (λ x. n + x) (is ∙ ap (λ t. cond t 1 0 + m) same) ∙ sym (add_assoc n (cond c 1 0) m)
@@ -119,7 +119,7 @@ tally_with-sectors : (tally : AuditTally) (found : Option Findings)
 tally_with-sectors tally None = refl
 tally_with-sectors tally (Some found) = refl
 
--- a sector has one line at most
+-- a sector has at most one line
 one_line : (block : ℕ) (found : Option Findings) → 0 < length (text_of (line_of block found))
     → (line : List ℕ) × (line_of block found ≡ line ∷ [])
 one_line block None some = absurd (omega arith)
@@ -183,7 +183,7 @@ module _ (base : ℕ) (tally : AuditTally) (sector : List ℕ) (out out' : Outgo
         last = refl;
       }
 
--- the same by what was found of the sector
+-- the same, in terms of the findings of the sector
 module _ (base : ℕ) (tally : AuditTally) (sector : List ℕ) (out out' : Outgoing) (count : ℕ)
     (is : IsTallyOf tally count) (found : Option Findings)
     (found_is : found ≡ findings_of (base + count) sector) where
@@ -211,16 +211,16 @@ module _ (base : ℕ) (tally : AuditTally) (sector : List ℕ) (out out' : Outgo
       (subst (λ ls. (n : ℕ) × (n < length (text_of ls)) × Takes out out' (take n (text_of ls)))
       line_there went)
 
--- the counts at the end, with no sector to follow
+-- the counts at the end, when no sector follows
 pub audit_end_is : (tally : AuditTally) (first left : ℕ)
     → tally_with_all tally first [] left ≡ record tally { tail = left }
 audit_end_is tally first left = simp add-zero
 
--- ---- the whole image
+-- ---- the complete image
 
 abbrev pub none_yet : AuditTally
 none_yet = record { sectors = 0; mode1 = 0; damaged = 0; findings = 0; tail = 0 }
 
--- an audit from the first sector on is the whole report
+-- an audit from the first sector on is the complete report
 pub Auditing-is : (base : ℕ) → spec_of (audit_remaining base none_yet) ≡ audit_report base
 Auditing-is base = simp (add-zero, zero-add)

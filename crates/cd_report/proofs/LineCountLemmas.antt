@@ -1,4 +1,4 @@
--- The lines of an audit's text, counted.
+-- The number of lines in the text of an audit.
 use Rattle.std.proofs.Common.{◌≡◌, ℕ, ◌+◌, ◌%◌, ◌^◌, ◌<◌, ◌≤◌, ◌==◌, Bool, true, false, cond, codes, decimal, List, [], ◌∷◌, ◌++◌, length, Some, refl, sym, ap, ◌∙◌, subst, arith, zero-add, append-nil}
 use Rattle.std.proofs.lemmas.Bool.Decides.{nat_tests}
 use Rattle.std.proofs.lemmas.Fmt.{decimal_by_steps}
@@ -22,7 +22,7 @@ line_count-append : (front after : List ℕ)
     → line_count (front ++ after) ≡ line_count front + line_count after
 line_count-append front after = sum_by-append (λ b. cond (b == 10) 1 0) front after
 
--- no line ends in a front
+-- a front in which no line ends adds no line
 line_count-after : (front after : List ℕ) → line_count front ≡ 0
     → line_count (front ++ after) ≡ line_count after
 line_count-after front after none =
@@ -56,7 +56,7 @@ line_count-count name n none small =
 
 -- ---- one line each
 
--- nor in two
+-- no line ends in two parts if none ends in either
 none_in_both : (x y : List ℕ) → line_count x ≡ 0 → line_count y ≡ 0 → line_count (x ++ y) ≡ 0
 none_in_both x y in_x in_y = line_count-after x y in_x ∙ in_y
 

@@ -1,4 +1,4 @@
--- A listing sector by sector, and that it reports what it should of the whole image.
+-- A listing sector by sector, and the proof that it reports what it should for the complete image.
 use Rattle.std.proofs.Common.{◌≡◌, ℕ, suc, ◌+◌, List, [], ◌∷◌, ◌++◌, length, map, Option, None, Some, Result, Ok, Err, refl, sym, ap, ◌∙◌, subst, arith, add-zero, zero-add, append-nil, append_assoc}
 use Rattle.cd_sector.specs.Kind.{kind_of}
 use Rattle.cd_stream.specs.Stream.{Outgoing}
@@ -56,7 +56,7 @@ module _ (base : ℕ) (run : Option OpenRun) (count : ℕ) (sector : List ℕ) (
       sector out out') (sym taken.1) (List-taken taken.0 taken.2)
   List-visits run' (Err e) failed = List-failed failed.1
 
--- what goes out at the end, with no sector to follow
+-- the bytes written at the end, when no sector follows
 pub list_end_is : (base : ℕ) (run : Option OpenRun) (count left : ℕ)
     → last_line (open_first run 0) (runs (open_kinds run)) ++ list_end (tally_of count left)
     ≡ (list_remaining base run count).end [] left
@@ -67,7 +67,7 @@ list_end_is base (Some run) count left =
     ∙ ap (λ n. last_line run.first (runs (open_kinds (Some run) ++ []))
     ++ list_end (tally_of n left)) (sym (add-zero count))
 
--- ---- the whole image
+-- ---- the complete image
 
 last-apart : (first : ℕ) (rs : List Run)
     → text_of (run_lines first rs)
@@ -80,6 +80,6 @@ last-apart first (run ∷ next ∷ others) =
     (text_of (all_but_last (run_lines (first + run.count) (next ∷ others))))
     (last_line (first + run.count) (next ∷ others)))
 
--- a listing from the first sector on is the whole report
+-- a listing from the first sector on is the complete report
 pub Listing-is : (base : ℕ) → spec_of (list_remaining base None 0) ≡ list_report base
 Listing-is base = simp (add-zero, zero-add, ← append_assoc, ← last-apart)

@@ -1,4 +1,4 @@
--- What an open run and the kinds after it make of the text.
+-- The text that results from an open run and the kinds after it.
 use Rattle.std.proofs.Common.{◌≡◌, ℕ, zero, suc, ◌+◌, ◌-◌, ◌<◌, ◌≤◌, List, [], ◌∷◌, ◌++◌, length, replicate, take, Option, Some, refl, sym, ap, ◌∙◌, subst, arith, append-nil}
 use Rattle.cd_sector.specs.declared.kinds.SectorKind.{SectorKind}
 use Rattle.cd_stream.specs.Stream.{Outgoing}
@@ -55,13 +55,13 @@ runs-open run others ordered other =
     ∙ runs-run (run.last - run.first) run.kind others other
     ∙ ap (λ n. record { kind = run.kind; count = n } ∷ runs others) (sym count)
 
--- no line is due of a run that is still open
+-- no line is due for a run that is still open
 pub nothing_ended : (run : OpenRun) → run.first ≤ run.last
     → ended_lines run.first (kinds_of run ++ []) ≡ []
 nothing_ended run ordered =
     ap (λ rs. all_but_last (run_lines run.first rs)) (runs-open run [] ordered tt)
 
--- the last run's line is all that an open run makes of no more kinds
+-- if no kinds follow an open run, its line is the last line
 last_line-open : (run : OpenRun) → run.first ≤ run.last
     → last_line run.first (runs (kinds_of run)) ≡ line_of run
 last_line-open run ordered =
@@ -136,7 +136,7 @@ module _ (run : OpenRun) (block : ℕ) (kind : SectorKind) (ends : EndsBefore (S
         lines = λ others. ended-other other others;
       }
 
--- the same of a run that is given
+-- the same for a given run
 module _ (given : Option OpenRun) (run : OpenRun) (is : given ≡ Some run) where
   pub last_line-given : run.first ≤ run.last
       → last_line (open_first given 0) (runs (open_kinds given)) ≡ line_of run

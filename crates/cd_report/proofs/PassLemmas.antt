@@ -1,4 +1,4 @@
--- Beginnings of texts, and how the end of a text goes out.
+-- Beginnings of texts, and the writing of the end of a text.
 use Rattle.std.proofs.Common.{◌≡◌, ℕ, List, [], ◌++◌, drop, take, Err, sym, ◌∙◌, arith, append_assoc, append-nil, length-append, take-append-drop}
 use Rattle.std.proofs.lemmas.Bool.{true≢false}
 use Rattle.std.proofs.lemmas.List.{length-take-le}
@@ -11,12 +11,12 @@ use Rattle.cd_stream.proofs.TransferLemmas.{Takes-flushed, Takes-trans}
 pub IsBeginning-take : (n : ℕ) (line more : List ℕ) → IsBeginning (take n line) (line ++ more)
 IsBeginning-take n line more = (drop n line ++ more, simp (← append_assoc, take-append-drop))
 
--- a beginning of what comes after
+-- a beginning of the bytes after a front
 pub IsBeginning-after : (front part whole : List ℕ) → IsBeginning part whole
     → IsBeginning (front ++ part) (front ++ whole)
 IsBeginning-after front part whole begins = (begins.0, simp (begins.1, append_assoc))
 
--- the write of what was left failed
+-- the write of the rest failed
 pub Finishes-at_rest : {X E : Type 0} {e : E} {rest : List ℕ} {out out' : Outgoing} (last : List ℕ)
     → Sends {X = X} {E = E} out out' rest (Err e) → FailsToFinish (rest ++ last) out out'
 Finishes-at_rest {rest = rest} last fails =

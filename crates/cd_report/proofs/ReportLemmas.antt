@@ -1,4 +1,4 @@
--- What a report says in plain clauses.
+-- The effect of a report, in plain clauses.
 use Rattle.std.proofs.Common.{◌≡◌, ◌++◌, Some, Result, Ok, Err, IfOk, OnOk, ap, ◌∙◌, arith}
 use Rattle.cd_read.specs.Ends.{EndsWell}
 use Rattle.cd_read.specs.declared.fault.Fault.{Fault}
@@ -8,7 +8,7 @@ use Rattle.cd_read.proofs.EndLemmas.{Ending, EndsBy}
 use Rattle.cd_report.specs.Report.{Reports, ReportSpec, WritesText}
 use Rattle.cd_stream.specs.Stream.{Incoming, Outgoing}
 
--- the same in other words
+-- `Reports` for an equal specification
 pub Reports-same : {T : Type 0} {a b : ReportSpec T} {image image' : Incoming}
     {out out' : Outgoing} {result : Result T Fault} → a ≡ b
     → Reports a image image' out out' result → Reports b image image' out out' result
@@ -38,7 +38,7 @@ module _ {T : Type 0} {spec : ReportSpec T} {image image' : Incoming} {out out' 
       }
   Reports-ends_well (Err fault) report = tt
 
-  -- how the call has ended, which has no log
+  -- the end of the call, by its result; the call has no log
   ends_by : (result : Result T Fault) (report : Reports spec image image' out out' result)
       → EndsBy report.read image image' out.failures out'.failures 0 0 result
   ends_by (Ok reported) report =

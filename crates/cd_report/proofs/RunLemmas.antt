@@ -1,4 +1,4 @@
--- Runs of equal kinds.
+-- Runs of sectors of the same kind.
 use Rattle.std.proofs.Common.{◌≡◌, ◌≢◌, ℕ, zero, suc, ◌+◌, true, false, List, [], ◌∷◌, ◌++◌, replicate, refl, sym, ap, ◌∙◌, subst, arith, add-one, cond, ◌<◌}
 use Rattle.std.proofs.lemmas.Bool.Decides.{nat_tests}
 use Rattle.cd_sector.specs.Kind.{kind_number}
@@ -56,7 +56,7 @@ put_before-begins kind (run ∷ others) =
       | false ↦ (1, run ∷ others, refl)
     ]
 
--- kinds that don't go on with this one
+-- kinds that do not begin with this one
 abbrev pub IsOther : SectorKind → List SectorKind → Type 0
 IsOther kind [] = Unit {0}
 IsOther kind (next ∷ others) = kind ≢ next

@@ -1,4 +1,4 @@
--- One pass over an image that reports on it: how far it has come, and how it ends.
+-- One pass over an image that reports on it: its progress, and its end.
 use Rattle.std.proofs.Common.{◌≡◌, ℕ, ◌+◌, ◌*◌, ◌<◌, ◌≤◌, true, List, [], ◌∷◌, ◌++◌, length, take, Ok, Err, refl, sym, ap, ◌∙◌, arith, length-append, append_assoc, append-nil, take_at}
 use Rattle.std.proofs.KnownBytes.{Consumes-nil}
 use Rattle.std.proofs.lemmas.Grind.{flat_map-append}
@@ -40,8 +40,8 @@ all_but_last-begins (x ∷ y ∷ ys) =
 
 -- ---- the pass
 
--- after `count` sectors: whatever sectors may still come, the report of all is what has gone out
--- and what is still to be written
+-- after `count` sectors: whatever sectors may still follow, the complete report is the bytes
+-- written and those that are still to be written
 pub record ScanInvariant {T : Type 0} (first now : Remaining T) (image image' : Incoming)
     (out out' : Outgoing) (count : ℕ) : Type 0 where
   pub read : List ℕ
@@ -85,7 +85,7 @@ ScanInvariant-start first image out none = record {
 module _ {T : Type 0} {first now : Remaining T} {image before : Incoming} {out sunk : Outgoing}
     {count : ℕ}
     (reported : ScanInvariant first now image before out sunk count) where
-  -- the text of an image that begins with what was read
+  -- the text of an image that begins with the bytes read
   known : (more : List ℕ)
       → (spec_of first).text (reported.read ++ more)
       ≡ text_of reported.sent
@@ -108,7 +108,7 @@ module _ {T : Type 0} {first now : Remaining T} {image before : Incoming} {out s
       done_is : sectors (reported.read ++ came) ≡ reported.done ++ []
       done_is = simp (reported.cut, sectors-short)
 
-      -- the lines that are due are those that went out
+      -- the lines that are due are those that were written
       due_is : (spec_of first).due (reported.read ++ came) ≡ reported.sent
       due_is =
           ap first.lines done_is ∙ reported.lines [] ∙ simp (reported.nothing_due, append-nil)
@@ -164,7 +164,7 @@ module _ {T : Type 0} {first now : Remaining T} {image before : Incoming} {out s
   ScanInvariant-unread bytes Write r = elim r [ ]
   ScanInvariant-unread bytes Log r = elim r [ ]
 
-  -- a sector has come
+  -- a sector was read
   module _ {after : Incoming} {came : List ℕ} (comes : SectorComes count came before after) where
     came_all : Gives image after (reported.read ++ came)
     came_all =
@@ -235,7 +235,7 @@ module _ {T : Type 0} {first now : Remaining T} {image before : Incoming} {out s
             ∙ rw (sectors-short [] (omega arith)) in
             simp (reported.cut, only, reported.lines, failed.lines, failed.last)
 
-        -- the line that failed, and what follows it
+        -- the line that failed, and the text after it
         text_is : (whole : List ℕ) → MayBeImageAtEnd after.rest (reported.read ++ came) whole
             → (others : List ℕ)
             × ((spec_of first).text whole ≡ text_of reported.sent ++ (failed.line ++ others))

@@ -1,4 +1,4 @@
--- The text that `audit` writes of an image.
+-- The text that `audit` writes for an image.
 use Rattle.std.specs.Prelude.{◌≡◌, ℕ, ◌+◌, ◌≤◌, Bool, false, not, ◌&&◌, ◌||◌, if◌then◌else◌, List}
 use Rattle.std.specs.Prelude.{[], ◌∷◌, ◌++◌, length, count_by, codes, decimal, nat_eq, Option, None}
 use Rattle.std.specs.Prelude.{Some}
@@ -14,14 +14,14 @@ use Rattle.cd_report.specs.Report.{ReportSpec}
 use Rattle.cd_report.specs.declared.auditing.AuditTally.{AuditTally}
 use Rattle.cd_report.specs.declared.findings.Findings.{Findings}
 
--- ---- what is found of one sector
+-- ---- the findings in one sector
 
 -- the header doesn't begin with the address of the block, if the block has one
 abbrev pub is_other_address : Option (List ℕ) → List ℕ → Bool
 is_other_address None header = false
 is_other_address (Some due) header = not (starts_with nat_eq header due)
 
--- which parts of a sector are wrong, as `defect` returns
+-- the wrong parts of a sector, as `defect` returns them
 unfoldable pub report_of : List ℕ → DefectReport
 report_of sector = record {
   zeros = list_any is_nonzero (defect_of sector).zeros;
@@ -30,14 +30,14 @@ report_of sector = record {
   q = count_by is_broken (defect_of sector).diagonals;
 }
 
--- the address and the defect of the sector of a block
+-- whether the address of a block's sector is wrong, and the defect of the sector
 abbrev pub found_of : ℕ → List ℕ → Findings
 found_of block sector = record {
   address = is_other_address (address block) (header_of sector);
   defect = report_of sector;
 }
 
--- what is found of a sector: of another kind than Mode 1 nothing
+-- the findings in a sector; None if the sector is not of Mode 1
 unfoldable pub findings_of : ℕ → List ℕ → Option Findings
 findings_of block sector = if is_mode1 (kind_of sector) then Some (found_of block sector) else None
 
@@ -45,14 +45,14 @@ findings_of block sector = if is_mode1 (kind_of sector) then Some (found_of bloc
 abbrev pub is_damage : DefectReport → Bool
 is_damage report = ((report.zeros || report.edc) || is_nonzero report.p) || is_nonzero report.q
 
--- the sector has a line: another address, or a part that is wrong
+-- the sector has a line: for a wrong address, or for a part that is wrong
 abbrev pub is_any : Option Findings → Bool
 is_any None = false
 is_any (Some found) = found.address || is_damage found.defect
 
 -- ---- the text
 
--- a name, if that was found
+-- a name, if `found`
 abbrev pub name_if : Bool → List ℕ → List ℕ
 name_if found name = if found then name else []
 
@@ -60,7 +60,7 @@ name_if found name = if found then name else []
 abbrev pub count_if : List ℕ → ℕ → List ℕ
 count_if name count = if is_nonzero count then name ++ decimal count else []
 
--- the block's number, and then what is found, in this order
+-- the block's number, and then the findings, in this order
 unfoldable pub finding_line : ℕ → Findings → List ℕ
 finding_line block found =
     decimal block ++ name_if found.address (codes " address")
@@ -72,7 +72,7 @@ abbrev pub line_of : ℕ → Option Findings → List (List ℕ)
 line_of block None = []
 line_of block (Some found) = if is_any (Some found) then finding_line block found ∷ [] else []
 
--- the lines of sectors, the first of which is `block`
+-- the lines of sectors, which start at block `block`
 abbrev pub audit_lines : ℕ → List (List ℕ) → List (List ℕ)
 audit_lines block [] = []
 audit_lines block (sector ∷ others) =
@@ -88,7 +88,7 @@ finding_count block [] = 0
 finding_count block (sector ∷ others) =
     (if is_any (findings_of block sector) then 1 else 0) + finding_count (block + 1) others
 
--- the counts of sectors, the first of which is `block`
+-- the counts of sectors, which start at block `block`
 abbrev pub counts_of : ℕ → List (List ℕ) → ℕ → AuditTally
 counts_of block ss left = record {
   sectors = length ss;
@@ -109,7 +109,7 @@ audit_end tally =
     ++ codes " damaged " ++ decimal tally.damaged
     ++ codes " tail " ++ decimal tally.tail ++ codes "\n"
 
--- the whole text, if the image's first block is `base`
+-- the complete text, if the image's first block is `base`
 abbrev pub audit_text : ℕ → List ℕ → List ℕ
 audit_text base image =
     text_of (audit_lines base (sectors image)) ++ audit_end (audit_tally base image)
@@ -122,7 +122,7 @@ audit_report base = record {
   tally = audit_tally base;
 }
 
--- the findings are the lines before the last
+-- the text has one line more than `findings` counts
 abbrev pub AuditCountsLines : Type 0
 AuditCountsLines =
     (base : ℕ) (image : List ℕ) → base ≤ base_limit → length image ≤ image_limit

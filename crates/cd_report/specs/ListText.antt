@@ -1,4 +1,4 @@
--- The text that `list` writes of an image.
+-- The text that `list` writes for an image.
 use Rattle.std.specs.Prelude.{ℕ, ◌+◌, ◌-◌, List, [], ◌∷◌, ◌++◌, length, map, codes, decimal}
 use Rattle.cd_sector.specs.Kind.{kind_of}
 use Rattle.cd_sector.specs.declared.kinds.SectorKind.{SectorKind}
@@ -24,7 +24,7 @@ run_line first run =
     decimal first ++ codes "-" ++ decimal (first + run.count - 1) ++ codes " " ++ kind_name run.kind
     ++ codes "\n"
 
--- a line for each run, the first of which begins at block `first`
+-- a line for each run; the first run begins at block `first`
 abbrev pub run_lines : ℕ → List Run → List (List ℕ)
 run_lines first [] = []
 run_lines first (run ∷ others) = run_line first run ∷ run_lines (first + run.count) others
@@ -34,16 +34,17 @@ unfoldable pub list_end : ListTally → List ℕ
 list_end tally =
     codes "sectors " ++ decimal tally.sectors ++ codes " tail " ++ decimal tally.tail ++ codes "\n"
 
--- the number of whole sectors, and the length of the tail
+-- the number of complete sectors, and the length of the tail
 abbrev pub list_tally : List ℕ → ListTally
 list_tally image = record { sectors = length (sectors image); tail = length (tail image) }
 
--- the whole text, if the image's first block is `base`
+-- the complete text, if the image's first block is `base`
 abbrev pub list_text : ℕ → List ℕ → List ℕ
 list_text base image =
     text_of (run_lines base (runs (map kind_of (sectors image)))) ++ list_end (list_tally image)
 
--- the report of a listing: the line of a run is due when a sector of another kind was read after it
+-- the report of a listing: the line of a run is due when a sector of a different kind was read
+-- after it
 abbrev pub list_report : ℕ → ReportSpec ListTally
 list_report base = record {
   text = list_text base;

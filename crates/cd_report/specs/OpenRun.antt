@@ -8,7 +8,7 @@ abbrev pub open_kinds : Option OpenRun → List SectorKind
 open_kinds None = []
 open_kinds (Some run) = replicate (run.last + 1 - run.first) run.kind
 
--- its first block; if none is open, the block of the next sector
+-- its first block; if no run is open, the block of the next sector
 abbrev pub open_first : Option OpenRun → ℕ → ℕ
 open_first None block = block
 open_first (Some run) block = run.first

@@ -1,5 +1,5 @@
--- What a call has done that reads an image to its end and writes a text of it. The plain clauses of
--- the calls follow from `Reports`.
+-- The effect of a call that reads an image to its end and writes a text about it. The plain clauses
+-- of the calls follow from `Reports`.
 use Rattle.std.specs.Prelude.{◌≡◌, ℕ, ◌+◌, ◌<◌, ◌≤◌, false, true, List, [], ◌++◌}
 use Rattle.std.specs.Prelude.{length, Some, Result, Ok, Err}
 use Rattle.std.specs.Io.KnownBytes.{IsAtEnd}
@@ -11,14 +11,14 @@ use Rattle.cd_read.specs.declared.fault.Fault.TheVariants.{Log, Read, TooLong, W
 use Rattle.cd_stream.specs.Stream.{Incoming, IsBeginning, Outgoing}
 use Rattle.cd_stream.specs.Transfer.{CountsFlush, Gives, Takes}
 
--- a report: of an image its text and its counts (`tally`), and the lines that are `due` once some
--- of its bytes were read
+-- a report: the text of an image, its counts (`tally`), and the lines that are `due` once some of
+-- its bytes were read
 pub record ReportSpec (T : Type 0) : Type 0 where
   pub text : List ℕ → List ℕ
   pub due : List ℕ → List (List ℕ)
   pub tally : List ℕ → T
 
--- the whole image was read until the source ended, and its whole text went out
+-- all of the image was read, until the source ended, and all of its text was written
 pub record CompletesReport {T : Type 0} (spec : ReportSpec T) (read sent : List ℕ)
     (image image' : Incoming) (out out' : Outgoing) (reported : T) : Type 0 where
   pub reads : image'.failures ≡ image.failures
@@ -30,8 +30,8 @@ pub record CompletesReport {T : Type 0} (spec : ReportSpec T) (read sent : List 
   pub whole_sent : sent ≡ spec.text read
   pub tally_right : reported ≡ spec.tally read
 
--- a read failed: just the lines that were due went out, which begin the text of each image that
--- begins with what was read, and no flush was made
+-- a read failed: exactly the lines that were due were written, and no flush was made. These lines
+-- begin the text of each image that begins with the bytes read
 pub record StopsReading {T : Type 0} (spec : ReportSpec T) (read sent : List ℕ)
     (image image' : Incoming) (out out' : Outgoing) : Type 0 where
   pub reads : image'.failures ≡ image.failures + 1
@@ -42,9 +42,9 @@ pub record StopsReading {T : Type 0} (spec : ReportSpec T) (read sent : List ℕ
   pub due_sent : sent ≡ text_of (spec.due read)
   pub beginning : (whole : List ℕ) → MayBeImage read whole → IsBeginning sent (spec.text whole)
 
--- a write failed, or the flush: the lines that were due went out, but for the last one. No flush
--- was made before the whole text went out. If the sink's flush can't fail, some of the text did not
--- go out
+-- a write or the flush failed: at least the lines that were due, without the last one, were
+-- written. No flush was made before all of the text was written. If the sink's flush cannot fail,
+-- some of the text was not written
 pub record StopsWriting {T : Type 0} (spec : ReportSpec T) (read sent : List ℕ)
     (image image' : Incoming) (out out' : Outgoing) : Type 0 where
   pub reads : image'.failures ≡ image.failures
@@ -57,7 +57,7 @@ pub record StopsWriting {T : Type 0} (spec : ReportSpec T) (read sent : List ℕ
   pub cut : out.flush_may_fail ≡ false → (whole : List ℕ) → MayBeImageAtEnd image'.rest read whole
       → length sent < length (spec.text whole)
 
--- just one byte was read after the millionth sector; no flush was made
+-- exactly one byte was read after the millionth sector; no flush was made
 pub record StopsTooLong {T : Type 0} (spec : ReportSpec T) (read sent : List ℕ)
     (image image' : Incoming) (out out' : Outgoing) : Type 0 where
   pub reads : image'.failures ≡ image.failures
@@ -68,7 +68,7 @@ pub record StopsTooLong {T : Type 0} (spec : ReportSpec T) (read sent : List ℕ
   pub due_sent : sent ≡ text_of (spec.due read)
   pub beginning : (whole : List ℕ) → MayBeImage read whole → IsBeginning sent (spec.text whole)
 
--- what was read and sent, by the result: the whole report, or what each fault leaves
+-- the bytes read and sent, by the result: the complete report, or the state that each error leaves
 abbrev pub ReportAnswers : {T : Type 0} → ReportSpec T → List ℕ → List ℕ → Incoming → Incoming
     → Outgoing
     → Outgoing → Result T Fault → Type 0
@@ -82,8 +82,9 @@ ReportAnswers spec read sent image image' out out' (Err Log) = ⊥
 ReportAnswers spec read sent image image' out out' (Err TooLong) =
     StopsTooLong spec read sent image image' out out'
 
--- a call's whole contract: it read some bytes, sent some, made one flush at the end, and returned
--- what fits these. It serves sources and sinks whose bytes are known, and others
+-- the complete contract of a call: it read some bytes, sent some, made one flush at the end, and
+-- returned a result that matches them. It holds for sources and sinks whose bytes are known, and
+-- for others
 pub record Reports {T : Type 0} (spec : ReportSpec T) (image image' : Incoming)
     (out out' : Outgoing) (result : Result T Fault) : Type 0 where
   pub read : List ℕ
@@ -93,8 +94,8 @@ pub record Reports {T : Type 0} (spec : ReportSpec T) (image image' : Incoming)
   pub flushes : CountsFlush out.flushes out'.flushes result
   pub answers : ReportAnswers spec read sent image image' out out' result
 
--- if the bytes of source and sink are known: all of the image was read, and the sink got its text
--- after what it had
+-- if the bytes of source and sink are known: all of the image was read, and its text was appended
+-- to the sink
 abbrev pub WritesText : {T : Type 0} → ReportSpec T → Incoming → Incoming → Outgoing → Outgoing → T
     → Type 0
 WritesText spec image image' out out' reported =

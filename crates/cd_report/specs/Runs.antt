@@ -1,4 +1,4 @@
--- The maximal runs of neighbours of equal kind.
+-- The maximal runs of neighbours of the same kind.
 use Rattle.std.specs.Prelude.{◌≡◌, ◌≢◌, ℕ, ◌==◌, ◌+◌, ◌<◌, Bool, if◌then◌else◌, List, [], ◌∷◌}
 use Rattle.std.specs.Prelude.{replicate}
 use Rattle.std.specs.List.{flat_map}
@@ -14,7 +14,7 @@ pub record Run : Type 0 where
 abbrev pub same_kind : SectorKind → SectorKind → Bool
 same_kind a b = kind_number a == kind_number b
 
--- one more sector before runs: it joins the first if that is of its kind
+-- runs with one more sector before them: it joins the first run if it is of the same kind
 abbrev pub prepend_kind : SectorKind → List Run → List Run
 prepend_kind kind [] = record { kind = kind; count = 1 } ∷ []
 prepend_kind kind (run ∷ others) =
@@ -26,7 +26,7 @@ abbrev pub runs : List SectorKind → List Run
 runs [] = []
 runs (kind ∷ others) = prepend_kind kind (runs others)
 
--- the kinds that runs stand for
+-- the list of kinds that runs represent
 abbrev pub kinds_of : List Run → List SectorKind
 kinds_of rs = flat_map (λ run. replicate run.count run.kind) rs
 
@@ -37,7 +37,8 @@ AreMaximal (run ∷ []) = 0 < run.count
 AreMaximal (run ∷ next ∷ others) =
     (0 < run.count) × (run.kind ≢ next.kind) × AreMaximal (next ∷ others)
 
--- the runs spelled out are the kinds, and they are maximal; no other runs are both
+-- the runs of a list of kinds give the list when they are expanded, and are maximal; no other runs
+-- do both
 abbrev pub RunsSpellKinds : Type 0
 RunsSpellKinds =
     (kinds : List SectorKind) → (kinds_of (runs kinds) ≡ kinds) × AreMaximal (runs kinds)

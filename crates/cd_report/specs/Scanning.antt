@@ -1,4 +1,5 @@
--- Plumbing of `list` and `audit`: what is still to be written of an image, sector by sector.
+-- Plumbing of `list` and `audit`: the part of a report that is still to be written, sector by
+-- sector.
 use Rattle.std.specs.Prelude.{◌≡◌, ℕ, ◌+◌, ◌<◌, ◌≤◌, false, true, List, [], ◌∷◌, ◌++◌, length, take}
 use Rattle.std.specs.Prelude.{count_by, map, if◌then◌else◌, Option, None, Some, Result, Ok, Err}
 use Rattle.cd_sector.specs.Consistent.{is_mode1}
@@ -19,14 +20,14 @@ use Rattle.cd_report.specs.declared.findings.Findings.{Findings}
 use Rattle.cd_report.specs.declared.listing.ListTally.{ListTally}
 use Rattle.cd_report.specs.declared.listing.OpenRun.{OpenRun}
 
--- a report's future, if the sectors `ss` and a tail of `n` bytes follow: `lines ss` is written,
+-- the rest of a report, if the sectors `ss` and a tail of `n` bytes follow: `lines ss` is written,
 -- then `end ss n`, and the counts are `tally ss n`
 pub record Remaining (T : Type 0) : Type 0 where
   pub lines : List (List ℕ) → List (List ℕ)
   pub end : List (List ℕ) → ℕ → List ℕ
   pub tally : List (List ℕ) → ℕ → T
 
--- the report whose future this is, from the front of the image on
+-- the report, if this is its rest at the front of the image
 abbrev pub spec_of : {T : Type 0} → Remaining T → ReportSpec T
 spec_of remaining = record {
   text = λ image. text_of (remaining.lines (sectors image))
@@ -35,7 +36,7 @@ spec_of remaining = record {
   tally = λ image. remaining.tally (sectors image) (length (tail image));
 }
 
--- a sector was visited: the lines that were due with it went out, and the rest is still to be
+-- a sector was visited: the lines that were due with it were written, and the rest is still to be
 -- written
 pub record HasVisited {T : Type 0} (old new : Remaining T) (sector : List ℕ)
     (out out' : Outgoing) : Type 0 where
@@ -48,7 +49,7 @@ pub record HasVisited {T : Type 0} (old new : Remaining T) (sector : List ℕ)
       → old.tally (sector ∷ others) left ≡ new.tally others left
   pub nothing_due : new.lines [] ≡ []
 
--- the write of the one line failed that was due with a sector
+-- the write of the one line that was due with a sector failed
 pub record HasFailed {T : Type 0} (old : Remaining T) (sector : List ℕ)
     (out out' : Outgoing) : Type 0 where
   pub line : List ℕ
@@ -65,8 +66,8 @@ abbrev pub Visits : {T X E : Type 0} → Remaining T → Remaining T → List �
 Visits old new sector out out' (Ok x) = HasVisited old new sector out out'
 Visits old new sector out out' (Err e) = HasFailed old sector out out'
 
--- a front of the end of a text has gone out. No flush was made before all of it, and not all goes
--- out if the sink's flush can't fail
+-- a beginning of the rest of a text was written. No flush was made before all of it was written,
+-- and not all was written if the sink's flush cannot fail
 pub record FailsToFinish (text : List ℕ) (out out' : Outgoing) : Type 0 where
   pub sent : List ℕ
   pub takes : Takes out out' sent
@@ -74,7 +75,7 @@ pub record FailsToFinish (text : List ℕ) (out out' : Outgoing) : Type 0 where
   pub unflushed : length sent < length text → out'.flushes ≡ out.flushes
   pub cut : out.flush_may_fail ≡ false → length sent < length text
 
--- the end of a text goes out, and the sink is finished; at Err only a front of it
+-- the rest of a text was written, and the sink is finished; at Err a beginning of it was written
 abbrev pub Finishes : {X E : Type 0} → List ℕ → Outgoing → Outgoing → Result X E → Type 0
 Finishes text out out' (Ok x) = (out'.finished ≡ true) × Takes out out' text
 Finishes text out out' (Err e) = FailsToFinish text out out'
@@ -87,11 +88,11 @@ last_line first [] = []
 last_line first (run ∷ []) = run_line first run
 last_line first (run ∷ next ∷ others) = last_line (first + run.count) (next ∷ others)
 
--- the lines of the runs that a sector of another kind has ended
+-- the lines of the runs that a sector of a different kind has ended
 abbrev pub ended_lines : ℕ → List SectorKind → List (List ℕ)
 ended_lines first kinds = all_but_last (run_lines first (runs kinds))
 
--- the future of a listing after `count` sectors, with an open run
+-- the rest of a listing after `count` sectors, with an open run
 abbrev pub list_remaining : ℕ → Option OpenRun → ℕ → Remaining ListTally
 list_remaining base run count = record {
   lines = λ ss. ended_lines (open_first run (base + count)) (open_kinds run ++ map kind_of ss);
@@ -101,7 +102,7 @@ list_remaining base run count = record {
   tally = λ ss left. record { sectors = count + length ss; tail = left };
 }
 
--- the open run has one sector more, or the run's line went out and another began
+-- the open run has one more sector, or the run's line was written and a new run began
 pub record HasExtended (run : Option OpenRun) (next : OpenRun) (block : ℕ) (kind : SectorKind)
     (out out' : Outgoing) : Type 0 where
   pub sent : List (List ℕ)
@@ -125,7 +126,7 @@ pub record FailsToExtend (run : Option OpenRun) (block : ℕ) (kind : SectorKind
       → ended_lines (open_first run block) (open_kinds run ++ kind ∷ others)
       ≡ line ∷ ended_lines block (kind ∷ others)
 
--- at Ok the sector is in the open run; at Err the run is as it was
+-- at Ok the sector is in the open run; at Err the run is unchanged
 abbrev pub ExtendsRun : {E : Type 0} → Option OpenRun → Option OpenRun → ℕ → SectorKind → Outgoing
     → Outgoing → Result (Unit {0}) E → Type 0
 ExtendsRun run run' block kind out out' (Ok x) =
@@ -135,7 +136,7 @@ ExtendsRun run run' block kind out out' (Err e) =
 
 -- ---- an audit
 
--- the tally with what was found of one more sector
+-- the tally with the findings of one more sector
 abbrev pub tally_with : AuditTally → Option Findings → AuditTally
 tally_with tally None = record tally { sectors = tally.sectors + 1 }
 tally_with tally (Some found) = record {
@@ -146,7 +147,7 @@ tally_with tally (Some found) = record {
   tail = tally.tail;
 }
 
--- the tally with more sectors, the first of which is `block`, and a tail
+-- the tally with more sectors, which start at block `block`, and a tail
 abbrev pub tally_with_all : AuditTally → ℕ → List (List ℕ) → ℕ → AuditTally
 tally_with_all tally block ss left = record {
   sectors = tally.sectors + length ss;
@@ -156,7 +157,7 @@ tally_with_all tally block ss left = record {
   tail = left;
 }
 
--- the future of an audit after the sectors of the tally
+-- the rest of an audit after the sectors of the tally
 abbrev pub audit_remaining : ℕ → AuditTally → Remaining AuditTally
 audit_remaining base tally = record {
   lines = λ ss. audit_lines (base + tally.sectors) ss;
@@ -164,7 +165,7 @@ audit_remaining base tally = record {
   tally = λ ss left. tally_with_all tally (base + tally.sectors) ss left;
 }
 
--- no count is above that of the sectors
+-- no count is above the number of sectors
 pub record IsTallyOf (tally : AuditTally) (count : ℕ) : Type 0 where
   pub sectors : tally.sectors ≡ count
   pub mode1 : tally.mode1 ≤ count

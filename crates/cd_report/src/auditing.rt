@@ -1,4 +1,4 @@
-//! The audit of an image: what is wrong with its Mode 1 sectors.
+//! Audits an image: finds defects and wrong addresses in its Mode 1 sectors.
 
 ghost use Rattle.std.specs.Prelude.{◌≡◌, ◌+◌, ◌<◌, ◌≤◌, ◌↔◌, [], true, IfOk, OnOk, length};
 ghost use Rattle.cd_report.specs.AuditText.{audit_end, audit_report};
@@ -17,22 +17,22 @@ use cd_read::Fault;
 use cd_sector::Sector;
 use cd_stream::{Sink, SinkFailed, Source, write_all};
 
-/// What an audit has counted.
+/// The counts of an audit.
 #[derive(Clone, Copy, Debug, PartialEq, Eq)]
 pub struct AuditTally {
-    /// Whole sectors.
+    /// Complete sectors.
     pub sectors: u32,
     /// Sectors of Mode 1.
     pub mode1: u32,
     /// Sectors of Mode 1 with a defect.
     pub damaged: u32,
-    /// Sectors of Mode 1 that have a line: a defect, or another address.
+    /// Sectors of Mode 1 that have a line: those with a defect or a wrong address.
     pub findings: u32,
-    /// Bytes after the last whole sector.
+    /// Bytes after the last complete sector.
     pub tail: u16,
 }
 
-/// The tally with one more sector, and what was found of it.
+/// Adds a sector and its findings to a tally.
 fn with_sector(tally: AuditTally, found: Option<Findings>) -> AuditTally
     requires sectors { tally.sectors < sector_limit }
     requires mode1 { tally.mode1 < sector_limit }
@@ -55,7 +55,7 @@ fn with_sector(tally: AuditTally, found: Option<Findings>) -> AuditTally
     }
 }
 
-/// `sectors S mode1 M damaged D tail T`: the last line of an audit.
+/// Formats `sectors S mode1 M damaged D tail T`, the last line of an audit.
 ///
 /// # Examples
 ///
@@ -142,14 +142,15 @@ impl Visitor for Auditor {
 }
 
 /// Writes a line for each Mode 1 sector whose address or content is wrong, and a last line with the
-/// numbers of sectors, of Mode 1 sectors, of damaged ones and of bytes after them.
+/// numbers of sectors, of Mode 1 sectors, of damaged sectors, and of bytes after the last sector.
 ///
-/// `base` is the number of the first block. It holds one sector at a time and takes no memory.
+/// `base` is the number of the first block. One sector is held at a time, and no memory is
+/// allocated.
 ///
 /// # Errors
 ///
-/// `Read` if the image has failed, `Write` if `out` has, `TooLong` if a byte was read
-/// after the millionth sector.
+/// `Read` if the image fails, `Write` if `out` fails, `TooLong` if a byte is read after the
+/// millionth sector.
 ///
 /// # Examples
 ///
@@ -165,11 +166,11 @@ pub fn audit<I: Source, O: Sink>(image: &mut I, base: u32, out: &mut O) -> Resul
     requires image_countable { CanCountFailure (I.seen image.old).failures }
     requires out_countable { CanCountFailure (O.seen out.old).failures }
 
-    // The whole of it, also what is left after a fault.
+    // The complete result, including what is left after an error.
     ensures report { Reports (audit_report base)
         (I.seen image.old) (I.seen image.new) (O.seen out.old) (O.seen out.new) result }
 
-    // What it says if nothing failed, and when each fault comes.
+    // The text if nothing failed, and when each error occurs.
     ensures text { IfOk result (WritesText (audit_report base)
         (I.seen image.old) (I.seen image.new) (O.seen out.old) (O.seen out.new)) }
     ensures ends_well { OnOk result (EndsWell

@@ -1,4 +1,4 @@
-//! What is found of one sector of an image, and its line.
+//! The findings of an audit in one sector of an image, and their line.
 
 ghost use Rattle.std.specs.Prelude.{◌≡◌, ◌+◌, ◌<◌, ◌≤◌, ◌++◌, Some, length};
 ghost use Rattle.cd_address.specs.Address.{address};
@@ -14,16 +14,16 @@ use cd_line::{LINE_SIZE, Line};
 use cd_sector::{DefectReport, Sector, SectorKind, defect, kind};
 use cd_stream::{Sink, SinkFailed, write_all};
 
-/// What is found of a Mode 1 sector (ECMA-130, 14 and Annex A).
+/// The findings of an audit in a Mode 1 sector (ECMA-130, 14 and Annex A).
 #[derive(Clone, Copy, Debug, PartialEq, Eq)]
 pub struct Findings {
-    /// The header's address is another than that of the block.
+    /// Whether the address in the header is not the address of the block.
     pub address: bool,
-    /// What is wrong with the sector.
+    /// The defects of the sector.
     pub defect: DefectReport,
 }
 
-/// What is found of the sector of a block; None if it is not of Mode 1.
+/// The findings in the sector of a block; `None` if the sector is not of Mode 1.
 #[tactic(auto, unfolding(crate::specs::AuditText::findings_of))]
 pub(crate) fn findings_of(sector: &Sector, block: u32) -> Option<Findings>
     ensures { result ≡ findings_of block sector.now }
@@ -37,7 +37,7 @@ pub(crate) fn findings_of(sector: &Sector, block: u32) -> Option<Findings>
     })
 }
 
-/// Proof step: `defect`, by the definition that the text of an audit is stated in.
+/// Proof step: `defect`, stated by the definition that the text of an audit uses.
 #[tactic(auto, unfolding(crate::specs::AuditText::report_of))]
 fn report_of(sector: &Sector) -> DefectReport
     ensures { result ≡ report_of sector.now }
@@ -45,8 +45,8 @@ fn report_of(sector: &Sector) -> DefectReport
     defect(sector)
 }
 
-/// Whether the header does not begin with the address of the block; a block without one is not
-/// compared (ECMA-130, 14).
+/// Whether a sector's address is wrong: its header does not begin with the address of the block. A
+/// block without an address is not compared (ECMA-130, 14).
 ///
 /// # Examples
 ///
@@ -71,7 +71,7 @@ pub(crate) fn is_damage(report: &DefectReport) -> bool
     report.zeros || report.edc || report.p != 0 || report.q != 0
 }
 
-/// Whether the sector has a line: another address, or any part that is wrong.
+/// Whether the sector has a line: for a wrong address, or for any part that is wrong.
 ///
 /// See the example of [`finding_line`].
 pub fn is_any(found: &Findings) -> bool
@@ -80,7 +80,7 @@ pub fn is_any(found: &Findings) -> bool
     found.address || is_damage(&found.defect)
 }
 
-/// Appends a name if that was found.
+/// Appends a name if `found`.
 fn push_name(line: &mut Line, found: bool, name: &[u8])
     requires { length line.old + length name.now ≤ LINE_SIZE }
     ensures name { line.new ≡ line.old ++ name_if found name.now }
@@ -103,8 +103,8 @@ fn push_count(line: &mut Line, name: &[u8], count: u8)
     }
 }
 
-/// `BLOCK [address] [zeros] [edc] [p=N] [q=N]`: the line of a sector of which something is found,
-/// as [`is_any`] says.
+/// Formats `BLOCK [address] [zeros] [edc] [p=N] [q=N]`, the line of a sector that has findings, as
+/// [`is_any`] tests.
 ///
 /// # Examples
 ///

@@ -1,5 +1,5 @@
-//! The two reports on an image of raw CD sectors: its listing, by kinds of sectors (ECMA-130, 14),
-//! and its audit, of what is wrong with Mode 1 sectors (ECMA-130, 14 and Annex A).
+//! The two reports on an image of raw CD sectors: a listing by kinds of sectors (ECMA-130, 14), and
+//! an audit that finds what is wrong with Mode 1 sectors (ECMA-130, 14 and Annex A).
 //!
 //! ```
 //! let mut space = [0; 64];
@@ -16,8 +16,9 @@
 //! | `BLOCK [address] [zeros] [edc] [p=N] [q=N]` | an audit: a Mode 1 sector with findings |
 //! | `sectors S mode1 M damaged D tail T` | an audit: the last line |
 //!
-//! The image's first block has a number from 0 to [`MAX_BASE`], the last block with an address; an
-//! image has at most a million sectors. A report holds one sector at a time, and takes no memory.
+//! The number of the image's first block is from 0 to [`MAX_BASE`], the last block with an address.
+//! An image has at most a million sectors. A report holds one sector at a time, and allocates no
+//! memory.
 //!
 //! Tests: `crates/cd_image_tests`.
 #![tactic(auto)]

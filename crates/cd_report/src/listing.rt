@@ -1,4 +1,4 @@
-//! The listing of an image: its runs of sectors of equal kind.
+//! Lists an image: its runs of sectors of the same kind.
 
 ghost use Rattle.std.specs.Prelude.{◌≡◌, ◌+◌, ◌-◌, ◌<◌, ◌≤◌, ◌↔◌, [], true, IfOk, IfSome, OnOk};
 ghost use Rattle.std.specs.Prelude.{length};
@@ -19,14 +19,14 @@ use cd_read::Fault;
 use cd_sector::{Sector, SectorKind, kind};
 use cd_stream::{Sink, SinkFailed, Source, write_all};
 
-/// What a listing has counted: whole sectors, and the bytes after them.
+/// The counts of a listing: complete sectors, and the bytes after them.
 #[derive(Clone, Copy, Debug, PartialEq, Eq)]
 pub struct ListTally {
     pub sectors: u32,
     pub tail: u16,
 }
 
-/// Neighbouring sectors of one kind, by block numbers, as far as they have been read.
+/// A run of neighbouring sectors of one kind, by block numbers, as far as it was read.
 #[derive(Clone, Copy)]
 pub(crate) struct OpenRun {
     first: u32,
@@ -49,7 +49,7 @@ fn name_of(kind: SectorKind) -> &'static [u8]
     }
 }
 
-/// `FIRST-LAST KIND`: the line of a run of sectors of one kind, by block numbers.
+/// Formats `FIRST-LAST KIND`, the line of a run of sectors of one kind, by block numbers.
 ///
 /// # Examples
 ///
@@ -74,8 +74,8 @@ pub fn run_line(first: u32, last: u32, kind: SectorKind) -> Line
     line
 }
 
-/// Writes the line of a run. Both blocks are below 2,000,000: a base of at most 449,849 and a
-/// million sectors.
+/// Writes the line of a run. Both block numbers are below 2,000,000, since the base is at most
+/// 449,849 and an image has at most a million sectors.
 fn send_run<O: Sink>(run: OpenRun, out: &mut O) -> Result<(), SinkFailed>
     requires countable { CanCountFailure (O.seen out.old).failures }
     requires ordered { run.first ≤ run.last }
@@ -85,9 +85,8 @@ fn send_run<O: Sink>(run: OpenRun, out: &mut O) -> Result<(), SinkFailed>
     write_all(out, run_line(run.first, run.last, run.kind).as_slice())
 }
 
-/// Extends the open run by the next sector, or writes its line and opens another. It changes the
-/// run where it stands, so a sector of the same kind costs one store. After an Err the run is as it
-/// was.
+/// Extends the open run by the next sector, or writes its line and opens a new run. It changes the
+/// run in place, so a sector of the same kind costs one store. After an `Err` the run is unchanged.
 fn extend_run<O: Sink>(
     run: &mut Option<OpenRun>,
     block: u32,
@@ -115,7 +114,7 @@ fn extend_run<O: Sink>(
     Ok(())
 }
 
-/// `sectors S tail T`: the last line of a listing.
+/// Formats `sectors S tail T`, the last line of a listing.
 ///
 /// # Examples
 ///
@@ -208,15 +207,16 @@ impl Visitor for Lister {
     }
 }
 
-/// Writes a line for each maximal run of neighbouring sectors of equal kind, and a last line with
-/// the numbers of sectors and of bytes after them.
+/// Writes a line for each maximal run of neighbouring sectors of the same kind, and a last line
+/// with the numbers of sectors and of bytes after the last sector.
 ///
-/// `base` is the number of the first block. It holds one sector at a time and takes no memory.
+/// `base` is the number of the first block. One sector is held at a time, and no memory is
+/// allocated.
 ///
 /// # Errors
 ///
-/// `Read` if the image has failed, `Write` if `out` has, `TooLong` if a byte was read
-/// after the millionth sector.
+/// `Read` if the image fails, `Write` if `out` fails, `TooLong` if a byte is read after the
+/// millionth sector.
 ///
 /// # Examples
 ///
@@ -232,11 +232,11 @@ pub fn list<I: Source, O: Sink>(image: &mut I, base: u32, out: &mut O) -> Result
     requires image_countable { CanCountFailure (I.seen image.old).failures }
     requires out_countable { CanCountFailure (O.seen out.old).failures }
 
-    // The whole of it, also what is left after a fault.
+    // The complete result, including what is left after an error.
     ensures report { Reports (list_report base)
         (I.seen image.old) (I.seen image.new) (O.seen out.old) (O.seen out.new) result }
 
-    // What it says if nothing failed, and when each fault comes.
+    // The text if nothing failed, and when each error occurs.
     ensures text { IfOk result (WritesText (list_report base)
         (I.seen image.old) (I.seen image.new) (O.seen out.old) (O.seen out.new)) }
     ensures ends_well { OnOk result (EndsWell

@@ -11,21 +11,21 @@ use cd_read::{Fault, read_sector};
 use cd_sector::Sector;
 use cd_stream::{Sink, SinkFailed, Source};
 
-/// A report in the making: what is written of an image while its sectors are read.
+/// A report that is written while the sectors of an image are read.
 pub(crate) trait Visitor {
     ghost use Rattle.std.specs.Prelude.{ℕ};
     ghost use Rattle.cd_report.specs.Scanning.{Remaining};
 
     type Tally;
 
-    // Of the report, what is still to be written after `count` sectors.
+    // The part of the report that is still to be written after `count` sectors.
     ghost remaining: { Self → ℕ → Remaining Self.Tally };
 
-    // It has visited this number of sectors.
+    // This number of sectors was visited.
     ghost has_visited: { Self → ℕ → Type 0 };
 
-    /// Visits one more sector, after `count` others, and writes the line that is due with it, if
-    /// any.
+    /// Visits the next sector, after `count` others, and writes the line that is now due, if there
+    /// is one.
     fn visit<O: Sink>(&mut self, count: u32, sector: &Sector, out: &mut O) -> Result<(), SinkFailed>
         requires countable { CanCountFailure (O.seen out.old).failures }
         requires at { has_visited self.old count }
@@ -36,7 +36,7 @@ pub(crate) trait Visitor {
         ensures flushes { (O.seen out.new).flushes ≡ (O.seen out.old).flushes }
         ensures count { Counts (O.seen out.old).failures (O.seen out.new).failures result };
 
-    /// Writes what is left of the report after `count` sectors and a tail, and finishes.
+    /// Writes the rest of the report after `count` sectors and a tail, and flushes `out`.
     fn close<O: Sink>(
         &mut self,
         count: u32,
@@ -53,7 +53,7 @@ pub(crate) trait Visitor {
         ensures count { Counts (O.seen out.old).failures (O.seen out.new).failures result };
 }
 
-/// Reads an image to its end, and writes the report of it to `out`.
+/// Reads an image to its end, and writes its report to `out`.
 pub(crate) fn scan<I: Source, T: Visitor, O: Sink>(
     image: &mut I,
     visitor: &mut T,

@@ -1,4 +1,4 @@
--- The patches that are left in a run.
+-- The remaining patches of a run.
 use Rattle.std.proofs.Common.{◌≡◌, ℕ, zero, suc, ◌+◌, ◌<◌, ◌≤◌, List, [], ◌∷◌, ◌++◌, length, take, drop, get_or, Option, None, Some, sym, ap, ◌∙◌, subst, arith, refl, take_all}
 use Rattle.std.specs.Prelude.{All, IfNone, IfSome}
 use Rattle.std.specs.List.{slice_get}
@@ -12,7 +12,7 @@ use Rattle.cd_patch.specs.Blocks.{blocks_met}
 use Rattle.cd_run.specs.Steps.{IsAhead, MayDecide, WantsMore}
 use Rattle.cd_run.specs.declared.run.Ahead.{Ahead}
 
--- the patch that is next stands before those after it
+-- the next patch comes before those after it
 pub next_first : (ps : List Patch) (d : ℕ) (p : Patch) → slice_get ps d ≡ Some p
     → drop d ps ≡ p ∷ drop (suc d) ps
 next_first ps d p is =
@@ -25,7 +25,7 @@ next_taken ps d p is =
     take-suc ps d p (slice_get_within ps d p is)
     ∙ ap (λ q. take d ps ++ q ∷ []) (get_or_from_slice_get ps d p p is)
 
--- it is one of them
+-- the next patch of a list of patches is a patch
 pub is_patch : (ps : List Patch) (d : ℕ) (p : Patch) → slice_get ps d ≡ Some p → All IsPatch ps
     → IsPatch p
 is_patch ps d p is each =
@@ -44,7 +44,7 @@ none_left ps d none = omega (arith, length-drop d ps, ap length none)
 pub all_taken : (ps : List Patch) (d : ℕ) → length ps ≤ d → (take d ps ≡ ps) × (drop d ps ≡ [])
 all_taken ps d all = (take_all d ps all, drop_all d ps all)
 
--- the first patch left
+-- the first remaining patch
 pub is_ahead : {R : Type 0} (now : R → Patch) (ps : List Patch) (d block : ℕ) (patch : Option R)
     (ahead : Option Ahead) → IfSome patch (λ r. slice_get ps d ≡ Some (now r))
     → IfNone patch (length ps ≤ d)
@@ -57,7 +57,7 @@ is_ahead now ps d block (Some r) ahead found missing some none =
     subst (IsAhead (drop d ps) block) (sym some.1)
     (now r, drop (suc d) ps, next_first ps d (now r) found, some.2, some.3)
 
--- the patch that is next can be decided
+-- the next patch can be decided
 pub decides_this : {left others : List Patch} {p : Patch} {held block sectors stage : ℕ}
     → left ≡ p ∷ others
     → (q : Patch) × (rest : List Patch) × (left ≡ q ∷ rest) × MayDecide q held block sectors stage
@@ -72,7 +72,7 @@ pub copies_none : {left : List Patch} {block held : ℕ} (count : ℕ) → held 
 copies_none count none some ahead =
     WantsMore.none_held none (λ k d inside. omega (arith, ahead k d inside))
 
--- blocks rise among those left
+-- the blocks of the remaining patches are in ascending order
 pub rising_left : (ps : List Patch) (d : ℕ) → IsNonDecreasingBy (λ p. p.block) ps
     → IsNonDecreasingBy (λ p. p.block) (drop d ps)
 rising_left ps d rising = λ i j e before inside.

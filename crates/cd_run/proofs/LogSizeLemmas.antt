@@ -1,4 +1,4 @@
--- A log, line by line, has only so many bytes.
+-- The largest number of bytes of a log, line by line.
 use Rattle.std.proofs.Common.{◌≡◌, ℕ, zero, suc, ◌+◌, ◌*◌, ◌^◌, ◌<◌, ◌≤◌, ◌==◌, Bool, true, false, cond, List, [], ◌∷◌, ◌++◌, length, length-append, Option, Some, None, sym, ap, subst, arith, lit<}
 use Rattle.std.specs.Prelude.{All, IfSome, codes, count_by, decimal, drop, not, unwrap_or, ◌&&◌}
 use Rattle.std.proofs.lemmas.Fmt.{length-decimal-le}
@@ -118,7 +118,7 @@ ten n h = length-decimal-le 10 n (lit< tt) (omega arith) (omega arith)
 five : (n : ℕ) → n < 2 ^ 16 → length (decimal n) ≤ 5
 five n h = length-decimal-le 5 n (lit< tt) (omega arith) (omega arith)
 
--- what a line says of an outcome
+-- the text for an outcome in its line
 text-short : (o : Outcome) → HasShortNumbers o → length (outcome_text o) ≤ 58
 unfolding outcome_text
 text-short Applied h = omega arith

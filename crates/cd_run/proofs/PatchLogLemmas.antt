@@ -1,4 +1,4 @@
--- The log of patches in two parts, and how far one sink has come when the other fails.
+-- The log of patches in two parts, and how far one sink has got when the other fails.
 use Rattle.std.proofs.Common.{◌≡◌, ℕ, ◌+◌, ◌-◌, ◌*◌, ◌/◌, ◌<◌, ◌≤◌, ◌⊎◌, inl, inr, Bool, true, false, not, List, [], ◌∷◌, ◌++◌, length, map, refl, sym, ap, ◌∙◌, arith, append_assoc, length-append, subst}
 use Rattle.std.specs.Prelude.{All, cond}
 use Rattle.std.proofs.lemmas.Bool.{cases_lt, cond-true, cond-false, lt-ltb, le-ltb}
@@ -48,7 +48,7 @@ lines_below-cut block (p ∷ ps) qs (o ∷ os) us same below after =
     (All-tail (λ q. q.block < block) p ps below) after))
 
 module _ (ps : List Patch) (os : List Outcome) (base count sent : ℕ) where
-  -- within a whole sector
+  -- within a complete sector
   pub log_when_out_fails-sector : (number : ℕ) → sent / SECTOR_SIZE ≡ number
       → sent < SECTOR_SIZE * (count / SECTOR_SIZE)
       → log_when_out_fails ps os base count sent ≡ lines_below (base + number + 1) ps os
@@ -64,7 +64,7 @@ module _ (ps : List Patch) (os : List Outcome) (base count sent : ℕ) where
   log_when_out_fails-tail number all after inside =
       rw (le-ltb sent (SECTOR_SIZE * (count / SECTOR_SIZE)) after, lt-ltb sent count inside, all)
 
-  -- after all
+  -- after all bytes
   pub log_when_out_fails-end : sent ≡ count
       → log_when_out_fails ps os base count sent ≡ log_text ps os
   unfolding log_when_out_fails
@@ -72,10 +72,10 @@ module _ (ps : List Patch) (os : List Outcome) (base count sent : ℕ) where
       rw (le-ltb sent (SECTOR_SIZE * (count / SECTOR_SIZE)) (omega arith))
       (rw (le-ltb sent count (omega arith)))
 
--- ---- when the image goes on after its largest size
+-- ---- when the image continues past its largest size
 
 module _ (end : ℕ) where
-  -- the patches that do not reach past the end lead
+  -- the patches that do not reach past the end come first
   pub lines_within-cut : (ps qs : List Patch) (os us : List Outcome) → length os ≡ length ps
       → All (λ p. p.block + blocks_met p ≤ end) ps → lines_within end qs us ≡ []
       → lines_within end (ps ++ qs) (os ++ us) ≡ log_lines ps os
@@ -123,7 +123,7 @@ module _ (end : ℕ) where
       ends_at after (inl same) = omega (arith, same, after, low)
       ends_at after (inr other) = sym other.0
 
-  -- a sector is wanted after the last
+  -- a sector has to be read after the last possible one
   pub lines_within-none : (left : List Patch) (us : List Outcome) (block count : ℕ)
       → block + count ≡ end → WantsMore left block count → lines_within end left us ≡ []
   lines_within-none [] us block count last wants = refl

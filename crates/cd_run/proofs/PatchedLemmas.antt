@@ -1,4 +1,4 @@
--- What patches make of an image.
+-- The effect of patches on an image.
 use Rattle.std.proofs.Common.{◌≡◌, ◌≢◌, ℕ, ◌*◌, ◌/◌, ◌≤◌, zero, suc, Bool, true, List, [], ◌∷◌, ◌++◌, length, take, drop, sym, ap, ◌∙◌, subst, arith}
 use Rattle.std.specs.Prelude.{All}
 use Rattle.std.specs.Simd.{first_chunks}
@@ -69,7 +69,7 @@ IsPatched-exists carry patches base image each bytes =
 
 -- ---- damage carried
 
--- no outcome of a run that carries damage is a refusal for it
+-- in a run that carries damage, no patch is refused for damage
 never_refused : (ps : List Patch) (os : List Outcome) (base : ℕ) (old last : List (List ℕ))
     → PatchSequence true ps os base old last → All (λ o. (block : ℕ) → o ≢ Damaged block) os
 never_refused [] [] base old last h = All-nil (λ o. (block : ℕ) → o ≢ Damaged block)

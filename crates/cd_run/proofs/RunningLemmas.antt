@@ -28,9 +28,9 @@ use Rattle.cd_run.specs.PatchLog.{counts_line, log_lines, log_text, refused_coun
 use Rattle.cd_run.specs.Running.{Reached, closed_at, tail_at}
 use Rattle.cd_run.specs.Steps.{MayDecide}
 
--- ---- what is next
+-- ---- the next step
 
--- blocks rise from the first patch on
+-- the blocks are in ascending order from the first patch on
 pub rises_from : (left others : List Patch) (p : Patch) → left ≡ p ∷ others
     → IsNonDecreasingBy (λ q. q.block) left → All (λ q. p.block ≤ q.block) left
 rises_from left others p is rising = λ k d inside.
@@ -59,7 +59,7 @@ module _ {carry : Bool} {taken left : List Patch} {base : ℕ} {seen done window
     {outcomes : List Outcome} {block sectors applied : ℕ}
     (ahead : All (λ p. block ≤ p.block) left)
     (g : Reached carry taken left base seen done window outcomes block sectors applied None false) where
-  -- a sector has come
+  -- a sector was read
   pub Reached-sector : (came : List ℕ) → length came ≡ SECTOR_SIZE → length window < block_limit
       → sectors < sector_limit
       → Reached carry taken left base (seen ++ came ∷ []) done (window ++ came ∷ []) outcomes block
@@ -76,7 +76,7 @@ module _ {carry : Bool} {taken left : List Patch} {base : ℕ} {seen done window
     closes = λ never. cc;
   }
 
-  -- less than a sector has come, and nothing is left
+  -- less than a sector was read, and nothing is left
   pub Reached-end : (came : List ℕ) → length came < SECTOR_SIZE → length window < block_limit
       → SECTOR_SIZE * sectors + length came ≤ image_limit
       → Reached carry taken left base seen done window outcomes block sectors applied (Some came)
@@ -92,7 +92,7 @@ module _ {carry : Bool} {taken left : List Patch} {base : ℕ} {seen done window
     closes = λ never. cc;
   }
 
--- sectors that no patch meets have come and gone out
+-- sectors that no patch meets were read and sent
 pub Reached-copied : {carry : Bool} {taken left : List Patch} {base : ℕ}
     {seen done : List (List ℕ)} {outcomes : List Outcome} {block sectors applied : ℕ}
     (count : ℕ) (more : List (List ℕ))
@@ -112,7 +112,7 @@ Reached-copied {seen = seen} {done = done} count more g ahead sized size few = r
   closes = λ never. cc;
 }
 
--- the first sector in hand has gone out, with no patch left that begins there
+-- the first sector in hand was sent, and no remaining patch begins there
 pub Reached-sent : {carry : Bool} {taken left : List Patch} {base : ℕ}
     {seen done window : List (List ℕ)} {sector : List ℕ} {outcomes : List Outcome}
     {block sectors applied : ℕ} {tail : Option (List ℕ)}
@@ -132,7 +132,7 @@ Reached-sent {done = done} {sector = sector} g size ahead = record {
   closes = λ never. cc;
 }
 
--- the tail has gone out
+-- the tail was sent
 pub Reached-closed : {carry : Bool} {taken left : List Patch} {base : ℕ}
     {seen done : List (List ℕ)} {outcomes : List Outcome}
     {block sectors applied : ℕ} {bytes : List ℕ}
@@ -159,7 +159,7 @@ pub none_of : (l : List (List ℕ)) → length l ≡ 0 → l ≡ []
 none_of [] none = refl
 none_of (x ∷ xs) none = absurd (omega arith)
 
--- why a patch can be decided, by lists
+-- why a patch can be decided, in terms of lists
 pub data Decidable (p : Patch) (window : List (List ℕ)) (block sectors : ℕ)
     (tail : Option (List ℕ)) (closed : Bool) : Type 0 where
   at_front : p.block ≡ block → 0 < length window → closed ≡ false
@@ -181,7 +181,7 @@ module _ {carry : Bool} {taken : List Patch} {p : Patch} {left : List Patch} {ba
   lengths : length outcomes ≡ length taken
   lengths = PatchSequence-lengths _ _ _ _ _ _ (g.run [] (λ some. refl))
 
-  -- one patch more, by its outcome and effect on the whole
+  -- one more patch, by its outcome and its effect on all sectors
   run_more : (more : List (List ℕ)) → (IsSome tail → more ≡ [])
       → o ≡ outcome carry (done ++ (window ++ more)) base p
       → Effect carry base p (done ++ (window ++ more)) (done ++ (window' ++ more))
@@ -192,7 +192,7 @@ module _ {carry : Bool} {taken : List Patch} {p : Patch} {left : List Patch} {ba
       (done ++ (window ++ more)) (done ++ (window' ++ more)) (g.run more unended)
       (record { decided = is; next = done ++ (window' ++ more); effect = makes; others = refl })
 
-  -- what is missing at the front block and in the whole
+  -- a patch whose first block is missing, both at the front block and among all sectors
   missing : (more : List (List ℕ)) → (IsSome tail → more ≡ [])
       → (p.block < block) ⊎ (block + length window ≤ p.block)
       → (p.block < base) ⊎ (base + length (done ++ (window ++ more)) ≤ p.block)
@@ -279,9 +279,9 @@ module _ {carry : Bool} {taken : List Patch} {p : Patch} {left : List Patch} {ba
       none_left : window' ≡ []
       none_left = none_of window' (same_length ∙ ap length closes.0)
 
--- ---- the same of the places of a state
+-- ---- the same for the places of a state
 
--- the first place, of as many as are in hand
+-- the first place, if a sector is in hand
 pub first_place : (places : List (List ℕ)) (held : ℕ) → 0 < held → held ≤ length places
     → take held places ≡ slice_index_or places 0 [] ∷ drop 1 (take held places)
 first_place [] held some within = absurd (omega arith)
@@ -295,13 +295,13 @@ pub first_sized : (places : List (List ℕ)) (d : List ℕ) → 0 < length place
 first_sized [] d some size = absurd (omega arith)
 first_sized (x ∷ xs) d some size = size
 
--- it is the same by any other default
+-- the first place is the same with any other default
 pub first_is : (places : List (List ℕ)) (d x : List ℕ) → 0 < length places
     → x ≡ slice_index_or places 0 d → x ≡ slice_index_or places 0 []
 first_is [] d x some is = absurd (omega arith)
 first_is (y ∷ ys) d x some is = is
 
--- the place after those in hand is there if it has a sector
+-- the place after the sectors in hand exists if it has a sector
 pub place_within : (places : List (List ℕ)) (held : ℕ)
     → length (slice_index_or places held []) ≡ SECTOR_SIZE → held < length places
 place_within [] zero size = absurd (omega (arith, size))
@@ -309,7 +309,7 @@ place_within [] (suc held) size = absurd (omega (arith, size))
 place_within (x ∷ xs) zero size = omega arith
 place_within (x ∷ xs) (suc held) size = omega (arith, place_within xs held size)
 
--- one sector more
+-- one more sector
 pub one_place_more : (places : List (List ℕ)) (held : ℕ)
     → length (slice_index_or places held []) ≡ SECTOR_SIZE
     → take (held + 1) places ≡ take held places ++ slice_index_or places held [] ∷ []
@@ -339,7 +339,7 @@ module _ {carry : Bool} {taken left : List Patch} {base : ℕ} {seen done : List
       (Reached-sent (rw (first_place places held (omega arith) within) at g) size ahead)
   Holds-sent (suc (suc stage)) low same g = absurd (omega arith)
 
--- if no tail is in hand, more may come
+-- if no tail is in hand, the image has not ended
 pub none_open : (stage : ℕ) (bytes : List ℕ) → tail_at stage bytes ≡ None → stage ≡ 0
 none_open zero bytes none = refl
 none_open (suc stage) bytes none = never_some (Some bytes) none refl
@@ -348,13 +348,13 @@ pub tail_none : (stage : ℕ) (bytes : List ℕ) → stage ≡ 0 → tail_at sta
 tail_none zero bytes is = refl
 tail_none (suc stage) bytes is = absurd (omega arith)
 
--- until the tail has gone out
+-- until the tail was sent, the run is not closed
 pub unclosed_at : (stage : ℕ) → stage ≤ 1 → closed_at stage ≡ false
 unclosed_at zero low = refl
 unclosed_at (suc zero) low = refl
 unclosed_at (suc (suc stage)) low = absurd (omega arith)
 
--- the tail has moved with what stands before it
+-- the tail was moved together with the sectors before it
 pub tail_moved : (places places' : List (List ℕ)) (held held' tail stage : ℕ)
     → (0 < stage → slice_index_or places' held' [] ≡ slice_index_or places held [])
     → tail_at stage (take tail (slice_index_or places' held' []))
@@ -369,7 +369,7 @@ pub decided_missing : (carry : Bool) (p : Patch) (places : List (List ℕ)) (hel
 decided_missing carry p places held none =
     rw none (outcome-missing carry [] p.block p (inr (omega arith)))
 
--- why a patch can be decided, by lists
+-- why a patch can be decided, in terms of lists
 pub decidable : (p : Patch) (places : List (List ℕ)) (held block sectors stage : ℕ) (bytes : List ℕ)
     → held ≤ length places → MayDecide p held block sectors stage
     → Decidable p (take held places) block sectors (tail_at stage bytes) (closed_at stage)

@@ -1,4 +1,4 @@
--- The steps of a run in bytes: for those who move the bytes themselves.
+-- The steps of a run in terms of bytes, for callers that read and write the bytes themselves.
 use Rattle.std.proofs.Common.{◌≡◌, ℕ, zero, suc, ◌+◌, ◌-◌, ◌<◌, ◌≤◌, Bool, true, false, ◌⊎◌, inl, inr, List, [], ◌∷◌, ◌++◌, length, take, drop, Option, None, Some, refl, sym, ap, ◌∙◌, arith, append-nil, add-one}
 use Rattle.std.specs.Prelude.{All}
 use Rattle.std.specs.List.{slice_get}
@@ -18,12 +18,12 @@ use Rattle.cd_run.proofs.LeftLemmas.{all_taken, next_taken}
 use Rattle.cd_run.proofs.PatchLogLemmas.{log_lines-append}
 use Rattle.cd_run.proofs.RunningLemmas.{Reached-ends, Reached-start, none_open}
 
--- what has gone out, before the tail has
+-- the bytes sent, before the tail was sent
 pub sent_open : (done : List (List ℕ)) (tail : Option (List ℕ)) (closed : Bool) → closed ≡ false
     → sent_bytes done tail closed ≡ bytes_of done
 sent_open done tail closed unclosed = rw unclosed refl
 
--- what has come, before the end
+-- the bytes read, before the end of the image
 read_open : {read : List ℕ} (seen : List (List ℕ)) (tail : Option (List ℕ))
     → read ≡ bytes_of seen ++ tail_bytes tail → tail ≡ None → read ≡ bytes_of seen
 read_open seen tail is none =
@@ -39,7 +39,7 @@ module _ {carry : Bool} {patches : List Patch} {base : ℕ} {read sent log_bytes
     (h : Underway carry patches base read sent log_bytes old hand) (new : PatchRun)
     (hand' : List (List ℕ))
     (sound : IsRun new) (decided : new.decided ≡ old.decided) where
-  -- a sector has come
+  -- a sector was read
   pub Underway-sector : (came : List ℕ) → tail_of old hand ≡ None → tail_of new hand' ≡ None
       → closed_at old.stage ≡ false → closed_at new.stage ≡ false
       → Holds carry (take old.decided patches) (drop old.decided patches) base
@@ -84,7 +84,7 @@ module _ {carry : Bool} {patches : List Patch} {base : ℕ} {read sent log_bytes
     logged = rw decided h.logged;
   }
 
-  -- sectors have come and gone out
+  -- sectors were read and sent
   pub Underway-copied : (more : List (List ℕ)) → tail_of old hand ≡ None → tail_of new hand' ≡ None
       → closed_at old.stage ≡ false → closed_at new.stage ≡ false
       → Holds carry (take old.decided patches) (drop old.decided patches) base
@@ -109,7 +109,7 @@ module _ {carry : Bool} {patches : List Patch} {base : ℕ} {read sent log_bytes
     logged = rw decided h.logged;
   }
 
-  -- a sector has gone out
+  -- a sector was sent
   pub Underway-sent : (sector : List ℕ) → tail_of new hand' ≡ tail_of old hand
       → closed_at old.stage ≡ false → closed_at new.stage ≡ false
       → Holds carry (take old.decided patches) (drop old.decided patches) base
@@ -131,7 +131,7 @@ module _ {carry : Bool} {patches : List Patch} {base : ℕ} {read sent log_bytes
     logged = rw decided h.logged;
   }
 
-  -- the tail has gone out
+  -- the tail was sent
   pub Underway-closed : (bytes : List ℕ) → tail_of old hand ≡ Some bytes → tail_of new hand' ≡ tail_of old hand
       → closed_at old.stage ≡ false → closed_at new.stage ≡ true
       → Holds carry (take old.decided patches) (drop old.decided patches) base
@@ -203,7 +203,7 @@ Underway-start carry patches base run hand sound block held sectors decided appl
   logged = rw decided refl;
 }
 
--- all was done
+-- the run is complete
 pub Underway-ends : {carry : Bool} {patches : List Patch} {base : ℕ}
     {read sent log_bytes : List ℕ} {run : PatchRun} {hand : List (List ℕ)} (bytes : List ℕ)
     → Underway carry patches base read sent log_bytes run hand → length patches ≤ run.decided
@@ -230,7 +230,7 @@ Underway-ends {patches = patches} {run = run} {hand = hand} bytes h all empty cl
           ∙ sym ends.log;
     }
 
--- nothing has come, or no patch left begins before the front block
+-- nothing was read, or no remaining patch begins before the front block
 pub Underway-begun : {carry : Bool} {patches : List Patch} {base : ℕ}
     {read sent log_bytes : List ℕ} {run : PatchRun} {hand : List (List ℕ)}
     → Underway carry patches base read sent log_bytes run hand
@@ -244,7 +244,7 @@ pub tail_some : (stage : ℕ) (bytes : List ℕ) → 0 < stage → tail_at stage
 tail_some zero bytes some = absurd (omega arith)
 tail_some (suc stage) bytes some = refl
 
--- the patch that is next among all
+-- the next patch among all patches
 pub first_left : (ps : List Patch) (d : ℕ) (p : Patch) (others : List Patch)
     → drop d ps ≡ p ∷ others
     → (slice_get ps d ≡ Some p) × (d < length ps) × (others ≡ drop (suc d) ps)

@@ -1,4 +1,4 @@
--- How long a log is at most; the law is a contract of `laws.rt`.
+-- The largest size of a log. The law is the contract of a function in `laws.rt`.
 use Rattle.std.specs.Prelude.{◌≡◌, ℕ, ◌+◌, ◌*◌, ◌≤◌, Bool, List, length, Ok}
 use Rattle.cd_script.specs.Limits.{text_limit}
 use Rattle.cd_script.specs.Order.{order}

@@ -1,4 +1,4 @@
--- The lines of a run that does not come to its end.
+-- The messages of a run that ends early.
 use Rattle.std.specs.Prelude.{ℕ, List, ◌++◌, codes, decimal}
 use Rattle.cd_script.specs.FaultNumbers.{line_of}
 use Rattle.cd_script.specs.FaultTexts.{fault_text}
@@ -26,7 +26,7 @@ unfoldable pub numbered_line : ℕ → List ℕ → List ℕ
 numbered_line number text =
     codes "script line " ++ decimal number ++ codes ": " ++ text ++ codes "\n"
 
--- the line of a script's fault
+-- the line for an error in a script
 unfoldable pub script_fault_line : ScriptFault → List ℕ
 script_fault_line script_fault.NoMemory = codes "script: no memory\n"
 script_fault_line fault = numbered_line (line_of fault) (fault_text fault)

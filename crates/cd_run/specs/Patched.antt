@@ -1,4 +1,4 @@
--- What patches make of an image: a run over its sectors; the tail stays.
+-- The effect of patches on an image: a run over its sectors; the tail is unchanged.
 use Rattle.std.specs.Prelude.{◌≡◌, ◌≢◌, ℕ, Bool, true, List, All}
 use Rattle.cd_code.specs.Field.{AreBytes}
 use Rattle.cd_script.specs.Patch.{IsPatch}
@@ -9,20 +9,20 @@ use Rattle.cd_patch.specs.declared.outcome.Outcome.{Outcome}
 use Rattle.cd_patch.specs.declared.outcome.Outcome.TheVariants.{Damaged}
 use Rattle.cd_sector.specs.Image.{sectors, tail}
 
--- taken in order on an image whose first block is `base`, with damage carried or not, the patches
+-- applied in order to an image whose first block is `base`, with damage carried or not, the patches
 -- have these outcomes and leave the image `last`
 pub record IsPatched (carry : Bool) (patches : List Patch) (outcomes : List Outcome) (base : ℕ)
     (image last : List ℕ) : Type 0 where
   pub run : PatchSequence carry patches outcomes base (sectors image) (sectors last)
   pub same_tail : tail last ≡ tail image
 
--- this holds of each way to patch the image: of which there is just one
+-- `Holds` is true of each way to patch the image; there is exactly one
 abbrev pub EachPatching : Bool → List Patch → ℕ → List ℕ → (List Outcome → List ℕ → Type 0) → Type 0
 EachPatching carry patches base image Holds =
     (outcomes : List Outcome) (last : List ℕ) → IsPatched carry patches outcomes base image last
     → Holds outcomes last
 
--- the outcomes and the last image follow from the patches and the image
+-- the patches and the image determine the outcomes and the patched image
 abbrev pub PatchedIsDetermined : Type 0
 PatchedIsDetermined =
     (carry : Bool) (patches : List Patch) (os os' : List Outcome) (base : ℕ)
@@ -30,7 +30,7 @@ PatchedIsDetermined =
     → IsPatched carry patches os base image last → IsPatched carry patches os' base image last'
     → (os ≡ os') × (last ≡ last')
 
--- each list of patches can be taken on each image
+-- each list of patches can be applied to each image
 abbrev pub PatchedExists : Type 0
 PatchedExists =
     (carry : Bool) (patches : List Patch) (base : ℕ) (image : List ℕ) → All IsPatch patches
@@ -39,10 +39,10 @@ PatchedExists =
 
 -- ---- damage carried
 
--- no patch is refused for damage. A sector that no accepted patch meets is the old one; each other
--- one has the header and the user bytes that the accepted patches leave in order, and the sync
--- field and the defect of the old one, part by part, or is consistent if a patch has rebuilt it.
--- The tail stays
+-- no patch is refused for damage. A sector that no accepted patch meets is unchanged. Every other
+-- sector has the header and the user bytes that the accepted patches leave in order. It has the
+-- sync field and the defect of the old sector, part by part, or is consistent if a patch has
+-- rebuilt it. The tail is unchanged
 pub record CarriesDamage (patches : List Patch) (outcomes : List Outcome) (base : ℕ)
     (image last : List ℕ) : Type 0 where
   pub unrefused : All (λ o. (block : ℕ) → o ≢ Damaged block) outcomes

@@ -1,4 +1,4 @@
--- How far a run of patches over an image has come, whoever reads and writes.
+-- The progress of a run of patches over an image, whoever reads and writes.
 use Rattle.std.specs.Prelude.{◌≡◌, ℕ, zero, suc, ◌+◌, ◌*◌, ◌<◌, ◌≤◌, ◌⊎◌, ◌++◌, Bool, true, false, List, [], All}
 use Rattle.std.specs.Prelude.{length, take, Option, None, Some, IsSome}
 use Rattle.std.specs.List.{slice_index_or}
@@ -17,13 +17,13 @@ abbrev pub tail_bytes : Option (List ℕ) → List ℕ
 tail_bytes None = []
 tail_bytes (Some bytes) = bytes
 
--- what went out: sectors, and the tail once it was sent
+-- the bytes sent: the sectors, and the tail once it was sent
 abbrev pub sent_bytes : List (List ℕ) → Option (List ℕ) → Bool → List ℕ
 sent_bytes done tail false = bytes_of done
 sent_bytes done tail true = bytes_of done ++ tail_bytes tail
 
--- the numbers of a run: the image is not too long, and no more is in hand than may be; and the block
--- and the counts that the run has reached
+-- the numbers of a run: the image is not too long, no more bytes are in hand than may be, and the
+-- block and the counts are those that the run has reached
 pub record RunCounts (base : ℕ) (seen done window : List (List ℕ)) (outcomes : List Outcome)
     (block sectors applied : ℕ) (tail : Option (List ℕ)) : Type 0 where
   pub short : length (tail_bytes tail) < SECTOR_SIZE
@@ -34,50 +34,51 @@ pub record RunCounts (base : ℕ) (seen done window : List (List ℕ)) (outcomes
   pub held : length done + length window ≡ length seen
   pub counted : applied ≡ applied_count outcomes
 
--- the sectors `seen` have come and `done` have gone out; `window` and `tail` are in hand, and the
--- tail has gone out if `closed`. The patches `taken` have these outcomes, and `left` are left;
--- `block` is the first block that has not gone out, `sectors` have come, and `applied` patches were
--- accepted
+-- the sectors `seen` were read and `done` were sent; `window` and `tail` are in hand, and the tail
+-- was sent if `closed`. The patches `taken` have these outcomes, and the patches `left` remain.
+-- `block` is the first block that was not sent, `sectors` is the number of sectors read, and
+-- `applied` the number of patches accepted
 pub record Reached (carry : Bool) (taken left : List Patch) (base : ℕ)
     (seen done window : List (List ℕ)) (outcomes : List Outcome) (block sectors applied : ℕ)
     (tail : Option (List ℕ)) (closed : Bool) : Type 0 where
   pub seen_sizes : All (λ sector. length sector ≡ SECTOR_SIZE) seen
   pub done_sizes : All (λ sector. length sector ≡ SECTOR_SIZE) done
   pub counts : RunCounts base seen done window outcomes block sectors applied tail
-  -- the patches taken lead, whatever sectors may still come, from those that came to those that went
-  -- out and those in hand
+  -- whatever sectors may still follow, the decided patches turn the sectors read into those sent
+  -- and those in hand
   pub run : (more : List (List ℕ)) → (IsSome tail → more ≡ [])
       → PatchSequence carry taken outcomes base (seen ++ more) (done ++ (window ++ more))
-  -- until the tail has gone out, those taken begin at sectors that came, or below the first
+  -- until the tail was sent, the decided patches begin at sectors that were read, or before the
+  -- first
   pub due : closed ≡ false → All (λ p. (p.block ≤ block) × (p.block < base + sectors)) taken
-  -- those left do not begin before the front block, once something has come
+  -- once something was read, the remaining patches do not begin before the front block
   pub ahead : ((sectors ≡ 0) × (tail ≡ None)) ⊎ All (λ p. block ≤ p.block) left
-  -- while more may come, all that those taken meet may be there
+  -- until the image has ended, the decided patches meet only blocks that an image may have
   pub reached : tail ≡ None → All (λ p. p.block + blocks_met p ≤ base + sector_limit) taken
   pub closes : closed ≡ true → (window ≡ []) × IsSome tail
 
 -- ---- the state of a run
 
--- the tail that stands in a place, if the image has ended
+-- the tail in a place, if the image has ended
 abbrev pub tail_at : ℕ → List ℕ → Option (List ℕ)
 tail_at zero bytes = None
 tail_at (suc n) bytes = Some bytes
 
--- whether the tail has gone out
+-- whether the tail was sent
 abbrev pub closed_at : ℕ → Bool
 closed_at zero = false
 closed_at (suc zero) = false
 closed_at (suc (suc n)) = true
 
--- the sectors in hand: the first in the memory that is lent
+-- the sectors in hand, at the front of the memory that is lent
 abbrev pub window_of : PatchRun → List (List ℕ) → List (List ℕ)
 window_of run hand = take run.held hand
 
--- the tail, in the place after them
+-- the tail, in the place after the sectors in hand
 abbrev pub tail_of : PatchRun → List (List ℕ) → Option (List ℕ)
 tail_of run hand = tail_at run.stage (take run.tail (slice_index_or hand run.held []))
 
--- the numbers of a state are those of a run
+-- the fields have values that a run may have
 pub record IsRun (run : PatchRun) : Type 0 where
   pub held : run.held ≤ block_limit
   pub stage : run.stage ≤ 2
@@ -86,7 +87,7 @@ pub record IsRun (run : PatchRun) : Type 0 where
   pub closed : (run.stage ≤ 1) ⊎ (run.held ≡ 0)
   pub sectors : run.sectors ≤ sector_limit
 
--- `Reached`, with the values of a state and the sectors in hand
+-- `Reached`, for the fields of a run and the sectors in hand
 abbrev pub Holds : Bool → List Patch → List Patch → ℕ → List (List ℕ) → List (List ℕ)
     → List Outcome → PatchRun → List (List ℕ) → Type 0
 Holds carry taken left base seen done outcomes run hand =

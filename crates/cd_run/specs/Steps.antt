@@ -1,4 +1,4 @@
--- What is next in a run of patches.
+-- The next step in a run of patches.
 use Rattle.std.specs.Prelude.{◌≡◌, ℕ, ◌+◌, ◌<◌, ◌≤◌, ◌⊎◌, List, [], ◌∷◌, All, Option, None, Some}
 use Rattle.cd_script.specs.PatchForm.{Patch}
 use Rattle.cd_patch.specs.Blocks.{block_limit, blocks_met}
@@ -8,31 +8,32 @@ use Rattle.cd_run.specs.declared.run.PatchRun.{PatchRun}
 use Rattle.cd_run.specs.declared.run.Step.{Step}
 use Rattle.cd_run.specs.declared.run.Step.TheVariants.{Copy, Read, Decide, Send, SendTail, End}
 
--- why a sector is read with `count` of them in hand from a block on: there is none, and no patch left
--- begins there; or the first patch left does, and meets more
+-- why a sector is read while `count` sectors from a block on are in hand: none is in hand, and no
+-- remaining patch begins at or before the block; or the first remaining patch begins at the block
+-- and meets more blocks than `count`
 pub data WantsMore (left : List Patch) (block count : ℕ) : Type 0 where
   none_held : count ≡ 0 → All (λ p. block < p.block) left → WantsMore left block count
   patch_meets : (p : Patch) (others : List Patch) → left ≡ p ∷ others → p.block ≡ block
       → count < blocks_met p → WantsMore left block count
 
--- why a patch can be decided: it begins at the first sector in hand, and all that it meets is in
--- hand or the image has ended; or it begins below the image, before the first read; or the tail has
--- gone out
+-- why a patch can be decided: it begins at the first sector in hand, and all sectors that it meets
+-- are in hand or the image has ended; or it begins before the image, and nothing was read yet; or
+-- the tail was sent
 pub data MayDecide (p : Patch) (held block sectors stage : ℕ) : Type 0 where
   at_front : p.block ≡ block → 0 < held → stage ≤ 1 → (blocks_met p ≤ held) ⊎ (0 < stage)
       → MayDecide p held block sectors stage
   under_base : p.block < block → sectors ≡ 0 → stage ≡ 0 → MayDecide p held block sectors stage
   past_tail : stage ≡ 2 → block ≤ p.block → MayDecide p held block sectors stage
 
--- the first of the patches left, if there is one. How many blocks it meets counts only if it begins
--- at the front block
+-- the first remaining patch, if there is one. The number of blocks that it meets has to be right
+-- only if it begins at the front block
 abbrev pub IsAhead : List Patch → ℕ → Option Ahead → Type 0
 IsAhead left block None = left ≡ []
 IsAhead left block (Some ahead) =
     (p : Patch) × (others : List Patch) × (left ≡ p ∷ others) × (p.block ≡ ahead.block)
     × (p.block ≡ block → blocks_met p ≡ ahead.blocks_met)
 
--- what a step finds in the state, by its kind
+-- the state of the run in which a step of each kind is due
 abbrev pub IsReady : PatchRun → Step → Type 0
 IsReady run (Copy count) =
     (run.held ≡ 0) × (run.stage ≡ 0) × (0 < count) × (run.sectors + count ≤ sector_limit)
@@ -42,7 +43,7 @@ IsReady run Send = 0 < run.held
 IsReady run SendTail = (run.held ≡ 0) × (run.stage ≡ 1)
 IsReady run End = (run.held ≡ 0) × (run.stage ≡ 2)
 
--- what it finds in the patches left
+-- the remaining patches with which a step of each kind is due
 abbrev pub IsNext : List Patch → PatchRun → Step → Type 0
 IsNext left run (Copy count) = All (λ p. run.block + count ≤ p.block) left
 IsNext left run Read = WantsMore left run.block run.held × All (λ p. run.block ≤ p.block) left

@@ -1,4 +1,4 @@
--- A run of patches in bytes, for those who move the bytes themselves.
+-- A run of patches in terms of bytes, for callers that read and write the bytes themselves.
 use Rattle.std.specs.Prelude.{◌≡◌, ℕ, ◌≤◌, ◌++◌, Bool, List, length, take, drop}
 use Rattle.cd_script.specs.PatchForm.{Patch}
 use Rattle.cd_sector.specs.Image.{bytes_of}
@@ -8,8 +8,8 @@ use Rattle.cd_run.specs.Patched.{IsPatched}
 use Rattle.cd_run.specs.Running.{Holds, IsRun, closed_at, sent_bytes, tail_bytes, tail_of}
 use Rattle.cd_run.specs.declared.run.PatchRun.{PatchRun}
 
--- of all patches: `read` of the image has come, `sent` has gone out, and the lines `log_bytes` were
--- due
+-- a run of all patches in progress: the bytes `read` of the image were read, the bytes `sent` were
+-- sent, and the lines `log_bytes` were due
 pub record Underway (carry : Bool) (patches : List Patch) (base : ℕ) (read sent log_bytes : List ℕ)
     (run : PatchRun) (hand : List (List ℕ)) : Type 0 where
   pub seen : List (List ℕ)
@@ -23,7 +23,7 @@ pub record Underway (carry : Bool) (patches : List Patch) (base : ℕ) (read sen
   pub went : sent ≡ sent_bytes done (tail_of run hand) (closed_at run.stage)
   pub logged : log_bytes ≡ log_lines (take run.decided patches) outcomes
 
--- at the end: what was sent is the patched image, and the last line completes the log
+-- at the end: the bytes sent are the patched image, and the last line completes the log
 pub record Completed (carry : Bool) (patches : List Patch) (base : ℕ)
     (read sent log_bytes last : List ℕ) : Type 0 where
   pub outcomes : List Outcome

@@ -1,20 +1,20 @@
-//! Laws of patched images, each the contract of a function that does nothing.
+//! Laws of patched images. Each is the contract of a function that does nothing.
 
 ghost use Rattle.cd_run.specs.LogSize.{LogIsShort};
 ghost use Rattle.cd_run.specs.Patched.{PatchedCarries, PatchedExists, PatchedIsDetermined};
 
-/// What patches make of an image, and what becomes of them, follows from the patches and the image.
+/// The patches and the image determine the patched image and the outcomes of the patches.
 pub fn patched_is_determined()
     ensures { PatchedIsDetermined }
 {}
 
-/// Each list of patches can be taken on each image of bytes.
+/// Each list of patches can be applied to each image of bytes.
 pub fn patched_exists()
     ensures { PatchedExists }
 {}
 
-/// With damage carried no patch is refused for damage, and each sector that no patch has rebuilt
-/// keeps its own.
+/// If damage is carried, no patch is refused for damage, and each sector that no patch has rebuilt
+/// keeps its damage.
 pub fn patched_carries()
     ensures { PatchedCarries }
 {}

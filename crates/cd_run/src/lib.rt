@@ -1,5 +1,6 @@
-//! A run of the patches of a script over an image of raw CD sectors (ECMA-130, 14), without reading or
-//! writing: what is next, what a patch makes of the sectors in hand, and the lines of the log.
+//! A run of a script's patches over an image of raw CD sectors (ECMA-130, 14), without input or
+//! output. It determines the next step, applies a patch to the sectors in hand, and formats the
+//! lines of the log.
 //!
 //! ```
 //! let mut run = PatchRun::new(0);
@@ -13,9 +14,9 @@
 //! assert_eq!(rt; run.next(None), Step::Send); // once it is decided
 //! ```
 //!
-//! [`PatchRun::next`] says which [`Step`] is due, and each step has a call that notes it. The caller
-//! moves the bytes and lends the sectors in hand, at most three; a run keeps nothing but numbers. So
-//! one machine serves `cd_image::apply` and the calls of C.
+//! [`PatchRun::next`] returns the [`Step`] that is due, and each step has a call that records it.
+//! The caller reads and writes the bytes and lends the memory of the sectors in hand, at most
+//! three; a run keeps only numbers. So `cd_image::apply` and the C calls share one state machine.
 //!
 //! Tests: `crates/cd_low_tests` and, over whole images, `crates/cd_image_tests`.
 #![tactic(auto)]

@@ -1,4 +1,4 @@
-//! The lines of the log: one for each patch, then their counts.
+//! The lines of the log: one for each patch, then one with their counts.
 
 ghost use Rattle.std.specs.Prelude.{◌≡◌, ◌<◌, ◌≤◌, ◌++◌, length};
 ghost use Rattle.cd_run.specs.PatchLog.{counts_line, outcome_line, outcome_text};
@@ -6,7 +6,7 @@ ghost use Rattle.cd_run.specs.PatchLog.{counts_line, outcome_line, outcome_text}
 use cd_line::{LINE_SIZE, Line};
 use cd_patch::Outcome;
 
-/// Appends what became of a patch to the beginning of its line.
+/// Appends the outcome of a patch to the beginning of its line.
 #[tactic(auto, unfolding(crate::specs::PatchLog::outcome_text))]
 fn push_outcome(line: &mut Line, outcome: Outcome)
     requires { length line.old ≤ 17 }
@@ -38,7 +38,7 @@ fn push_outcome(line: &mut Line, outcome: Outcome)
     }
 }
 
-/// `line L: OUTCOME`, the log's line of the patch in line `number` of a script.
+/// Formats `line L: OUTCOME`, the log line of the patch in line `number` of a script.
 ///
 /// # Examples
 ///
@@ -63,7 +63,7 @@ pub fn outcome_line(number: u32, outcome: Outcome) -> Line
     line
 }
 
-/// `applied A refused R`, the log's last line.
+/// Formats `applied A refused R`, the last line of the log.
 ///
 /// See the example of [`outcome_line`].
 #[tactic(auto, unfolding(crate::specs::PatchLog::counts_line))]

@@ -1,4 +1,4 @@
-//! The lines of a run that does not come to its end, each with its line feed.
+//! The messages of a run that ends early: lines with their line feeds.
 
 ghost use Rattle.std.specs.Prelude.{◌≡◌, ◌<◌, ◌≤◌, length};
 ghost use Rattle.cd_run.specs.Messages.{failed_read, long_image, long_script, numbered_line, script_fault_line};
@@ -7,7 +7,7 @@ use cd_line::{LINE_SIZE, Line};
 use cd_script::{MAX_TEXT, ScriptFault};
 use cd_sector::MAX_SECTORS;
 
-/// A line of this text, its line feed included.
+/// Makes a line of this text, which includes its line feed.
 ///
 /// # Examples
 ///
@@ -23,7 +23,7 @@ pub fn text_line(text: &[u8]) -> Line
     line
 }
 
-/// The line for a script that has more bytes than it may have.
+/// The message for a script that has too many bytes.
 ///
 /// # Examples
 ///
@@ -44,7 +44,7 @@ pub fn long_script_line() -> Line
     line
 }
 
-/// The line for an image that has more sectors than it may have.
+/// The message for an image that has too many sectors.
 ///
 /// # Examples
 ///
@@ -65,7 +65,7 @@ pub fn long_image_line() -> Line
     line
 }
 
-/// The line for an image of which a read failed.
+/// The message for a failed read of an image.
 ///
 /// # Examples
 ///
@@ -81,7 +81,7 @@ pub fn failed_read_line() -> Line
     text_line(b"cdpatch: reading the image failed\n")
 }
 
-/// `script line NUMBER: TEXT`, of which the text has at most 40 bytes.
+/// Formats `script line NUMBER: TEXT`; the text has at most 40 bytes.
 #[tactic(auto, unfolding(crate::specs::Messages::numbered_line))]
 fn numbered_line(number: u32, text: &[u8]) -> Line
     requires { length text.now ≤ 40 }
@@ -98,7 +98,8 @@ fn numbered_line(number: u32, text: &[u8]) -> Line
     line
 }
 
-/// The line of a script's fault, with the number of the script's line that has it.
+/// The message for an error in a script, with the number of the script line that has it. The
+/// message for a lack of memory has no number.
 ///
 /// # Examples
 ///

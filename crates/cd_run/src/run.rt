@@ -1,5 +1,5 @@
-//! A run of patches over an image, without reading or writing: it says what is next, and its caller
-//! moves the bytes and lends the memory in which the sectors in hand stand.
+//! A run of patches over an image, without input or output. It determines the next step; its caller
+//! reads and writes the bytes, and lends the memory of the sectors in hand.
 
 ghost use Rattle.std.specs.Prelude.{◌≡◌, ◌≢◌, ℕ, ◌+◌, ◌-◌, ◌*◌, ◌<◌, ◌≤◌, ◌⊎◌, ◌↔◌, ◌++◌, [], ◌∷◌, All, Bool, IfSome, IsSome, IsSomeAnd, IsTrue, List, Some, drop, length, take};
 ghost use Rattle.std.specs.List.{slice_index_or};
@@ -22,67 +22,68 @@ use cd_patch::{MAX_BLOCKS_MET, Outcome, apply_lent};
 use cd_script::{LentBytes, Patch};
 use cd_sector::{MAX_SECTORS, SECTOR_SIZE, Sector};
 
-/// More of the image may come.
+/// The image may have more bytes.
 const OPEN: u32 = 0;
 
 /// The image has ended, and its tail is in hand.
 const ENDED: u32 = 1;
 
-/// The tail has gone out.
+/// The tail was sent.
 const CLOSED: u32 = 2;
 
-/// What is next in a run.
+/// The next step of a run.
 #[derive(Clone, Copy, Debug, PartialEq, Eq)]
 pub enum Step {
-    /// The next sectors, at most so many, can go out as they are: no patch meets them, and none is
-    /// in hand. Who can't copy them reads one instead.
+    /// The next sectors, at most this many, can be sent unchanged: no patch meets them, and no
+    /// sector is in hand. A caller that cannot copy them reads one sector instead.
     Copy(u32),
     /// A sector, or the tail, has to be read.
     Read,
     /// The next patch has to be decided.
     Decide,
-    /// The first sector in hand has to go out.
+    /// The first sector in hand has to be sent.
     Send,
-    /// The tail has to go out.
+    /// The tail has to be sent.
     SendTail,
-    /// All was done.
+    /// The run is complete.
     End,
 }
 
-/// The patch that is next.
+/// The next patch, as far as a run has to know it.
 #[derive(Clone, Copy, Debug)]
 pub struct Ahead {
     /// The block in which it begins.
     pub block: u32,
-    /// How many blocks it meets: looked at only if it begins at the first block that has not gone
-    /// out.
+    /// The number of blocks that it meets. It is used only if the patch begins at the first block
+    /// that was not sent.
     pub blocks_met: u32,
 }
 
-/// How far a run has come. The sectors in hand are not in it: its caller lends the memory in which
-/// they stand first, in the order in which they came. A sector comes into the place after them, and
-/// the tail too. Any numbers may stand in it; [`PatchRun::is_run`] says whether they are a run's.
+/// The progress of a run. It does not contain the sectors in hand: its caller lends the memory that
+/// holds them, at its front and in the order in which they were read. The next sector, or the tail,
+/// is read into the place after them. The fields may have any values; [`PatchRun::is_run`] tests
+/// whether they are those of a run.
 #[derive(Clone, Copy, Debug, PartialEq, Eq)]
 #[repr(C)]
 pub struct PatchRun {
     /// The number of sectors in hand.
     pub held: u32,
-    /// The first block that has not gone out.
+    /// The first block that was not sent.
     pub block: u32,
-    /// How many sectors have come.
+    /// The number of sectors that were read or copied.
     pub sectors: u32,
-    /// How many patches were decided.
+    /// The number of patches that were decided.
     pub decided: u32,
-    /// How many of these were accepted.
+    /// The number of these patches that were accepted.
     pub applied: u32,
     /// The number of bytes of the tail.
     pub tail: u32,
-    /// 0 while more of the image may come, 1 after its end, 2 once the tail has gone out.
+    /// 0 while the image may have more bytes, 1 after its end, 2 once the tail was sent.
     pub stage: u32,
 }
 
 impl PatchRun {
-    /// Before the first sector, which is that of block `base`.
+    /// Creates a run before its first sector, which is the sector of block `base`.
     ///
     /// See the example of [`PatchRun::next`].
     pub fn new(base: u32) -> Self
@@ -106,7 +107,8 @@ impl PatchRun {
         }
     }
 
-    /// What is next, if no patch left begins within `distance` blocks from the front on.
+    /// The next step, if no remaining patch begins within `distance` blocks from the front block
+    /// on.
     fn next_between(&self, distance: u32) -> Step
         requires sound { IsRun self.now }
         requires some { 0 < distance }
@@ -135,7 +137,8 @@ impl PatchRun {
         }
     }
 
-    /// What is next, if the first patch left begins at the front block and meets so many.
+    /// The next step, if the first remaining patch begins at the front block and meets `met`
+    /// blocks.
     fn next_at_front(&self, met: u32) -> Step
         requires sound { IsRun self.now }
         requires open { self.now.stage ≤ 1 }
@@ -157,7 +160,8 @@ impl PatchRun {
         }
     }
 
-    /// What is next, if the patches left begin with this one.
+    /// Returns the next step of the run. `ahead` is the first remaining patch, or `None` if no
+    /// patch remains.
     ///
     /// # Examples
     ///
@@ -181,7 +185,7 @@ impl PatchRun {
         requires few { IfSome ahead (λ a. (0 < a.blocks_met) × (a.blocks_met ≤ block_limit)) }
         ensures ready { IsReady self.now result }
         ensures some { result ≡ Decide → IsSome ahead }
-        // No sector is read that no patch looks at, and no fewer are copied than can be.
+        // A sector is read only if a patch needs it, and as many sectors are copied as possible.
         ensures looks { result ≡ Read → (self.now.sectors ≡ sector_limit) ⊎ IsSomeAnd ahead
             (λ a. (a.block ≡ self.now.block) × (self.now.held < a.blocks_met)) }
         ensures most { (count : ℕ) → result ≡ Copy count → (self.now.sectors + count ≡ sector_limit)
@@ -208,7 +212,7 @@ impl PatchRun {
         }
     }
 
-    /// Notes that a sector has come, into the place after those in hand.
+    /// Records that a sector was read, into the place after those in hand.
     ///
     /// See the example of [`PatchRun::decide`].
     pub fn took_sector(&mut self)
@@ -236,7 +240,7 @@ impl PatchRun {
         self.sectors += 1;
     }
 
-    /// Notes that the image has ended, after so many bytes in the place after the sectors in hand.
+    /// Records that the image has ended, after `tail` bytes in the place after the sectors in hand.
     ///
     /// See the example of [`PatchRun::next`].
     pub fn took_end(&mut self, tail: u32)
@@ -266,7 +270,7 @@ impl PatchRun {
         self.stage = ENDED;
     }
 
-    /// Notes that so many sectors have come and gone out as they are.
+    /// Records that `count` sectors were read and sent unchanged.
     ///
     /// See the example of [`PatchRun::next`].
     pub fn copied(&mut self, count: u32)
@@ -294,8 +298,8 @@ impl PatchRun {
         self.block += count;
     }
 
-    /// Decides the next patch, and makes it in the sectors in hand if it is accepted. Its line in
-    /// the log is due now.
+    /// Decides the next patch, and applies it to the sectors in hand if it is accepted. Its log
+    /// line is due now.
     ///
     /// # Examples
     ///
@@ -376,8 +380,8 @@ impl PatchRun {
         &hand[self.held as usize].bytes()[..self.tail as usize]
     }
 
-    /// Notes that the first sector in hand has gone out. Only if something stands after it does
-    /// anything move.
+    /// Records that the first sector in hand was sent, and moves the sectors and the tail after it,
+    /// if any, to the front.
     ///
     /// See the example of [`PatchRun::decide`].
     pub fn sent_front(&mut self, hand: &mut [Sector])
@@ -410,7 +414,7 @@ impl PatchRun {
         self.block += 1;
     }
 
-    /// Notes that the tail has gone out.
+    /// Records that the tail was sent.
     ///
     /// See the example of [`PatchRun::next`].
     pub fn sent_tail(&mut self)
@@ -434,7 +438,7 @@ impl PatchRun {
         self.stage = CLOSED;
     }
 
-    /// Whether the numbers are those of a run.
+    /// Whether the fields have values that a run may have.
     ///
     /// # Examples
     ///
@@ -463,8 +467,8 @@ fn lemma_size(sector: &Sector)
     sector.bytes();
 }
 
-/// Moves what stands after the first place to the front, if something does: `held` sectors, the
-/// first included, and then the tail if the image has ended.
+/// Removes the first of `held` sectors: moves the others, and then the tail if the image has ended,
+/// one place to the front.
 fn remove_first(hand: &mut [Sector], held: u32, stage: u32)
     requires some { 0 < held }
     requires few { held ≤ block_limit }
@@ -482,7 +486,7 @@ fn remove_first(hand: &mut [Sector], held: u32, stage: u32)
     }
 }
 
-/// Decides a patch on the first `held` places, which are the sectors from its block on, or none.
+/// Applies a patch to the first `held` places: the sectors from its block on, or none.
 fn apply_among(hand: &mut [Sector], held: u32, patch: &Patch<LentBytes<'_>>, carry: bool) -> Outcome
     requires patch { IsPatch patch.now }
     requires within { held ≤ length hand.old }

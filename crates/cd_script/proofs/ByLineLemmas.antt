@@ -1,4 +1,4 @@
--- Lines, each read by itself.
+-- Lemmas about lines that are each read by itself.
 use Rattle.std.proofs.Common.{◌≡◌, ℕ, ◌+◌, Bool, true, false, cond, List, [], ◌∷◌, length, Option, Some, None, Result, Ok, Err, refl, sym, ap, ◌∙◌}
 use Rattle.std.specs.Prelude.{IfOk, IfSome, ◌<◌}
 use Rattle.std.specs.List.{cons_option}
@@ -17,7 +17,7 @@ use Rattle.cd_script.proofs.PatchLemmas.{line_at-patch}
 
 -- ---- the head line
 
--- the lines after one in which this head line was found
+-- the lines after a line in which this version, or none, was found
 abbrev pub after_head : ℕ → List (List ℕ) → Option Version → Result (List Patch) ScriptFault
 after_head line rest None = script_from (line + 1) rest
 after_head line rest (Some version) = patches_from version (line + 1) 0 rest
@@ -29,7 +29,7 @@ head_cases line rest true named = refl
 head_cases line rest false None = refl
 head_cases line rest false (Some version) = refl
 
--- one line down to the head line
+-- one of the lines up to the head line
 pub head_step : (line : ℕ) (text : List ℕ) (all rest : List (List ℕ))
     (found : Result (Option Version) ScriptFault) → all ≡ text ∷ rest → head_at line text ≡ found
     → script_from line all ≡ (found >>= after_head line rest)
@@ -94,7 +94,7 @@ above line (text ∷ rest) =
 pub reads-by_line : (text : List ℕ) → script text ≡ by_line None 1 0 (lines text)
 reads-by_line text = above 1 (lines text)
 
--- ---- what a line says keeps to the limits
+-- ---- the meaning of a line keeps to the limits
 
 head_keeps : (r : Result (Option Version) ScriptFault)
     → IfOk (r >>= λ found. Ok (head_meaning found)) KeepsToLimits

@@ -1,4 +1,4 @@
--- A text, cut after its first line.
+-- A text is cut after its first line.
 use Rattle.std.proofs.Common.{◌≡◌, ◌+◌, ◌-◌, ◌<◌, ◌≤◌, ◌⊎◌, inl, inr, ℕ, suc, false, List, [], ◌∷◌, ◌++◌, length, length-take, take, drop, slice_index, refl, subst, sym, ap, ◌∙◌, arith, add-one}
 use Rattle.std.specs.Str.Lines.{lines, strip_carriage_return}
 use Rattle.std.proofs.lemmas.Bool.{eqb-true, false_from_ne_true}
@@ -8,7 +8,7 @@ use Rattle.memchr.specs.Find.{Nowhere, NoneBefore, Passes}
 use Rattle.cd_script.specs.LineEnd.{IsLineEnd}
 use Rattle.cd_script.proofs.general.Lines.{NoFeed, is_feed, lines-cut, lines-last}
 
--- the first line feed, and what stands before and after it
+-- the first line feed, and the text before and after it
 pub first-cut : (text : List ℕ) (k size : ℕ)
     → NoneBefore (Passes is_feed text) 0 (length text) k × Passes is_feed text k
     → take size (take k text) ≡ strip_carriage_return (take k text) → size ≤ length (take k text)
@@ -43,7 +43,7 @@ first-last text never some =
     let back = drop_all (length text) text (omega arith) in
     lines-last text none some ∙ sym (rw (front, back) refl)
 
--- what ends a line before the first line feed
+-- the line end at the first line feed
 pub feed-end : (text : List ℕ) (k size : ℕ)
     → NoneBefore (Passes is_feed text) 0 (length text) k × Passes is_feed text k
     → size ≤ length (take k text)

@@ -1,4 +1,5 @@
--- Eight bytes in a word, the bits of a line feed among them, and a text that is passed by eights.
+-- Eight bytes in a word, the bits of a line feed among them, and skipping a text by eight bytes at
+-- a time.
 use Rattle.std.proofs.Common.{◌≡◌, ℕ, zero, suc, ◌+◌, ◌-◌, ◌*◌, ◌/◌, ◌^◌, ◌<◌, ◌≤◌, List, length, length-drop, take, drop, slice_index, bit_and, inl, inr, sym, ap, ◌∙◌, arith}
 use Rattle.std.specs.Int.{bit_at, from_le_bytes, w64}
 use Rattle.std.specs.Int.RustNames.{bit_or}
@@ -8,7 +9,7 @@ use Rattle.std.proofs.lemmas.Nat.Bits.{bit_at-suc, bit_at_and, bit_at_cat_high, 
 use Rattle.memchr.specs.Find.{Nowhere, Passes}
 use Rattle.cd_script.proofs.general.Lines.{is_feed}
 
--- a bit of a line feed, which stands k bits from the low end of a word
+-- a bit of a line feed that begins k bits from the low end of a word
 feed_bit : (low high x k i : ℕ) → low < 2 ^ k → x ≡ (high * 2 ^ 8 + 10) * 2 ^ k + low → i < 8
     → bit_at x (k + i) ≡ bit_at 10 i
 feed_bit low high x k i small is lt =
@@ -17,7 +18,7 @@ feed_bit low high x k i small is lt =
     ∙ bit_at_cat_high (high * 2 ^ 8 + 10) k low (k + i) small (omega arith)
     ∙ ap (bit_at (high * 2 ^ 8 + 10)) place ∙ bit_at_cat_low high 8 10 i lt
 
--- neither the bit 32 nor the bit 64 of it is set
+-- neither the bit 32 nor the bit 64 of a line feed is set
 feed_seen : (low high x k mask : ℕ) → low < 2 ^ k → x ≡ (high * 2 ^ 8 + 10) * 2 ^ k + low
     → bit_at mask (k + 5) ≡ 1 → bit_and (bit_or x (x / 2)) mask ≡ mask → ⊥
 feed_seen low high x k mask small is on masked =
@@ -67,7 +68,7 @@ eight-no_feed b x mask bytes is bits masked (suc (suc (suc (suc (suc (suc (suc z
     (omega arith) (ap (λ m. bit_at m 61) bits) masked
 eight-no_feed b x mask bytes is bits masked (suc (suc (suc (suc (suc (suc (suc (suc n)))))))) lt feed = absurd (omega arith)
 
--- eight more bytes of a text are passed
+-- eight more bytes of a text are skipped
 pub eights-more : (text eight after rest : List ℕ) (n : ℕ) → rest ≡ drop n text → n ≤ length text
     → Nowhere (Passes is_feed text) 0 n → eight ≡ take 8 rest → after ≡ drop 8 rest
     → 8 ≤ length rest → ((k : ℕ) → k < 8 → slice_index eight k ≡ 10 → ⊥)

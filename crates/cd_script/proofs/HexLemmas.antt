@@ -1,4 +1,4 @@
--- Hex words are what the crate `hex` decodes.
+-- The crate `hex` decodes exactly the hex words.
 use Rattle.std.proofs.Common.{◌≡◌, ℕ, Bool, true, false, slice_index_or, ◌+◌, ◌*◌, ◌%◌, ◌==◌, ◌&&◌, List, [], ◌∷◌, length, Option, Some, None, Result, Ok, Err, refl, sym, ap, ◌∙◌, arith, inl, inr}
 use Rattle.std.specs.Prelude.{option_and_then, is_some, IsSome}
 use Rattle.std.specs.List.{list_all}
@@ -12,7 +12,7 @@ use Rattle.hex.specs.declared.error.FromHexError.{FromHexError}
 use Rattle.hex.proofs.HexLemmas.{decode_of-even, decode_of-odd, decode_of-ok, decode_pairs-ok, decode_sized-twice}
 use Rattle.cd_script.specs.Hex.{hex_bytes, spelled_bytes}
 
--- the value that a reading gave
+-- the bytes of a result that is known to have them
 pub decoded : (read : Result (List ℕ) FromHexError) (bytes : List ℕ) → result_ok read ≡ Some bytes
     → read ≡ Ok bytes
 decoded (Ok x) bytes e = cc
@@ -69,12 +69,12 @@ result_ok-decode_of s =
       | inr even ↦ ap result_ok (decode_of-even s (omega arith)) ∙ pairs 0 s
     ]
 
--- what a hex word spells
+-- the bytes that a hex word spells
 pub hex_spells : (s bytes : List ℕ) → IsSome (hex_bytes s) → spelled_bytes s ≡ bytes
     → hex_bytes s ≡ Some bytes
 hex_spells s bytes some e = spells (hex_bytes s) bytes some e
 
--- a word of an even number of digits, and no other, spells bytes
+-- a word spells bytes exactly if it is an even number of hex digits
 pub hex_test : (s : List ℕ) → is_some (hex_bytes s) ≡ (length s % 2 == 0 && list_all is_hex_digit s)
 unfolding hex_bytes
 hex_test [] = refl
@@ -104,12 +104,12 @@ pub hex_some : (s : List ℕ) → length s % 2 ≡ 0 → list_all is_hex_digit s
     → IsSome (hex_bytes s)
 hex_some s even digits = hex_test s ∙ both_true (eq-eqb (length s % 2) 0 even) digits
 
--- two digits for each byte
+-- a hex word has two digits for each byte
 pub length-hex_bytes : (s bytes : List ℕ) → hex_bytes s ≡ Some bytes → length s ≡ 2 * length bytes
 length-hex_bytes s bytes e =
     (decode_of-ok s bytes (decoded (decode_of s) bytes (result_ok-decode_of s ∙ e))).2
 
--- room for as many bytes as a hex word spells takes them
+-- a hex word is decoded to a slice with as many bytes as it spells
 pub decode_sized-hex : (s bytes : List ℕ) (n : ℕ) → IsSome (hex_bytes s) → spelled_bytes s ≡ bytes
     → n ≡ length bytes → decode_sized s n ≡ Ok bytes
 decode_sized-hex s bytes n some are same =

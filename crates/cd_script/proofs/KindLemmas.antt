@@ -1,5 +1,5 @@
--- The kinds of words: what is read of a word keeps to the limits of its kind, and a value that keeps
--- to them is spelled by a word that is read as it.
+-- The kinds of words: the value that is read from a word keeps to the limits of its kind, and a
+-- value that keeps to them is spelled by a word that is read as this value.
 use Rattle.std.proofs.Common.{◌≡◌, ℕ, ◌+◌, ◌-◌, ◌*◌, ◌<◌, ◌≤◌, Bool, true, false, cond, List, [], ◌∷◌, length, get_or, Option, Some, None, Result, Ok, Err, refl, subst, sym, ap, ◌∙◌, arith, rules}
 use Rattle.std.specs.Prelude.{All, fold, option_and_then, nat_lt, ok_or, nat_le, ◌==◌, ◌&&◌, IfOk, IfSome}
 use Rattle.std.specs.Char.{is_ascii_digit}
@@ -30,7 +30,7 @@ use Rattle.cd_script.proofs.HexLemmas.{decoded, result_ok-decode_of}
 
 -- ---- steps of a reading
 
--- a step, and what follows if it did not fail
+-- a step, and the next one if it did not fail
 pub then_keeps : {A B : Type 0} (P : A → Type 0) (Q : B → Type 0) (r : Result A ScriptFault)
     (f : A → Result B ScriptFault) → IfOk r P → ((x : A) → P x → IfOk (f x) Q) → IfOk (r >>= f) Q
 then_keeps P Q (Ok x) f h next = next x h
@@ -42,13 +42,13 @@ pub cond_keeps : {A : Type 0} (P : A → Type 0) (b : Bool) (x y : Result A Scri
 cond_keeps P true x y h k = h refl
 cond_keeps P false x y h k = k refl
 
--- a value, or a fault
+-- a value or an error
 given_keeps : {A : Type 0} (P : A → Type 0) (o : Option A) (d : ScriptFault) → IfSome o P
     → IfOk (ok_or o d) P
 given_keeps P (Some x) d h = h
 given_keeps P None d h = tt
 
--- a value, and the equation that names it
+-- a value that an option contains
 some_if : {A : Type 0} {P : A → Type 0} (o : Option A) → ((x : A) → o ≡ Some x → P x) → IfSome o P
 some_if (Some x) h = h x refl
 some_if None h = tt
@@ -59,7 +59,7 @@ some_keeps : {A : Type 0} (P : A → Type 0) (b : Bool) (o : Option A) → (b �
 some_keeps P true o h = h refl
 some_keeps P false o h = tt
 
--- a step that may give no value, and what follows if it gives one
+-- a step that may have no value, and the next one if it has one
 some_then : {A B : Type 0} (P : A → Type 0) (Q : B → Type 0) (o : Option A) (f : A → Option B)
     → IfSome o P → ((x : A) → P x → IfSome (f x) Q) → IfSome (option_and_then f o) Q
 some_then P Q (Some x) f h next = next x h
@@ -72,7 +72,7 @@ pub record IsPlainWord (w : List ℕ) : Type 0 where
   pub some : 0 < length w
   pub plain : All (λ b. 33 ≤ b) w
 
--- a word that computes
+-- a word that passes a computed test
 pub plain_word : (w : List ℕ) → (nat_le 1 (length w) && list_all (nat_le 33) w) ≡ true
     → IsPlainWord w
 plain_word w test =
@@ -89,13 +89,13 @@ pub record Spells {V : Type 0} (read : List ℕ → Result V ScriptFault) (w : L
   pub plain : IsPlainWord w
   pub reads : read w ≡ Ok v
 
--- a kind of words: how one is read, the limits of its values, and how a value is spelled
+-- a kind of words: how a word is read, the limits of its value, and how a value is spelled
 pub record IsKind {V : Type 0} (read : List ℕ → Result V ScriptFault) (Fits : V → Type 0)
     (spell : V → List ℕ) : Type 0 where
   pub keeps : (w : List ℕ) → IfOk (read w) Fits
   pub spells : (v : V) → Fits v → Spells read (spell v) v
 
--- a word of a kind, and what is read after it
+-- a word of a kind, and the words after it
 pub word_keeps : {V B : Type 0} {read : List ℕ → Result V ScriptFault} {Fits : V → Type 0}
     {spell : V → List ℕ} (Q : B → Type 0) → IsKind read Fits spell → (w : List ℕ)
     (f : V → Result B ScriptFault) → ((v : V) → Fits v → IfOk (f v) Q) → IfOk (read w >>= f) Q

@@ -1,4 +1,4 @@
--- Lines, read one after the other as a loop does.
+-- Lines that are read one after the other, as in a loop.
 use Rattle.std.proofs.Common.{◌≡◌, ℕ, ◌+◌, ◌≤◌, false, List, [], ◌∷◌, ◌++◌, length, take, Option, Some, None, Result, Ok, Err, refl, subst, sym, ap, ◌∙◌, arith}
 use Rattle.std.specs.Prelude.{is_some, IsOk}
 use Rattle.std.specs.Int.{from_bool}
@@ -15,13 +15,13 @@ use Rattle.cd_script.specs.FirstFault.{◌>>=◌}
 use Rattle.cd_script.specs.Script.{at_limit, is_passed_over, line_at, patches_from, script_from}
 use Rattle.cd_script.specs.Words.{words}
 
--- if a reading has no fault, neither has what was returned for it
+-- if a reading has no error, neither has a result that is equal to it
 pub reads_ok : {X : Type 0} (r read : Result X ScriptFault) → r ≡ read
     → ((e : ScriptFault) → read ≡ Err e → ⊥) → IsOk r
 reads_ok (Ok x) read h sound = refl
 reads_ok (Err e) read h sound = absurd (sound e (sym h))
 
--- ---- one line, of which the first seven words were found: they say all that the words of it say
+-- ---- one line, from its first seven words: they have the meaning of all its words
 
 is_passed_over-take : (ws : List (List ℕ)) → is_passed_over (take 7 ws) ≡ is_passed_over ws
 is_passed_over-take ws = grind arith
@@ -46,7 +46,7 @@ line_at-is version line earlier text found r is patch read =
 
 -- ---- the lines of a loop
 
--- what was read before, and what is still read
+-- the patches that were read before, and the lines that are still to be read
 abbrev pub with_front : List Patch → Result (List Patch) ScriptFault
     → Result (List Patch) ScriptFault
 with_front front read = read >>= λ ps. Ok (front ++ ps)
@@ -81,7 +81,7 @@ goes_on version front after line count earlier later text all rest found total s
     rw (parts, ← same, read) (regroup front found _) in
     rw (grown, more) (sym step ∙ so_far)
 
--- if the lines have no fault, the next has none
+-- if the lines have no error, the next line has none
 pub next_sound : (version : Version) (front : List Patch) (line count earlier : ℕ) (text : List ℕ)
     (all rest : List (List ℕ)) (e : ScriptFault) (total : Result (List Patch) ScriptFault)
     → count ≡ earlier → all ≡ text ∷ rest
@@ -100,7 +100,7 @@ unfolding patches_from
 all_read version front line earlier all total none so_far =
     sym so_far ∙ rw none (ap (λ (qs : List Patch). Ok qs) (append-nil front))
 
--- ---- the first fault of lines
+-- ---- the first error of lines
 
 pub fault_later : (version : Version) (line earlier : ℕ) (text : List ℕ) (all rest : List (List ℕ))
     (found : Option Patch) → all ≡ text ∷ rest → line_at version line earlier text ≡ Ok found
@@ -123,7 +123,7 @@ pub fault_none : (version : Version) (line earlier : ℕ) (all : List (List ℕ)
 unfolding patches_from
 fault_none version line earlier all none = rw none refl
 
--- one more if a line has a patch
+-- one more patch if the line has one
 pub counted : {X : Type 0} (found : Option X)
     → from_bool (is_some found) ≡ length (option_to_list found)
 counted None = refl
@@ -133,7 +133,7 @@ pub counted-most : {X : Type 0} (found : Option X) → length (option_to_list fo
 counted-most None = omega arith
 counted-most (Some x) = omega arith
 
--- ---- the lines down to the head line
+-- ---- the lines up to the head line
 
 pub head_absent : (line : ℕ) → script_from line [] ≡ Err (Head line)
 unfolding script_from

@@ -1,4 +1,4 @@
--- The number of the line that a patch is in.
+-- The number of the line of a patch.
 use Rattle.std.proofs.Common.{◌≡◌, ℕ, ◌+◌, ◌<◌, ◌≤◌, List, [], ◌∷◌, length, Option, Some, None, Ok, refl, arith}
 use Rattle.std.specs.Prelude.{All, IfOk, IfSome}
 use Rattle.std.specs.List.{cons_option, slice_split}
@@ -20,7 +20,7 @@ use Rattle.cd_script.proofs.KindLemmas.{address-kind, byte-kind, cond_keeps, cou
 use Rattle.cd_script.proofs.OrderLemmas.{order-permutes}
 use Rattle.cd_script.proofs.general.Lines.{is_feed}
 
--- the patch is in the line of this number
+-- the patch is in the line with this number
 abbrev IsIn : ℕ → Patch → Type 0
 IsIn line p = p.line ≡ line
 
@@ -75,7 +75,7 @@ line_at-in version line earlier text =
 
 -- ---- the lines of a text
 
--- they are in lines before this one
+-- the patches are in lines before this one
 abbrev AreBefore : ℕ → List Patch → Type 0
 AreBefore end = All (λ p. p.line < end)
 
@@ -111,7 +111,7 @@ script_from-before line (text ∷ rest) end le =
     (λ _. script_from-before (line + 1) rest end (omega arith))
     (λ _. patches_after-before line (head_version (words text)) rest end (omega arith))
 
--- a text has at most one line more than bytes
+-- a text has at most one more line than bytes
 parts-most : (parts : List (List ℕ)) → length (lines_of_parts parts) ≤ length parts
 parts-most [] = omega arith
 parts-most (x ∷ []) = grind (arith, nat_tests)
@@ -126,7 +126,7 @@ lines-most text =
       count_by-le-length is_feed text,
     )
 
--- the number of a patch's line is at most one more than the number of the text's bytes
+-- the line number of a patch is at most one more than the number of bytes of the text
 pub lines-numbered : (text : List ℕ) (ps : List Patch) → script text ≡ Ok ps
     → All (λ p. p.line ≤ length text + 1) (order ps)
 lines-numbered text ps reads =

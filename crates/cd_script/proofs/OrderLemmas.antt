@@ -1,4 +1,4 @@
--- The order rises, keeps ties and permutes, and nothing else does.
+-- The order rises, keeps ties, and permutes, and no other order does.
 use Rattle.std.proofs.Common.{◌≡◌, ℕ, zero, suc, ◌<◌, ◌≤◌, Bool, true, false, cond, List, [], ◌∷◌, refl, sym, ap, subst, ◌∙◌, arith, inl, inr}
 use Rattle.std.specs.Prelude.{All, filter, ◌==◌}
 use Rattle.std.specs.List.Sorted.{IsNonDecreasingBy, IsPermutation}
@@ -118,7 +118,7 @@ filter-order (p ∷ ps) k =
     filter-put_before k p (order ps)
     ∙ ap (λ (l : List Patch). cond (stands_in k p) (p ∷ l) l) (filter-order ps k)
 
--- ---- and nothing else does
+-- ---- no other order does
 
 none_below : (k b : ℕ) (ps : List Patch) → NotBelow b ps → k < b → filter (stands_in k) ps ≡ []
 none_below k b [] h lt = refl
@@ -130,7 +130,7 @@ here : (p : Patch) (ps : List Patch)
     → filter (stands_in p.block) (p ∷ ps) ≡ p ∷ filter (stands_in p.block) ps
 here p ps = cond-true _ _ _ (eq-eqb p.block p.block refl)
 
--- patches that rise, and have one of p's block, begin no later
+-- a list that rises, and has a patch of p's block, does not begin with a later block
 first_most : (p q : Patch) (ps qs : List Patch) → Rises (q ∷ qs)
     → filter (stands_in p.block) (p ∷ ps) ≡ filter (stands_in p.block) (q ∷ qs)
     → q.block ≤ p.block

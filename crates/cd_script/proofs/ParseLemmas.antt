@@ -1,4 +1,4 @@
--- A script's patches, sorted.
+-- The patches of a script are sorted.
 use Rattle.std.proofs.Common.{◌≡◌, ℕ, ◌+◌, Bool, List, map, Result, Ok, Err, sym, ap, ◌∙◌, arith}
 use Rattle.std.specs.Prelude.{not, ◌==◌, ◌&&◌}
 use Rattle.std.specs.List.Sorted.{IsSortedByKey, IsStableByKey}
@@ -23,7 +23,7 @@ use Rattle.cd_script.proofs.PatchLemmas.{script-behind}
 tie : (k b : ℕ) → (not (is_lt (nat_cmp k b)) && not (is_lt (nat_cmp b k))) ≡ (b == k)
 tie k b = grind (arith, nat_tests)
 
--- what a stable sort by the block gives
+-- a stable sort by the block results in the order
 pub sorted-order : (ps qs : List Patch) → IsSortedByKey (λ p. p.block) nat_cmp qs
     → IsStableByKey (λ p. p.block) nat_cmp ps qs → qs ≡ order ps
 sorted-order ps qs sorted stable =
@@ -35,7 +35,7 @@ sorted-order ps qs sorted stable =
     ∙ stable (record { line = 0; block = k; offset = 0; edit = Rebuild })
     ∙ filter_agree test (stands_in k) same ps)
 
--- what a stable sort by a closure that returns the block gives
+-- a stable sort by a closure that returns the block results in the order
 pub in_order : {F : Type 0} {g : Mut F (Bor Patch × Unit {0}) ℕ} {f : F} (ps qs : List Patch)
     → ((key : Patch → ℕ) → ComputesKey g key f → IsSortedByKey key nat_cmp qs)
     → ((key : Patch → ℕ) → ComputesKey g key f → IsStableByKey key nat_cmp ps qs)
@@ -55,7 +55,7 @@ order-list ls ps e =
       rising = order-rises ps;
     }
 
--- the script of a text is what its lines after the head line give
+-- the script of a text is read from its lines after the head line
 pub script-rest : (version : Version) (text bytes : List ℕ) (all rest : List (List ℕ)) (head : ℕ)
     → all ≡ map without_terminator (lines_of text)
     → script_from 1 all ≡ patches_from version (head + 1) 0 rest

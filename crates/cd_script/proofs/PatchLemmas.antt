@@ -1,4 +1,4 @@
--- What is read keeps to what a patch keeps to.
+-- The patches that are read keep to the limits of patches.
 use Rattle.std.proofs.Common.{◌≡◌, ℕ, zero, suc, ◌+◌, ◌<◌, ◌≤◌, List, [], ◌∷◌, length, Option, Some, None, Result, Ok, Err, refl, arith}
 use Rattle.std.specs.Prelude.{All, IfOk, IfSome}
 use Rattle.std.specs.List.{cons_option}
@@ -77,7 +77,7 @@ unfolding line_at
 line_at-patch version line earlier text =
     grind (arith, nat_tests, patch_by-patch version line (words text))
 
--- patches of lines after so many others
+-- patches of lines after `earlier` others
 pub record AreBehind (earlier : ℕ) (ps : List Patch) : Type 0 where
   pub each : All IsPatch ps
   pub count : earlier + length ps ≤ patch_limit
@@ -127,7 +127,7 @@ pub script-behind : (line : ℕ) (ls : List (List ℕ)) (ps : List Patch) → sc
     → AreBehind 0 ps
 script-behind line ls ps e = IfOk-at_ok (AreBehind 0) e (script_from-patches line ls)
 
--- ---- how many they are
+-- ---- the number of patches
 
 cons_few : (found : Option Patch) (ps : List Patch) (n : ℕ) → suc (length ps) ≤ n
     → length (cons_option found ps) ≤ n

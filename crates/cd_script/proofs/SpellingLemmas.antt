@@ -1,4 +1,4 @@
--- What is spelled is read.
+-- A text that spells patches is read as these patches.
 use Rattle.std.proofs.Common.{◌≡◌, ℕ, ◌+◌, ◌-◌, ◌<◌, ◌≤◌, true, false, List, [], ◌∷◌, ◌++◌, length, slice_index, Some, None, Ok, refl, ap, ◌∙◌, arith, append_assoc}
 use Rattle.std.specs.Prelude.{All, filter, not, codes, nat_le}
 use Rattle.std.specs.List.{join_with_byte, flat_map}
@@ -28,7 +28,7 @@ abbrev AreWords : List (List ℕ) → Type 0
 AreWords [] = Unit {0}
 AreWords (w ∷ ws) = IsPlainWord w × AreWords ws
 
--- what the line that spells an edit is: words, no comment, and read as the edit
+-- the line that spells an edit has words, is not a comment, and is read as the edit
 record IsSpelled (version : Version) (line b o : ℕ) (e : Edit) : Type 0 where
   pub words : AreWords (edit_words b o e)
   pub patch : is_passed_over (edit_words b o e) ≡ false

@@ -1,4 +1,4 @@
--- A line, cut at its spaces and tabs.
+-- A line is split at its spaces and tabs.
 use Rattle.std.proofs.Common.{◌≡◌, ◌+◌, ◌-◌, ◌<◌, ◌≤◌, ℕ, suc, Bool, true, false, cond, List, [], ◌∷◌, ◌++◌, length, length-append, length-take, take, drop, slice_index, refl, subst, sym, ap, ◌∙◌, arith, append_assoc}
 use Rattle.std.specs.Prelude.{All, filter, not}
 use Rattle.std.specs.Borrow.{Bor}
@@ -13,7 +13,7 @@ use Rattle.cd_script.specs.Script.{is_passed_over}
 use Rattle.cd_script.specs.Words.{words, is_space, is_word}
 use Rattle.cd_script.proofs.FormLemmas.{seen}
 
--- ---- a part that is put after words
+-- ---- a part that is appended to words
 
 pub part_empty : (ws : List (Bor (List ℕ))) (part : List ℕ) → length part ≡ 0
     → seen ws ≡ seen ws ++ filter is_word (part ∷ [])
@@ -46,7 +46,7 @@ part-most ws after part put =
       one_or_none (is_word part) part,
     )
 
--- ---- the words that are looked at
+-- ---- the first words
 
 pub words_full : (n : ℕ) (ws rest all : List (List ℕ)) → ws ++ rest ≡ all → length ws ≡ n
     → ws ≡ take n all
@@ -83,7 +83,7 @@ words-skip line front after n is_front is_after within h =
     ∙ ap (λ (l : List ℕ). words (front ++ l)) (sym is_after)
     ∙ words_spaces front after (λ k lt. h k (omega arith)))
 
--- the first space, and what stands before and after it
+-- the first space, and the line before and after it
 pub words-cut : (line part after rest : List ℕ) (end : ℕ)
     → NoneBefore (Passes is_space line) 0 (length line) end × Passes is_space line end
     → part ≡ take end line → after ≡ drop end line
@@ -125,7 +125,7 @@ part_taken ws after line part rest total grown cut so_far =
     ap (λ (l : List (List ℕ)). l ++ rest) grown ∙ append_assoc ws (filter is_word (part ∷ [])) rest
     ∙ ap (λ (l : List (List ℕ)). ws ++ l) (sym cut) ∙ so_far
 
--- ---- lines that say nothing
+-- ---- lines that are skipped
 
 pub words-empty : (line : List ℕ) → length line ≡ 0 → is_passed_over (words line) ≡ true
 unfolding words

@@ -1,4 +1,4 @@
--- The first version means what it meant before there was a second, and the second extends it.
+-- The first version means the same as before there was a second one, and the second extends it.
 use Rattle.std.proofs.Common.{◌≡◌, ◌≢◌, ℕ, ◌+◌, Bool, true, false, cond, List, [], ◌∷◌, length, Option, Some, Result, Ok, Err, refl, ap, arith}
 use Rattle.std.specs.Prelude.{All}
 use Rattle.std.specs.List.{cons_option}
@@ -16,7 +16,7 @@ use Rattle.cd_script.specs.Script.{head_version, is_passed_over, line_at, patche
 use Rattle.cd_script.specs.Versions.{is_first_head, first_line_at, first_patches_from, first_script_from, first_script, version_of, has_new_verb}
 use Rattle.cd_script.specs.Words.{words}
 
--- what follows is read alike
+-- if two continuations are equal, so are the readings with them
 same_rest : {X Y : Type 0} (read : Result X ScriptFault) (one other : X → Result Y ScriptFault)
     → ((x : X) → one x ≡ other x) → (read >>= one) ≡ (read >>= other)
 same_rest (Ok x) one other same = same x
@@ -38,7 +38,7 @@ first-head : (ws : List (List ℕ)) (line : ℕ) (rest : List (List ℕ)) → he
     ≡ cond (is_first_head ws) (first_patches_from (line + 1) 0 rest) (Err (Head line))
 first-head ws line rest other = grind (arith, first-patches)
 
--- after a line that may be passed over
+-- a line that may be skipped, and the lines after it
 first-after : (passed : Bool) (below named : Option Version)
     (on on' here here' : Result (List Patch) ScriptFault) → cond passed below named ≢ Some Two
     → (below ≢ Some Two → on ≡ on') → (named ≢ Some Two → here ≡ here')

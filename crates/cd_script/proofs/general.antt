@@ -1,2 +1,2 @@
--- Lemmas that name nothing of this crate.
+-- Lemmas that do not mention anything of this crate.
 pub mod Lines

@@ -1,4 +1,4 @@
--- Header addresses, as words spell them.
+-- The header addresses that words spell (ECMA-130, 14).
 use Rattle.std.specs.Prelude.{◌≡◌, ℕ, ◌+◌, ◌*◌, ◌/◌, ◌%◌, ◌<◌, ◌==◌, ◌&&◌, nat_lt, if◌then◌else◌, List, [], ◌∷◌, Option, Some, None}
 use Rattle.std.specs.Char.{is_ascii_digit}
 use Rattle.cd_address.specs.Address.{bcd}
@@ -6,7 +6,7 @@ use Rattle.cd_script.specs.Hex.{◌>>=◌}
 use Rattle.cd_script.specs.Limits.{minute_limit, second_limit, fraction_limit}
 use Rattle.cd_script.specs.Number.{digits_value}
 
--- the number below a limit that two decimal digits spell, in BCD
+-- two decimal digits in BCD, if their number is below a limit
 unfoldable pub bcd_below : ℕ → ℕ → ℕ → Option ℕ
 bcd_below limit high low =
     if is_ascii_digit high && is_ascii_digit low && nat_lt (digits_value (high ∷ low ∷ [])) limit

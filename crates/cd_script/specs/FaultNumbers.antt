@@ -1,9 +1,9 @@
--- The numbers by which calls of C name a line's fault, those of `enum cdpatch_content`.
+-- The numbers of a line's errors in calls of C, which are those of `enum cdpatch_content`.
 use Rattle.std.specs.Prelude.{ℕ, ◌==◌, Option, Some, None, if◌then◌else◌}
 use Rattle.cd_script.specs.declared.fault.ScriptFault.{ScriptFault}
 use Rattle.cd_script.specs.declared.fault.ScriptFault.TheVariants as fault
 
--- the number of a fault
+-- the number of an error
 abbrev pub fault_number : ScriptFault → ℕ
 fault_number (fault.Head line) = 4
 fault_number (fault.Verb line) = 5
@@ -16,7 +16,7 @@ fault_number (fault.Address line) = 11
 fault_number (fault.TooMany line) = 12
 fault_number fault.NoMemory = 13
 
--- the fault of a number, in this line: the ten in their order, from 4 on
+-- the error with this number, in this line: the ten in their order, from 4 on
 abbrev pub fault_of : ℕ → ℕ → Option ScriptFault
 fault_of number line =
     if number == 4 then Some (fault.Head line)
@@ -31,7 +31,7 @@ fault_of number line =
     else if number == 13 then Some fault.NoMemory
     else None
 
--- the line that a fault is in; want of memory has none
+-- the line of an error, or 0 for lack of memory
 abbrev pub line_of : ScriptFault → ℕ
 line_of (fault.Head line) = line
 line_of (fault.Verb line) = line

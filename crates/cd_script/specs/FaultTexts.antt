@@ -1,10 +1,10 @@
--- What a script's faults are called.
+-- The messages of a script's errors.
 use Rattle.std.specs.Prelude.{ℕ, List, ◌++◌, codes, decimal}
 use Rattle.cd_script.specs.Limits.{offset_limit, patch_limit}
 use Rattle.cd_script.specs.declared.fault.ScriptFault.{ScriptFault}
 use Rattle.cd_script.specs.declared.fault.ScriptFault.TheVariants as script_fault
 
--- what is wrong, without the number of the line
+-- the message without the number of the line
 abbrev pub fault_text : ScriptFault → List ℕ
 fault_text (script_fault.Head line) = codes "no cdpatch 1 line"
 fault_text (script_fault.Verb line) = codes "unknown verb"

@@ -1,9 +1,9 @@
--- Bytes, as hex words spell them.
+-- The bytes that hex words spell.
 use Rattle.std.specs.Prelude.{ℕ, ◌+◌, ◌*◌, List, [], ◌∷◌, Option, Some, None, option_and_then}
 use Rattle.std.specs.Option.{unwrap_or}
 use Rattle.hex.specs.Hex.{hex_digit_value}
 
--- plumbing of `do`: if there is a value, what follows of it
+-- plumbing of `do`: continues with the value, if there is one
 infixl 10 ◌>>=◌
 abbrev pub ◌>>=◌ : {A B : Type 0} → Option A → (A → Option B) → Option B
 o >>= f = option_and_then f o
@@ -18,6 +18,6 @@ hex_bytes (high ∷ low ∷ rest) = do
   bytes ← hex_bytes rest
   Some ((h * 16 + l) ∷ bytes)
 
--- the bytes of a hex word, which is one
+-- the bytes of a word that is a hex word
 abbrev pub spelled_bytes : List ℕ → List ℕ
 spelled_bytes word = unwrap_or (hex_bytes word) []

@@ -1,4 +1,4 @@
--- The limits of the script language. Each number stands only here.
+-- The limits of the script language. Each number is defined only here.
 use Rattle.std.specs.Prelude.{ℕ, ◌-◌, ◌^◌}
 
 -- the most bytes of a text: 64 MiB

@@ -1,4 +1,4 @@
--- The patch of one line, or the line's fault.
+-- The patch of one line, or the error of the line.
 use Rattle.std.specs.Prelude.{ℕ, List, [], ◌∷◌, codes, Some, None, Result, Ok, Err, if◌then◌else◌}
 use Rattle.std.specs.Str.{bytes_eq}
 use Rattle.cd_script.specs.declared.fault.ScriptFault.{ScriptFault}
@@ -10,7 +10,7 @@ use Rattle.cd_script.specs.declared.version.Version.TheVariants.{One, Two}
 use Rattle.cd_script.specs.FirstFault.{◌>>=◌}
 use Rattle.cd_script.specs.Value.{number_at, offset_at, count_at, new_at, old_at, byte_at, address_at}
 
--- `set BLOCK OFFSET NEW`: the words are read from the left, and the first fault decides
+-- `set BLOCK OFFSET NEW`: the words are read from the left, and the first error decides
 unfoldable pub set_patch : ℕ → List ℕ → List ℕ → List ℕ → Result Patch ScriptFault
 set_patch line block offset new = do
   b ← number_at line block

@@ -3,7 +3,7 @@ use Rattle.std.specs.Prelude.{◌≡◌, ℕ, ◌==◌, nat_le, Bool, List, [], 
 use Rattle.std.specs.List.Sorted.{IsNonDecreasingBy, IsPermutation}
 use Rattle.cd_script.specs.PatchForm.{Patch}
 
--- p before the first patch whose block is not below its own, at the end if there is none
+-- inserts p before the first patch whose block is not below that of p, or at the end
 unfoldable pub insert_patch : Patch → List Patch → List Patch
 insert_patch p [] = p ∷ []
 insert_patch p (q ∷ qs) = if nat_le p.block q.block then p ∷ q ∷ qs else q ∷ insert_patch p qs
@@ -17,7 +17,7 @@ order (p ∷ ps) = insert_patch p (order ps)
 abbrev pub stands_in : ℕ → Patch → Bool
 stands_in block p = p.block == block
 
--- the blocks rise along the order
+-- the blocks never decrease along the order
 abbrev pub OrderRises : Type 0
 OrderRises = (ps : List Patch) → IsNonDecreasingBy (λ p. p.block) (order ps)
 
@@ -27,6 +27,6 @@ OrderKeepsTies =
     (ps : List Patch) (block : ℕ)
     → filter (stands_in block) (order ps) ≡ filter (stands_in block) ps
 
--- the order has the patches of the script, each as often
+-- the order is a permutation of the patches of the script
 abbrev pub OrderPermutes : Type 0
 OrderPermutes = (ps : List Patch) → IsPermutation ps (order ps)

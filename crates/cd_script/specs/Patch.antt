@@ -1,4 +1,4 @@
--- The limits that each patch of a script keeps.
+-- The limits of each patch of a script.
 use Rattle.std.specs.Prelude.{◌≡◌, ℕ, ◌<◌, ◌≤◌, List, length, All, IfSome}
 use Rattle.std.specs.List.Sorted.{IsNonDecreasingBy}
 use Rattle.cd_script.specs.PatchForm.{Edit, Patch}
@@ -6,14 +6,14 @@ use Rattle.cd_script.specs.declared.patch.Edit.TheVariants.{Put, Fill, Rebuild, 
 use Rattle.cd_script.specs.Address.{IsAddress}
 use Rattle.cd_script.specs.Limits.{bytes_limit, number_limit, offset_limit, patch_limit}
 
--- bytes, at least one and as many as a patch changes at most
+-- at least one byte, and at most as many as a patch may change
 pub record IsBytes (bytes : List ℕ) : Type 0 where
   pub some : 1 ≤ length bytes
   pub most : length bytes ≤ bytes_limit
   pub each : All (λ b. b < 256) bytes
 
--- an edit at an offset: its bytes within the limits, as many old bytes as new ones; a rebuild and
--- an address at 0
+-- an edit at an offset: its bytes are within the limits, with as many old bytes as new bytes, and
+-- the offset of a rebuild or of an address is 0
 abbrev pub IsEditAt : ℕ → Edit → Type 0
 IsEditAt offset (Put bytes was) =
     IsBytes bytes × IfSome was (λ old. IsBytes old × (length old ≡ length bytes))

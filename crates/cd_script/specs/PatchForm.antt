@@ -1,4 +1,4 @@
--- A patch, as every contract sees it, wherever its bytes stand.
+-- A patch as all contracts see it, wherever its bytes are stored.
 use Rattle.std.specs.Prelude.{ℕ, List, None}
 use Rattle.cd_script.specs.declared.patch.Patch.{Patch as AnyPatch}
 use Rattle.cd_script.specs.declared.patch.Edit.{Edit as AnyEdit}
@@ -8,7 +8,7 @@ use Rattle.cd_script.specs.declared.patch.Edit.TheVariants.{Put, Fill, Rebuild, 
 abbrev pub Patch : Type 0
 Patch = AnyPatch (List ℕ)
 
--- what it does
+-- the effect of a patch
 abbrev pub Edit : Type 0
 Edit = AnyEdit (List ℕ)
 

@@ -1,4 +1,4 @@
--- The patches of a script, or the fault of its first faulty line.
+-- The patches of a script, or the error of its first faulty line.
 use Rattle.std.specs.Prelude.{ℕ, ◌+◌, ◌==◌, nat_le, Bool, true, false, List, [], ◌∷◌, length, codes, Option, Some, None, Result, Ok, Err, if◌then◌else◌}
 use Rattle.std.specs.List.{cons_option}
 use Rattle.std.specs.Option.{option_to_list}
@@ -31,24 +31,24 @@ named_version word =
     else if bytes_eq word (codes "2") then Some Two
     else None
 
--- the words are `cdpatch` and that of a version
+-- the version of a head line, whose words are `cdpatch` and the number of the version
 abbrev pub head_version : List (List ℕ) → Option Version
 head_version (name ∷ version ∷ []) =
     if bytes_eq name (codes "cdpatch") then named_version version else None
 head_version other = None
 
--- a well-formed patch after `earlier` others: if these are as many as a script may have, it is one
--- too many
+-- a well-formed patch after `earlier` others, or the error that these are as many as a script may
+-- have
 abbrev pub at_limit : ℕ → ℕ → Patch → Result (Option Patch) ScriptFault
 at_limit line earlier p = if nat_le patch_limit earlier then Err (TooMany line) else Ok (Some p)
 
--- the patch of a line after `earlier` others, none if the line is blank or a comment
+-- the patch of a line after `earlier` others, or none if the line is blank or a comment
 unfoldable pub line_at : Version → ℕ → ℕ → List ℕ → Result (Option Patch) ScriptFault
 line_at version line earlier text =
     if is_passed_over (words text) then Ok None
     else patch_by version line (words text) >>= at_limit line earlier
 
--- the patches of the lines after the head line, of which the first has the number `line`, after
+-- the patches of the lines after the head line, the first of which has the number `line`, after
 -- `earlier` patches
 unfoldable pub patches_from : Version → ℕ → ℕ → List (List ℕ) → Result (List Patch) ScriptFault
 patches_from version line earlier [] = Ok []
@@ -57,12 +57,12 @@ patches_from version line earlier (text ∷ rest) = do
   others ← patches_from version (line + 1) (earlier + length (option_to_list found)) rest
   Ok (cons_option found others)
 
--- the patches of the lines after one that may be the head line
+-- the patches of the lines after a line that may be the head line
 abbrev pub patches_after : ℕ → Option Version → List (List ℕ) → Result (List Patch) ScriptFault
 patches_after line None rest = Err (Head line)
 patches_after line (Some version) rest = patches_from version (line + 1) 0 rest
 
--- the patches of lines, of which the first has the number `line`: those after the head line
+-- the patches after the head line of these lines, the first of which has the number `line`
 unfoldable pub script_from : ℕ → List (List ℕ) → Result (List Patch) ScriptFault
 script_from line [] = Err (Head line)
 script_from line (text ∷ rest) =

@@ -1,10 +1,10 @@
--- How many patches a text has at most; the law is a contract of `laws.rt`.
+-- The largest number of patches of a text. The law is a contract in `laws.rt`.
 use Rattle.std.specs.Prelude.{ℕ, ◌≤◌, List, length, IfOk}
 use Rattle.std.specs.Str.Lines.{lines}
 use Rattle.cd_script.specs.Limits.{patch_limit}
 use Rattle.cd_script.specs.Script.{script}
 
--- no more than it has lines, and than a script may have
+-- a script has no more patches than it has lines, and no more than `patch_limit`
 abbrev pub ScriptIsShort : Type 0
 ScriptIsShort =
     (text : List ℕ)

@@ -1,4 +1,4 @@
--- The text that spells patches.
+-- The text that spells a list of patches.
 use Rattle.std.specs.Prelude.{◌≡◌, ℕ, ◌+◌, ◌/◌, ◌%◌, ◌≤◌, Bool, true, false, List, [], ◌∷◌, ◌++◌, length, codes, All, Some, None, Ok}
 use Rattle.std.specs.Fmt.{decimal}
 use Rattle.std.specs.List.{flat_map, join_with_byte}
@@ -38,7 +38,7 @@ edit_words block offset (Fill count value) =
 edit_words block offset Rebuild = codes "rebuild" ∷ decimal block ∷ []
 edit_words block offset (Address bcd) = codes "address" ∷ decimal block ∷ address_word bcd ∷ []
 
--- words with a space between each two, and a line feed
+-- words separated by spaces, and a line feed at the end
 abbrev pub spelled_line : List (List ℕ) → List ℕ
 spelled_line ws = join_with_byte 32 ws ++ 10 ∷ []
 
@@ -56,7 +56,7 @@ abbrev pub spelling : Version → List Patch → List ℕ
 spelling version ps =
     spelled_line (codes "cdpatch" ∷ version_word version ∷ []) ++ flat_map spelled_patch ps
 
--- a version has a form for an edit: the first has none for an address
+-- whether a version has a form for an edit; the first version has none for an address
 abbrev pub has_form : Version → Edit → Bool
 has_form One (Put bytes was) = true
 has_form One (Fill count value) = true
@@ -64,13 +64,13 @@ has_form One Rebuild = true
 has_form One (Address bcd) = false
 has_form Two edit = true
 
--- the patches as those of neighbouring lines, of which the first has the number `line`
+-- the patches with the numbers of consecutive lines, the first of which has the number `line`
 unfoldable pub on_lines_from : ℕ → List Patch → List Patch
 on_lines_from line [] = []
 on_lines_from line (p ∷ ps) = record p { line = line } ∷ on_lines_from (line + 1) ps
 
--- the text that spells patches, in a version that has forms for them, is a script of just these, on
--- the lines after the head line
+-- the text that spells patches, in a version that has forms for them, is a script of exactly these
+-- patches, on the lines after the head line
 abbrev pub SpellingReads : Type 0
 SpellingReads =
     (version : Version) (ps : List Patch) → All IsPatch ps

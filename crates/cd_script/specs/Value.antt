@@ -1,4 +1,4 @@
--- The value of one word of a line, or the word's fault.
+-- The value of one word of a line, or the error of the word.
 use Rattle.std.specs.Prelude.{ℕ, ◌==◌, ◌&&◌, nat_le, List, [], ◌∷◌, length, ok_or, Result, Ok, Err, if◌then◌else◌}
 use Rattle.cd_script.specs.declared.fault.ScriptFault.{ScriptFault}
 use Rattle.cd_script.specs.declared.fault.ScriptFault.TheVariants.{Address, Number, Hex, Length, Offset}
@@ -8,21 +8,21 @@ use Rattle.cd_script.specs.Number.{number}
 use Rattle.cd_script.specs.Hex.{hex_bytes}
 use Rattle.cd_script.specs.FirstFault.{◌>>=◌}
 
--- a number, or its fault
+-- a number, or its error
 unfoldable pub number_at : ℕ → List ℕ → Result ℕ ScriptFault
 number_at line word = ok_or (number word) (Number line)
 
--- the bytes of a hex word, or its fault
+-- the bytes of a hex word, or its error
 unfoldable pub hex_at : ℕ → List ℕ → Result (List ℕ) ScriptFault
 hex_at line word = ok_or (hex_bytes word) (Hex line)
 
--- an offset in a block, or a fault
+-- an offset in a block, or an error
 unfoldable pub offset_at : ℕ → List ℕ → Result ℕ ScriptFault
 offset_at line word = do
   offset ← number_at line word
   if nat_le offset offset_limit then Ok offset else Err (Offset line)
 
--- a count of bytes that a patch may change, or a fault
+-- a count of bytes that a patch may change, or an error
 unfoldable pub count_at : ℕ → List ℕ → Result ℕ ScriptFault
 count_at line word = do
   count ← number_at line word
@@ -36,7 +36,7 @@ new_at line word = do
       then Ok bytes
       else Err (Length line)
 
--- as many old bytes as there are new ones
+-- old bytes, as many as the new bytes, or an error
 unfoldable pub old_at : ℕ → List ℕ → List ℕ → Result (List ℕ) ScriptFault
 old_at line new word = do
   bytes ← hex_at line word
@@ -47,10 +47,10 @@ abbrev pub only_byte : ℕ → List ℕ → Result ℕ ScriptFault
 only_byte line (b ∷ []) = Ok b
 only_byte line other = Err (Length line)
 
--- one byte, as a fill writes it, or a fault
+-- the single byte that a fill writes, or an error
 unfoldable pub byte_at : ℕ → List ℕ → Result ℕ ScriptFault
 byte_at line word = hex_at line word >>= only_byte line
 
--- the three bytes of `MM:SS:FF`, or the fault
+-- the three bytes of `MM:SS:FF`, or the error
 unfoldable pub address_at : ℕ → List ℕ → Result (List ℕ) ScriptFault
 address_at line word = ok_or (address_bytes word) (Address line)

@@ -1,4 +1,4 @@
-//! One line of a script, read by itself.
+//! Reads one line of a script by itself.
 
 ghost use Rattle.std.specs.Prelude.{◌≡◌, IfOk, None, Some};
 ghost use Rattle.cd_script.specs.ByLine.{KeepsToLimits, head_meaning, meaning_at, patch_meaning};
@@ -8,18 +8,18 @@ use crate::hex_patch::HexPatch;
 use crate::script::{head_on_line, patch_on_line};
 use crate::version::Version;
 
-/// What one line of a script says.
+/// The content of one line of a script.
 #[derive(Drop)]
 pub enum LineContent<'a> {
-    /// Nothing: it is blank, or a comment.
+    /// The line is blank or a comment.
     PassedOver,
-    /// It is the head line, which names this version.
+    /// The line is the head line, with this version.
     Head(Version),
-    /// It has this patch.
+    /// The line has this patch.
     Patch(HexPatch<'a>),
 }
 
-/// What a line says that names this version.
+/// Converts the version that was found in a line, if any, to the content of the line.
 fn head_content<'a>(found: Option<Version>) -> LineContent<'a>
     ensures { result ≡ head_meaning found }
 {
@@ -29,7 +29,7 @@ fn head_content<'a>(found: Option<Version>) -> LineContent<'a>
     }
 }
 
-/// What a line says that has this patch.
+/// Converts the patch that was found in a line, if any, to the content of the line.
 fn patch_content(found: Option<HexPatch<'_>>) -> LineContent<'_>
     ensures { result ≡ patch_meaning found.entry }
 {
@@ -39,7 +39,7 @@ fn patch_content(found: Option<HexPatch<'_>>) -> LineContent<'_>
     }
 }
 
-/// What a line says if there was no head line before.
+/// Reads a line that no head line precedes.
 fn content_above<'a>(line: u32, text: &[u8]) -> Result<LineContent<'a>, ScriptFault>
     ensures { result ≡ meaning_at None line 0 text.now }
 {
@@ -47,7 +47,7 @@ fn content_above<'a>(line: u32, text: &[u8]) -> Result<LineContent<'a>, ScriptFa
     Ok(head_content(found))
 }
 
-/// What a line says after a head line of this version and `earlier` patches.
+/// Reads a line after a head line with this version and `earlier` patches.
 fn content_below<'a>(
     version: Version,
     line: u32,
@@ -60,16 +60,16 @@ fn content_below<'a>(
     Ok(patch_content(found))
 }
 
-/// What the bytes of one line say, without the line's end: for a reader that has one line in hand
-/// at a time. Takes no memory.
+/// Reads one line of a script, without its line end, for a reader that receives one line at a time.
+/// It allocates no memory.
 ///
-/// `version` is that of the head line, `None` if there was none before; `line` is the line's number,
-/// counted from 1; `earlier` is how many patches were read before. A text without a head line has
-/// [`ScriptFault::Head`] after its last line, which is for the reader to see.
+/// `version` is the version of the head line, `None` if there was none before. `line` is the number
+/// of the line, counted from 1. `earlier` is the number of patches before it. The reader itself
+/// must notice that a text has no head line, which is [`ScriptFault::Head`] after its last line.
 ///
 /// # Errors
 ///
-/// The line's fault, never [`ScriptFault::NoMemory`].
+/// The error of the line, which is never [`ScriptFault::NoMemory`].
 ///
 /// # Examples
 ///

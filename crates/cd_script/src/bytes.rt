@@ -1,11 +1,11 @@
-//! The bytes of a patch.
+//! The bytes of a patch, owned or borrowed.
 
 ghost use Rattle.std.specs.Prelude.{◌≡◌};
 
 use std::marker::Model;
 
-/// The bytes of a patch. A type of its own, since contracts see it as a list, and so patches are
-/// compared with the definition's as they stand.
+/// The bytes of a patch, owned. Contracts see this type as a list, so a patch is compared directly
+/// with a patch of the definitions.
 #[derive(Debug, Drop)]
 pub struct PatchBytes {
     octets: Vec<u8>,
@@ -20,14 +20,14 @@ impl Model for PatchBytes {
 }
 
 impl PatchBytes {
-    /// These bytes.
+    /// Wraps the bytes of a patch.
     pub(crate) fn new(octets: Vec<u8>) -> Self
         ensures { result ≡ octets.items }
     {
         PatchBytes { octets }
     }
 
-    /// The bytes, borrowed.
+    /// The bytes as a slice.
     ///
     /// # Examples
     ///
@@ -45,7 +45,7 @@ impl PatchBytes {
     }
 }
 
-/// The bytes of a patch, borrowed: of a patch that takes no memory of its own.
+/// The bytes of a patch, borrowed, so that the patch needs no memory of its own for them.
 #[derive(Drop)]
 pub struct LentBytes<'a> {
     octets: &'a [u8],
@@ -60,7 +60,7 @@ impl<'a> Model for LentBytes<'a> {
 }
 
 impl<'a> LentBytes<'a> {
-    /// These bytes.
+    /// Wraps borrowed bytes.
     ///
     /// # Examples
     ///
@@ -74,7 +74,7 @@ impl<'a> LentBytes<'a> {
         LentBytes { octets }
     }
 
-    /// The bytes.
+    /// The bytes as a slice.
     ///
     /// See the example of [`LentBytes::new`].
     pub fn as_slice(&self) -> &'a [u8]

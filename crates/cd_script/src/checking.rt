@@ -1,4 +1,4 @@
-//! Whether a patch that was made elsewhere keeps to the limits of the language.
+//! Checks whether a patch that was not read from a script keeps to the limits of the language.
 
 ghost use Rattle.std.specs.Prelude.{◌≤◌, ◌↔◌, IsTrue};
 ghost use Rattle.cd_script.specs.Address.{IsAddress, IsBcd};
@@ -8,7 +8,7 @@ use crate::bytes::LentBytes;
 use crate::limits::{FRACTIONS, MAX_BYTES, MAX_NUMBER, MAX_OFFSET, MINUTES, SECONDS};
 use crate::patch::{Patch, is_edit_at};
 
-/// Whether a byte is a number below a limit of at most 100, in BCD.
+/// Whether a byte is a number in BCD below a limit, which is at most 100.
 fn is_bcd(limit: u8, byte: u8) -> bool
     requires { limit ≤ 100 }
     ensures { IsTrue result ↔ IsBcd limit byte }
@@ -24,7 +24,7 @@ pub(crate) fn is_address(bcd: &[u8; 3]) -> bool
     is_bcd(MINUTES, minute) && is_bcd(SECONDS, second) && is_bcd(FRACTIONS, fraction)
 }
 
-/// Whether these are at least one byte, and as many as a patch changes at most.
+/// Whether the number of bytes is from 1 to `MAX_BYTES`.
 pub(crate) fn are_bytes(bytes: &[u8]) -> bool
     ensures { IsTrue result ↔ IsBytes bytes.now }
 {
@@ -32,7 +32,7 @@ pub(crate) fn are_bytes(bytes: &[u8]) -> bool
 }
 
 /// Whether a patch keeps to the limits of the language, as each patch of a script does: its block,
-/// offset, count and address, and as many old bytes as new ones.
+/// offset, count, and address, and as many old bytes as new bytes.
 ///
 /// # Examples
 ///

@@ -1,4 +1,4 @@
-//! Cutting a script's text into its lines.
+//! Splits the text of a script into lines.
 
 ghost use Rattle.std.specs.Prelude.{◌≡◌, ℕ, ◌==◌, ◌∷◌, ◌<◌, ◌≤◌, ◌⊎◌, [], IfNone, IfSome, Some, drop, length, slice_index, take, true};
 ghost use Rattle.std.specs.Str.Lines.{lines, strip_carriage_return};
@@ -7,26 +7,26 @@ ghost use Rattle.memchr.specs.Find.{IsFirstByte, Nowhere, Passes};
 
 use memchr::memchr;
 
-/// Where a line at the front of a text ends, and where the next one begins. Laid out as C's
-/// `struct cdpatch_line`.
+/// The size of the first line of a text, without its line end and with it. It has the layout of
+/// `struct cdpatch_line` of C.
 #[derive(Clone, Copy, Debug, PartialEq, Eq)]
 #[repr(C)]
 pub struct TextLine {
-    /// How many bytes the line has without its end.
+    /// The number of bytes of the line without its line end.
     pub size: usize,
-    /// How many it has with its end.
+    /// The number of bytes of the line with its line end.
     pub taken: usize,
 }
 
-/// As many bytes of a line are looked at without `memchr`, which takes some forty instructions before
-/// it looks at one, and hundreds in a WebAssembly module.
+/// The number of bytes of a line that are searched before `memchr` is called. `memchr` needs some
+/// forty instructions before it reads a byte, and hundreds in a WebAssembly module.
 const SHORT: usize = 32;
 
 /// The bit 32 of each of eight bytes.
 const BITS: u64 = 0x2020_2020_2020_2020;
 
-/// Whether each of eight bytes has the bit 32 or the bit 64. All letters, digits and signs of ASCII
-/// have one of them, and so has a space; a line feed has none.
+/// Whether each of eight bytes has the bit 32 or the bit 64. All letters, digits, and signs of
+/// ASCII have at least one of these bits, and so has a space. A line feed has neither.
 fn are_printed(bytes: &[u8; 8]) -> bool
     ensures { result ≡ true → (k : ℕ) → k < 8 → ¬ (slice_index bytes.now k ≡ 10) }
 {
@@ -34,7 +34,8 @@ fn are_printed(bytes: &[u8; 8]) -> bool
     (word | word >> 1) & BITS == BITS
 }
 
-/// How many bytes at the front of a text were passed by eights, as no line feed is among them.
+/// Skips bytes at the front of a text, eight at a time, as long as a quick test shows that they are
+/// not line feeds. Returns the number of these bytes.
 fn passed_by_eights(text: &[u8]) -> usize
     ensures none { Nowhere (Passes (λ b. b == 10) text.now) 0 result }
     ensures within { result ≤ length text.now }
@@ -51,7 +52,8 @@ fn passed_by_eights(text: &[u8]) -> usize
     passed
 }
 
-/// The place of the first line feed, if it ends a short line; `None` if that was not found out.
+/// The place of the first line feed, if it ends a short line. `None` means only that it was not
+/// found here.
 fn find_near_feed(text: &[u8]) -> Option<usize>
     ensures { IfSome result (λ feed. IsFirstByte (λ b. b == 10) text.now (Some feed)) }
 {
@@ -77,7 +79,7 @@ fn find_feed(text: &[u8]) -> Option<usize>
     }
 }
 
-/// How many bytes a line has of those before its line feed: not a carriage return that is the last.
+/// The number of bytes of a line, without a carriage return directly before the line feed.
 fn size_before_feed(line: &[u8]) -> usize
     ensures line { take result line.now ≡ strip_carriage_return line.now }
     ensures end { (drop result line.now ≡ []) ⊎ (drop result line.now ≡ 13 ∷ []) }
@@ -89,8 +91,8 @@ fn size_before_feed(line: &[u8]) -> usize
     }
 }
 
-/// The first line of a text, `None` if the text is empty. A line ends with a line feed, and with one
-/// carriage return directly before it, or where the text ends.
+/// The first line of a text; `None` if the text is empty. A line ends with a line feed, or with a
+/// carriage return and a line feed, or at the end of the text.
 ///
 /// # Examples
 ///

@@ -1,4 +1,4 @@
-//! Why a script is refused.
+//! The errors for which a script is refused.
 
 ghost use Rattle.std.specs.Prelude.{◌≡◌, ◌<◌, ◌≤◌, IfSome, Some, length};
 ghost use Rattle.cd_script.specs.FaultNumbers.{fault_number, fault_of, line_of};
@@ -8,24 +8,24 @@ ghost use Rattle.cd_script.specs.declared.fault.ScriptFault.TheVariants.{NoMemor
 use std::alloc::{AllocError, AllocFailed};
 use thiserror::Error;
 
-/// The fault of the first faulty line, with that line's number, counted from 1.
+/// The error of the first faulty line, with the number of that line, counted from 1.
 #[derive(Clone, Copy, Debug, PartialEq, Eq, Error)]
 #[error("{}", self.text())]
 pub enum ScriptFault {
-    /// The first line that is neither blank nor a comment is not the head line, or there is none:
-    /// then the number of lines and one more. The message names version 1 even if a script names a
-    /// version that does not exist.
+    /// The first line that is neither blank nor a comment is not the head line. If there is no such
+    /// line, the number is one more than the number of lines. The message names version 1 even if
+    /// the script names a version that does not exist.
     Head(u32),
-    /// The first word is not a verb. So is a second head line.
+    /// The first word is not a verb. A second head line is this error too.
     Verb(u32),
-    /// The verb does not take this number of words, or the fifth of six is not `was`.
+    /// The number of words is wrong for the verb, or the fifth of six words is not `was`.
     Words(u32),
     /// A number is not written with 1 to [`MAX_DIGITS`](crate::MAX_DIGITS) decimal digits.
     Number(u32),
     /// A hex word has an odd number of digits, or a byte that is not a hex digit.
     Hex(u32),
-    /// A count of 0 or over [`MAX_BYTES`](crate::MAX_BYTES), no new bytes or more than that, old
-    /// bytes that are not as many as the new ones, or a fill byte that is not one byte.
+    /// A count is 0 or over [`MAX_BYTES`](crate::MAX_BYTES), there are no new bytes or more than
+    /// that, there are not as many old bytes as new bytes, or a fill byte is not one byte.
     Length(u32),
     /// An offset over [`MAX_OFFSET`](crate::MAX_OFFSET).
     Offset(u32),
@@ -34,15 +34,15 @@ pub enum ScriptFault {
     Address(u32),
     /// A well-formed patch after [`MAX_PATCHES`](crate::MAX_PATCHES) others.
     TooMany(u32),
-    /// Memory was refused.
+    /// Memory could not be allocated.
     NoMemory,
 }
 
-/// The line of a fault that is in none.
+/// The line number of an error that is not in a line.
 const NO_LINE: u32 = 0;
 
 impl ScriptFault {
-    /// The number by which calls of C name it: 4 to 13, in the order of the variants.
+    /// The number of the error in calls of C: 4 to 13, in the order of the variants.
     ///
     /// # Examples
     ///
@@ -73,7 +73,7 @@ impl ScriptFault {
         }
     }
 
-    /// The number of its line, counted from 1; 0 if memory was refused.
+    /// The number of the line with the error, counted from 1; 0 if memory could not be allocated.
     ///
     /// See the example of [`ScriptFault::number`].
     pub fn line(self) -> u32
@@ -93,7 +93,7 @@ impl ScriptFault {
         }
     }
 
-    /// What is wrong, without the number of the line: the text that `Display` writes.
+    /// The message of the error without the line number: the text that `Display` writes.
     ///
     /// See the example of [`ScriptFault::number`].
     pub fn text(self) -> &'static str
@@ -114,7 +114,7 @@ impl ScriptFault {
         }
     }
 
-    /// The fault that a number names, in this line.
+    /// The error with this number, in this line; `None` for any other number.
     ///
     /// See the example of [`ScriptFault::number`].
     pub fn of_number(number: u32, line: u32) -> Option<Self>

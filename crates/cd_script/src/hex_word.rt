@@ -1,4 +1,4 @@
-//! Hex words, checked and not yet decoded.
+//! Hex words that are checked but not decoded yet.
 
 ghost use Rattle.std.specs.Prelude.{◌≡◌, ◌≤◌, ◌∷◌, ◌++◌, [], IfOk, drop, length};
 ghost use Rattle.std.specs.List.{list_all};
@@ -9,7 +9,7 @@ use crate::bytes::PatchBytes;
 use std::alloc::{AllocError, Global};
 use std::marker::Model;
 
-/// An even number of hex digits, in either case. Contracts see the bytes that they spell.
+/// An even number of hex digits, in either case. Contracts see the bytes that the digits spell.
 #[derive(Drop)]
 pub struct HexWord<'a> {
     digits: &'a [u8],
@@ -31,7 +31,7 @@ fn are_hex_digits(word: &[u8]) -> bool
     ensures { result ≡ list_all is_hex_digit word.now }
 {
     let mut all = true;
-    // Without an early return the compiler makes vector instructions of the loop.
+    // Without an early return the compiler vectorises the loop.
     for digit in word {
         all &= digit.is_ascii_hexdigit();
     }
@@ -39,7 +39,7 @@ fn are_hex_digits(word: &[u8]) -> bool
 }
 
 impl<'a> HexWord<'a> {
-    /// The hex word, if the bytes of this word are one.
+    /// Checks a word; `None` if it is not an even number of hex digits.
     pub(crate) fn new(word: &'a [u8]) -> Option<HexWord<'a>>
         ensures { result ≡ hex_bytes word.now }
     {
@@ -52,7 +52,7 @@ impl<'a> HexWord<'a> {
         Some(HexWord { digits: word })
     }
 
-    /// How many bytes it spells.
+    /// The number of bytes that the word spells.
     ///
     /// See the example of [`HexWord::decode_to`].
     pub fn len(&self) -> usize
@@ -61,7 +61,7 @@ impl<'a> HexWord<'a> {
         self.digits.len() / 2
     }
 
-    /// The byte that it spells, if it spells just one.
+    /// Decodes a word that spells exactly one byte.
     pub(crate) fn only_byte(&self) -> u8
         requires { length self.now ≡ 1 }
         ensures { self.now ≡ result ∷ [] }
@@ -71,7 +71,8 @@ impl<'a> HexWord<'a> {
         octets[0]
     }
 
-    /// Writes the bytes that it spells to the front of a room that holds them.
+    /// Decodes the word to the front of `room`, which must be large enough. The rest of `room` does
+    /// not change.
     ///
     /// # Examples
     ///
@@ -96,7 +97,7 @@ impl<'a> HexWord<'a> {
         hex::decode_to_slice(self.digits, &mut room[..count]).unwrap();
     }
 
-    /// The bytes that it spells.
+    /// Decodes the word to newly allocated bytes.
     pub(crate) fn decode(&self, alloc: Global) -> Result<PatchBytes, AllocError>
         ensures { IfOk result (λ bytes. bytes ≡ self.now) }
     {

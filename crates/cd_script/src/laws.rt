@@ -1,4 +1,4 @@
-//! Laws of the script language, each the contract of a function that does nothing.
+//! Laws of the script language. Each law is the contract of a function that does nothing.
 
 ghost use Rattle.std.specs.Prelude.{◌≡◌};
 ghost use Rattle.cd_script.specs.ByLine.{ReadsByLine};
@@ -10,7 +10,7 @@ ghost use Rattle.cd_script.specs.Versions.{FirstStays, SecondExtends};
 
 use crate::limits::{MAX_BYTES, MAX_DIGITS, MAX_NUMBER, MAX_OFFSET, MAX_PATCHES, MAX_TEXT};
 
-/// The limits of the code are those of the language.
+/// The limits in the code are the limits of the language.
 pub fn limits_agree()
     ensures text { MAX_TEXT ≡ text_limit }
     ensures patches { MAX_PATCHES ≡ patch_limit }
@@ -20,42 +20,43 @@ pub fn limits_agree()
     ensures number { MAX_NUMBER ≡ number_limit }
 {}
 
-/// The blocks rise along the order.
+/// In the order of application the blocks of the patches never decrease.
 pub fn order_rises()
     ensures { OrderRises }
 {}
 
-/// Patches of one block keep the script's order.
+/// Patches that begin in the same block keep the order of the script.
 pub fn order_keeps_ties()
     ensures { OrderKeepsTies }
 {}
 
-/// The order has the patches of the script, each as often.
+/// The order of application is a permutation of the patches of the script.
 pub fn order_permutes()
     ensures { OrderPermutes }
 {}
 
-/// The text that spells patches is a script of just these.
+/// The text that spells a list of patches is a script of exactly these patches.
 pub fn spelling_reads()
     ensures { SpellingReads }
 {}
 
-/// A text whose head line is not `cdpatch 2` means what it meant when there was no version but the first.
+/// A text whose head line is not `cdpatch 2` means the same as when version 1 was the only version.
 pub fn first_stays()
     ensures { FirstStays }
 {}
 
-/// Lines without the verb `address` say in version 2 what they say in version 1.
+/// Lines without the verb `address` mean the same in version 2 as in version 1.
 pub fn second_extends()
     ensures { SecondExtends }
 {}
 
-/// A text whose lines are read one after the other, each by itself, gives its script or first fault.
+/// If the lines of a text are read one after the other, each by itself, the result is its script or
+/// its first error.
 pub fn reads_by_line()
     ensures { ReadsByLine }
 {}
 
-/// A script has no more patches than lines, and than the language allows.
+/// A script has no more patches than it has lines, and no more than the language allows.
 pub fn script_is_short()
     ensures { ScriptIsShort }
 {}

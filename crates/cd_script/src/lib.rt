@@ -1,25 +1,28 @@
-//! The patch script language, versions 1 and 2: what a script's text says, or its first fault.
+//! Reads scripts in the patch language, versions 1 and 2: the patches of a text, or its first
+//! error.
 //!
-//! A text is cut into lines at each line feed; the line feed, and one carriage return directly before
-//! it, belong to no line, and what follows the last line feed is a line if it is not empty. A
-//! line's words are its parts without space and tab. Lines without words, and lines whose first word
-//! begins with `#`, are passed over, but counted. The first other line is the head line,
-//! `cdpatch 1` or `cdpatch 2`, which names the version; each later one is a patch:
+//! A text is split into lines at each line feed. The line feed, and one carriage return directly
+//! before it, do not belong to a line. The bytes after the last line feed, if any, are a line too.
+//! The words of a line are its parts between spaces and tabs. Lines without words, and lines whose
+//! first word begins with `#`, are skipped, but counted. The first other line is the head line,
+//! `cdpatch 1` or `cdpatch 2`, which names the version. Each later line is a patch:
 //!
 //! - `set BLOCK OFFSET NEW`: user bytes from that offset of that block become NEW;
-//! - `set BLOCK OFFSET NEW was OLD`: they become NEW, if they are OLD before;
+//! - `set BLOCK OFFSET NEW was OLD`: these bytes become NEW, if they are OLD before;
 //! - `fill BLOCK OFFSET COUNT BYTE`: COUNT user bytes become BYTE;
-//! - `rebuild BLOCK`: EDC, Intermediate and parity of the block are computed again;
-//! - `address BLOCK MM:SS:FF`, only in version 2: the address in the header of the block becomes this one.
+//! - `rebuild BLOCK`: EDC, Intermediate, and parity of the block are recalculated;
+//! - `address BLOCK MM:SS:FF`, only in version 2: the header of the block gets this address.
 //!
-//! BLOCK, OFFSET (0 to [`MAX_OFFSET`]) and COUNT (1 to [`MAX_BYTES`]) are 1 to [`MAX_DIGITS`] decimal digits.
-//! NEW (1 to [`MAX_BYTES`] bytes), OLD (as many bytes as NEW) and BYTE (one byte) are two hex digits for each
-//! byte, in either case. MM (00 to 99), SS (00 to 59) and FF (00 to 74) are two decimal digits each. A text has
-//! at most [`MAX_TEXT`] bytes, and a script at most [`MAX_PATCHES`] patches.
+//! BLOCK, OFFSET (0 to [`MAX_OFFSET`]), and COUNT (1 to [`MAX_BYTES`]) are 1 to [`MAX_DIGITS`]
+//! decimal digits. NEW (1 to [`MAX_BYTES`] bytes), OLD (as many bytes as NEW), and BYTE (one byte)
+//! are two hex digits for each byte, in either case. MM (00 to 99), SS (00 to 59), and FF (00 to
+//! 74) are two decimal digits each. A text has at most [`MAX_TEXT`] bytes, and a script at most
+//! [`MAX_PATCHES`] patches.
 //!
-//! The first faulty line decides. In a line the verb is tested first, then the number of words, then the
-//! words from the left, and last of all whether the patch is one too many. A script's patches are ordered
-//! by their first blocks, those of one block as in the script; offsets play no part.
+//! The error of a text is the error of its first faulty line. In a line the verb is tested first,
+//! then the number of words, then the words from the left, and last whether the script has too many
+//! patches. The patches of a script are sorted by their first blocks. Patches with the same first
+//! block keep the order of the script, whatever their offsets.
 //!
 //! [`parse`] reads a text, and returns a [`Script`] or the [`ScriptFault`] of its first faulty line:
 //!
@@ -28,8 +31,9 @@
 //! assert_eq!(rt; script.patches().first().map(|patch| patch.block), Some(5)); // then that of 16
 //! ```
 //!
-//! A reader that has no memory, or one line in hand at a time, cuts a text by [`first_line`] and reads
-//! each line by [`read_line`]; the law [`reads_by_line`] says that this gives the same.
+//! A reader that has no memory, or that receives one line at a time, splits a text with
+//! [`first_line`] and reads each line with [`read_line`]. The law [`reads_by_line`] says that the
+//! result is the same.
 //!
 //! Tests: `crates/cd_low_tests/src/tests/scripts.rt`.
 #![tactic(auto)]

@@ -1,4 +1,4 @@
-//! The forms of a line of a script.
+//! Reads the words of a line: the forms of patches.
 #![tactic(auto, using(crate::proofs::FormLemmas::forms))]
 
 ghost use Rattle.std.specs.Prelude.{◌≡◌, map};
@@ -32,7 +32,7 @@ fn set_patch<'a>(
     })
 }
 
-/// `set BLOCK OFFSET NEW was OLD`, from the words after the verb but `was`.
+/// `set BLOCK OFFSET NEW was OLD`, from the words after the verb, without `was`.
 #[tactic(auto, unfolding(crate::specs::Line::set_if_patch))]
 fn set_if_patch<'a>(
     line: u32,
@@ -109,7 +109,7 @@ fn address_patch<'a>(line: u32, block: &[u8], address: &[u8]) -> Result<HexPatch
     })
 }
 
-/// `set ..`: the form that has this number of words after the verb.
+/// `set ..`: selects the form by the number of words after the verb.
 fn set_line<'a>(line: u32, words: &[&'a [u8]]) -> Result<HexPatch<'a>, ScriptFault>
     ensures { result ≡ set_line line (map (λ w. w.now) words.now) }
 {
@@ -143,7 +143,7 @@ fn rebuild_line<'a>(line: u32, words: &[&'a [u8]]) -> Result<HexPatch<'a>, Scrip
 }
 
 /// `address ..`: two words after the verb. Their number is tested first, then the block, then the
-/// address, and last whether the patch is one too many.
+/// address, and last whether the script has too many patches.
 fn address_line<'a>(line: u32, words: &[&'a [u8]]) -> Result<HexPatch<'a>, ScriptFault>
     ensures { result ≡ address_line line (map (λ w. w.now) words.now) }
 {
@@ -169,8 +169,8 @@ fn first_patch_of<'a>(line: u32, words: &[&'a [u8]]) -> Result<HexPatch<'a>, Scr
     }
 }
 
-/// The patch that the words of this line spell. Version 2 has one verb more; everything else passes
-/// on to version 1, whose definition stands as it was.
+/// The patch that the words of this line spell. Version 2 has one more verb. All other lines are
+/// read as in version 1, whose definition is unchanged.
 #[tactic(auto, using(crate::proofs::FormLemmas::forms), unfolding(crate::specs::Line::patch_by))]
 pub(crate) fn patch_of<'a>(
     version: Version,

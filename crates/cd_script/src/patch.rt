@@ -1,5 +1,5 @@
-//! One patch of a script, and what is alike for all who take one apart: how it gets its bytes, the
-//! limits of its edit, and the patch without its old bytes.
+//! A patch of a script, and operations on it: decoding its bytes, checking the limits of its edit,
+//! borrowing its bytes, and removing its old bytes.
 
 ghost use Rattle.std.specs.Prelude.{◌≡◌, ◌≤◌, ◌↔◌, IfOk, IsTrue, length};
 ghost use Rattle.cd_script.specs.declared.patch.Edit.TheVariants.{Fill, Put};
@@ -12,9 +12,9 @@ use crate::hex_word::HexWord;
 use crate::limits::MAX_BYTES;
 use std::alloc::{AllocError, Global};
 
-/// A patch: where it stands in the script, where it begins, and what it does there. Its bytes are its
-/// own, as those of a script's patches are, or are borrowed: decoded ([`LentBytes`]), or as the hex
-/// digits of its line ([`HexWord`](crate::HexWord)).
+/// A patch: its line in the script, the place where it begins, and its effect. Its bytes are owned,
+/// as in the patches of a script, or borrowed: decoded ([`LentBytes`]), or as the hex digits of its
+/// line ([`HexWord`](crate::HexWord)).
 #[derive(Debug, Drop)]
 pub struct Patch<B = PatchBytes> {
     /// The number of its line in the script, counted from 1.
@@ -24,37 +24,38 @@ pub struct Patch<B = PatchBytes> {
     /// The user byte of that block at which it begins, 0 to [`MAX_OFFSET`](crate::MAX_OFFSET); 0 for a
     /// rebuild or an address.
     pub offset: u16,
-    /// What it does.
+    /// The effect of the patch.
     pub edit: Edit<B>,
 }
 
-/// What a patch does to the user bytes from its offset on, or to its block.
+/// The effect of a patch on the user bytes from its offset on, or on its block.
 #[derive(Debug, Drop)]
 pub enum Edit<B = PatchBytes> {
-    /// User bytes become others.
+    /// Replaces user bytes.
     Put {
         /// The new bytes, 1 to [`MAX_BYTES`](crate::MAX_BYTES) of them.
         bytes: B,
-        /// The bytes, as many, that have to stand there before; `None` if any may.
+        /// The old bytes, as many as the new ones, that must be there before; `None` if any bytes
+        /// may be.
         was: Option<B>,
     },
-    /// User bytes become one value.
+    /// Sets user bytes to one value.
     Fill {
-        /// How many, 1 to [`MAX_BYTES`](crate::MAX_BYTES).
+        /// The number of bytes, 1 to [`MAX_BYTES`](crate::MAX_BYTES).
         count: u16,
-        /// What each becomes.
+        /// The new value of each byte.
         value: u8,
     },
-    /// EDC, Intermediate and parity of the block are computed again from its header and user data.
+    /// Recalculates EDC, Intermediate, and parity of the block from its header and user data.
     Rebuild,
-    /// The address in the header of the block becomes another.
+    /// Replaces the address in the header of the block.
     Address {
         /// Minute, second and fraction, each in BCD.
         bcd: [u8; 3],
     },
 }
 
-/// The old bytes, borrowed.
+/// Borrows the old bytes.
 fn lend_old(was: &Option<PatchBytes>) -> Option<LentBytes<'_>>
     ensures { result ≡ was.now }
 {
@@ -64,7 +65,7 @@ fn lend_old(was: &Option<PatchBytes>) -> Option<LentBytes<'_>>
     }
 }
 
-/// The edit, its bytes borrowed.
+/// Borrows the bytes of an edit.
 fn lend_edit(edit: &Edit) -> Edit<LentBytes<'_>>
     ensures { result ≡ edit.now }
 {
@@ -82,7 +83,7 @@ fn lend_edit(edit: &Edit) -> Edit<LentBytes<'_>>
     }
 }
 
-/// The old bytes, if it names some.
+/// Decodes the old bytes, if there are any.
 fn decode_old(alloc: Global, was: Option<HexWord<'_>>) -> Result<Option<PatchBytes>, AllocError>
     ensures { IfOk result (λ old. old ≡ was.entry) }
 {
@@ -92,7 +93,7 @@ fn decode_old(alloc: Global, was: Option<HexWord<'_>>) -> Result<Option<PatchByt
     }
 }
 
-/// A `Put` with its bytes.
+/// Decodes the bytes of a `Put`.
 fn build_put(
     alloc: Global,
     bytes: HexWord<'_>,
@@ -105,7 +106,7 @@ fn build_put(
     Ok(Edit::Put { bytes, was })
 }
 
-/// The edit, with its bytes.
+/// Decodes the bytes of an edit.
 pub(crate) fn build_edit(alloc: Global, edit: Edit<HexWord<'_>>) -> Result<Edit, AllocError>
     ensures { IfOk result (λ built. built ≡ edit.entry) }
 {
@@ -117,7 +118,7 @@ pub(crate) fn build_edit(alloc: Global, edit: Edit<HexWord<'_>>) -> Result<Edit,
     }
 }
 
-/// Whether these are the old bytes of a patch with `count` new ones.
+/// Whether these can be the old bytes of a patch with `count` new bytes.
 fn are_old_bytes(count: usize, old: &[u8]) -> bool
     ensures { IsTrue result ↔ (IsBytes old.now × (length old.now ≡ count)) }
 {
@@ -136,7 +137,7 @@ fn is_put(bytes: &LentBytes<'_>, was: &Option<LentBytes<'_>>) -> bool
     }
 }
 
-/// Whether a `Fill` of so many bytes keeps to the limits.
+/// Whether a `Fill` of `count` bytes keeps to the limits.
 fn is_fill(count: u16, value: u8) -> bool
     ensures { IsTrue result ↔ IsEditAt 0 (Fill count value) }
 {
@@ -156,7 +157,7 @@ pub(crate) fn is_edit_at(offset: u16, edit: &Edit<LentBytes<'_>>) -> bool
     }
 }
 
-/// The patch, its bytes borrowed.
+/// Borrows the bytes of a patch.
 ///
 /// # Examples
 ///
@@ -177,7 +178,7 @@ pub fn lend(patch: &Patch) -> Patch<LentBytes<'_>>
     }
 }
 
-/// The edit, with no old bytes that have to stand there.
+/// Removes the old bytes of an edit, so that any bytes may be there before.
 fn edit_without_old(edit: Edit<LentBytes<'_>>) -> Edit<LentBytes<'_>>
     ensures { result ≡ edit_without_old edit.entry }
 {
@@ -187,7 +188,7 @@ fn edit_without_old(edit: Edit<LentBytes<'_>>) -> Edit<LentBytes<'_>>
     }
 }
 
-/// The patch, with no old bytes that have to stand there.
+/// Removes the old bytes of a patch, so that any bytes may be there before.
 ///
 /// # Examples
 ///

@@ -1,4 +1,4 @@
-//! A script in memory, and how its text is read.
+//! Reads the text of a script into a list of patches in memory.
 
 ghost use Rattle.std.specs.Prelude.{◌≡◌, ◌≢◌, ◌+◌, ◌≤◌, ◌++◌, List, length, map, true, vec_len, All, IsOk, IfOk, IfErr, OnOk};
 ghost use Rattle.std.specs.Fn.{Called};
@@ -27,7 +27,8 @@ use bstr::{ByteSlice, Lines};
 use std::alloc::{AllocError, Global};
 use std::marker::Model;
 
-/// A script's patches, by first block, those of one block as in the script.
+/// The patches of a script, sorted by first block. Those with the same first block are in the order
+/// of the script.
 #[derive(Debug, Drop)]
 pub struct Script {
     patches: Vec<Patch>,
@@ -47,7 +48,8 @@ impl Model for Script {
 }
 
 impl Script {
-    /// The patches, by first block, those of one block as in the script.
+    /// The patches, sorted by first block. Those with the same first block are in the order of the
+    /// script.
     ///
     /// # Examples
     ///
@@ -79,8 +81,8 @@ fn is_passed_over(words: &[&[u8]]) -> bool
     }
 }
 
-/// Whether a line is seen to be passed over by its first byte: it is empty, or a comment without a
-/// space before it.
+/// Whether the first byte of a line shows that it is skipped: the line is empty, or a comment
+/// without a space before it.
 fn says_nothing(line: &[u8]) -> bool
     ensures { result ≡ true → is_passed_over (words line.now) ≡ true }
 {
@@ -90,7 +92,7 @@ fn says_nothing(line: &[u8]) -> bool
     }
 }
 
-/// The version that the second word of a head line names.
+/// The version that the second word of a head line names; `None` if it names none.
 #[tactic(auto, using(crate::proofs::FormLemmas::forms))]
 fn named_version(word: &[u8]) -> Option<Version>
     ensures { result ≡ named_version word.now }
@@ -102,7 +104,7 @@ fn named_version(word: &[u8]) -> Option<Version>
     }
 }
 
-/// The version that the head line names, if a line of these words is one.
+/// The version of a line of these words; `None` if it is not a head line.
 #[tactic(auto, using(crate::proofs::FormLemmas::forms))]
 fn head_version(words: &[&[u8]]) -> Option<Version>
     ensures { result ≡ head_version (map (λ w. w.now) words.now) }
@@ -113,14 +115,14 @@ fn head_version(words: &[&[u8]]) -> Option<Version>
     }
 }
 
-/// The head line: its number, and the version that it names.
+/// The head line: its number and its version.
 #[derive(Clone, Copy, Drop)]
 struct Head {
     line: u32,
     version: Version,
 }
 
-/// The version that a line names if there was no head line before; none if it is blank or a comment.
+/// Reads a line that no head line precedes: its version, or `None` if it is blank or a comment.
 #[tactic(auto, unfolding(crate::specs::ByLine::head_at))]
 pub(crate) fn head_on_line(line: u32, text: &[u8]) -> Result<Option<Version>, ScriptFault>
     ensures { result ≡ head_at line text.now }
@@ -139,7 +141,7 @@ pub(crate) fn head_on_line(line: u32, text: &[u8]) -> Result<Option<Version>, Sc
     }
 }
 
-/// Reads on past the head line.
+/// Reads the lines up to and including the head line.
 fn head_of(lines: &mut Lines) -> Result<Head, ScriptFault>
     requires { length lines.old ≤ text_limit }
     ensures ok { IfOk result (λ head.
@@ -157,7 +159,7 @@ fn head_of(lines: &mut Lines) -> Result<Head, ScriptFault>
     Err(ScriptFault::Head(line))
 }
 
-/// A well-formed patch after `earlier` others, if it is not one too many.
+/// Returns a well-formed patch after `earlier` others, or the error that there are too many.
 fn within_limit<'a>(
     line: u32,
     earlier: usize,
@@ -172,7 +174,7 @@ fn within_limit<'a>(
     }
 }
 
-/// The patch of a line after `earlier` others, none if the line is blank or a comment.
+/// Reads a line after `earlier` patches: its patch, or `None` if it is blank or a comment.
 #[tactic(auto, unfolding(crate::specs::Script::line_at))]
 pub(crate) fn patch_on_line<'a>(
     version: Version,
@@ -194,7 +196,7 @@ pub(crate) fn patch_on_line<'a>(
     within_limit(line, earlier, patch)
 }
 
-/// Looks for the first fault of the lines after the head line. Takes no memory.
+/// Finds the first error in the lines after the head line. It allocates no memory.
 fn check_lines(head: Head, mut lines: Lines<'_>) -> Result<(), ScriptFault>
     requires { head.line + length lines ≤ text_limit }
     ensures { result_err result
@@ -210,7 +212,7 @@ fn check_lines(head: Head, mut lines: Lines<'_>) -> Result<(), ScriptFault>
     Ok(())
 }
 
-/// Appends the patch of a line, if it has one, to the others.
+/// Appends the patch of a line, if the line has one, to the patches.
 fn push_patch(
     alloc: Global,
     patches: &mut Vec<Patch>,
@@ -228,7 +230,7 @@ fn push_patch(
     Ok(())
 }
 
-/// The patches of the lines after the head line, which have no fault.
+/// Reads the patches of the lines after the head line, which must have no error.
 fn patches_of(alloc: Global, head: Head, mut lines: Lines<'_>) -> Result<Vec<Patch>, AllocError>
     requires room { head.line + length lines ≤ text_limit }
     requires sound { IsOk (patches_from head.version (head.line + 1) 0 lines) }
@@ -245,9 +247,9 @@ fn patches_of(alloc: Global, head: Head, mut lines: Lines<'_>) -> Result<Vec<Pat
     Ok(patches)
 }
 
-/// The patches of the lines after the head line, which are `rest`, or their first fault. The lines
-/// are read twice: first without memory, so that a text with a fault is refused by that fault and
-/// not for want of memory.
+/// Reads the patches of the lines after the head line, `rest`, or returns the first error. The
+/// lines are read twice, first without allocating memory, so that a faulty text is refused for its
+/// error and not for lack of memory.
 fn read_patches(alloc: Global, head: Head, rest: &[u8]) -> Result<Vec<Patch>, ScriptFault>
     requires { head.line + length (lines_of rest.now) ≤ text_limit }
     ensures ok { IfOk result (λ ps.
@@ -266,8 +268,9 @@ fn read_patches(alloc: Global, head: Head, rest: &[u8]) -> Result<Vec<Patch>, Sc
     Ok(patches)
 }
 
-/// Proof step: sorts patches by the block that `key` returns, those of one block as they stand.
-/// Another key is refused at the call that passes it, and `put_in_order` is proved from contracts.
+/// Proof step: sorts patches by the block that `key` returns; patches of one block keep their
+/// order. A call that passes a different key is refused, and `put_in_order` is proved from
+/// contracts.
 fn sort_by<F: FnMut(&Patch) -> u32>(patches: &mut Vec<Patch>, key: F) -> Result<(), AllocError>
     requires callable { F.IsAlwaysCallable key }
     requires block { (before : F) (patch : _) (answer : _) (after : F) →
@@ -277,19 +280,20 @@ fn sort_by<F: FnMut(&Patch) -> u32>(patches: &mut Vec<Patch>, key: F) -> Result<
     patches.sort_by_key(key)
 }
 
-/// Puts patches in the order in which they are applied.
+/// Sorts patches into the order in which they are applied.
 fn put_in_order(patches: &mut Vec<Patch>) -> Result<(), AllocError>
     ensures { OnOk result (patches.new.items ≡ order patches.old.items) }
 {
     sort_by(patches, |patch| patch.block)
 }
 
-/// The script of a text of at most [`MAX_TEXT`](crate::MAX_TEXT) bytes: its patches by first block.
+/// Reads the text of a script, at most [`MAX_TEXT`](crate::MAX_TEXT) bytes, and sorts its patches
+/// by first block.
 ///
 /// # Errors
 ///
-/// The fault of the first faulty line, which is found before any memory is taken; or
-/// [`ScriptFault::NoMemory`], if the text has no fault and memory is refused.
+/// The error of the first faulty line, which is found before any memory is allocated; or
+/// [`ScriptFault::NoMemory`], if the text has no error and memory cannot be allocated.
 ///
 /// # Examples
 ///
@@ -301,7 +305,7 @@ pub fn parse(alloc: Global, text: &[u8]) -> Result<Script, ScriptFault>
     requires { length text.now ≤ text_limit }
     ensures ok { IfOk result (λ s. (ps : List ThePatch) × (script text.now ≡ Ok ps) × (s ≡ order ps)) }
     ensures err { IfErr result (λ e. e ≢ NoMemory → script text.now ≡ Err e) }
-    // A text that is not a script is refused by its fault, whatever memory there is.
+    // A text that is not a script is refused for its error, however little memory there is.
     ensures refused { (e : ScriptFault) → script text.now ≡ Err e → result ≡ Err e }
 {
     let mut lines = text.lines();

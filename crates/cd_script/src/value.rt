@@ -1,4 +1,4 @@
-//! The value of one word of a line.
+//! Reads the value of one word of a line.
 
 ghost use Rattle.std.specs.Prelude.{◌≡◌};
 ghost use Rattle.cd_script.specs.Number.{number};
@@ -9,7 +9,7 @@ use crate::fault::ScriptFault;
 use crate::hex_word::HexWord;
 use crate::limits::{MAX_BYTES, MAX_DIGITS, MAX_OFFSET};
 
-/// The value of 1 to 9 decimal digits.
+/// The value of 1 to 9 decimal digits; `None` for any other word.
 #[tactic(auto, unfolding(crate::specs::Number::number))]
 pub(crate) fn number(word: &[u8]) -> Option<u32>
     ensures { result ≡ number word.now }
@@ -35,7 +35,7 @@ pub(crate) fn number_of(line: u32, word: &[u8]) -> Result<u32, ScriptFault>
     number(word).ok_or(ScriptFault::Number(line))
 }
 
-/// The hex word of this line.
+/// Checks a hex word of this line.
 #[tactic(auto, unfolding(crate::specs::Value::hex_at))]
 pub(crate) fn hex_of<'a>(line: u32, word: &'a [u8]) -> Result<HexWord<'a>, ScriptFault>
     ensures { result ≡ hex_at line word.now }
@@ -55,7 +55,7 @@ pub(crate) fn offset_of(line: u32, word: &[u8]) -> Result<u16, ScriptFault>
     Ok(offset as u16)
 }
 
-/// How many bytes a fill changes, 1 to `MAX_BYTES`.
+/// The number of bytes that a fill changes, 1 to `MAX_BYTES`.
 #[tactic(auto, unfolding(crate::specs::Value::count_at))]
 pub(crate) fn count_of(line: u32, word: &[u8]) -> Result<u16, ScriptFault>
     ensures { result ≡ count_at line word.now }
@@ -96,7 +96,7 @@ pub(crate) fn old_of<'a>(
     Ok(bytes)
 }
 
-/// The one byte that a fill writes.
+/// The single byte that a fill writes.
 #[tactic(auto, unfolding(crate::specs::Value::byte_at))]
 pub(crate) fn byte_of(line: u32, word: &[u8]) -> Result<u8, ScriptFault>
     ensures { result ≡ byte_at line word.now }

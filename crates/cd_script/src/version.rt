@@ -3,17 +3,17 @@
 ghost use Rattle.std.specs.Prelude.{◌≡◌, ◌<◌, ◌⊎◌, Some};
 ghost use Rattle.cd_script.specs.VersionNumbers.{numbered_version, version_number};
 
-/// A version, which the head line names.
+/// A version of the script language, named in the head line.
 #[derive(Clone, Copy, Debug, PartialEq, Eq, Drop)]
 pub enum Version {
     /// `cdpatch 1`: `set`, `fill` and `rebuild`.
     One,
-    /// `cdpatch 2`: these and `address`.
+    /// `cdpatch 2`: the verbs of version 1, and `address`.
     Two,
 }
 
 impl Version {
-    /// The number by which calls of C name it: 1 or 2, and that of a later one is over 255.
+    /// The number of the version in calls of C: 1 or 2. The number of a later version is over 255.
     ///
     /// # Examples
     ///
@@ -33,7 +33,7 @@ impl Version {
         }
     }
 
-    /// The version of a number.
+    /// The version with this number; `None` for any other number.
     ///
     /// See the example of [`Version::number`].
     pub fn of_number(number: u32) -> Option<Self>

@@ -1,4 +1,4 @@
-//! The words of a line of a script.
+//! Splits a line of a script into words.
 
 ghost use Rattle.std.specs.Prelude.{◌≡◌, ℕ, ◌<◌, ◌≤◌, ◌↔◌, ◌∷◌, ◌++◌, [], IsTrue, filter, length, map, slice_index, take, true};
 ghost use Rattle.memchr.specs.Find.{IsFirstByte};
@@ -8,10 +8,10 @@ use arrayvec::ArrayVec;
 use memchr::memchr2;
 use std::marker::Model;
 
-/// One more word than any form has, so that too many words are seen.
+/// One more than the number of words of the longest form, so that a line with too many is noticed.
 const MOST_WORDS: usize = 7;
 
-/// The first words of a line, as many as are looked at, in their order. Contracts see the list of them.
+/// The first words of a line, at most `MOST_WORDS`, in their order. Contracts see the list of them.
 #[derive(Drop)]
 pub(crate) struct FirstWords<'a> {
     parts: ArrayVec<&'a [u8], MOST_WORDS>,
@@ -26,7 +26,7 @@ impl<'a> Model for FirstWords<'a> {
 }
 
 impl<'a> FirstWords<'a> {
-    /// Without a word.
+    /// An empty list of words.
     fn new() -> Self
         ensures { result ≡ [] }
     {
@@ -35,14 +35,14 @@ impl<'a> FirstWords<'a> {
         }
     }
 
-    /// Whether there are as many as are looked at.
+    /// Whether the list has `MOST_WORDS` words.
     fn is_full(&self) -> bool
         ensures { IsTrue result ↔ MOST_WORDS ≤ length self.now }
     {
         self.parts.is_full()
     }
 
-    /// Appends a part of a line to the words, if it is a word.
+    /// Appends a part of a line, unless it is empty.
     fn push(&mut self, part: &'a [u8])
         requires { length self.old < MOST_WORDS }
         ensures { self.new ≡ self.old ++ filter is_word (part.now ∷ []) }
@@ -67,8 +67,8 @@ fn find_space(line: &[u8]) -> Option<usize>
     memchr2(b' ', b'\t', line)
 }
 
-/// Whether all of these are spaces and tabs. They are looked at all together, not until the first
-/// that is none, so that it takes a few instructions.
+/// Whether all of these bytes are spaces or tabs. All are tested, without an early return, which
+/// needs only a few instructions.
 fn are_spaces(bytes: &[u8; 16]) -> bool
     ensures { result ≡ true → (k : ℕ) → k < 16 → is_space (slice_index bytes.now k) ≡ true }
 {
@@ -79,7 +79,7 @@ fn are_spaces(bytes: &[u8; 16]) -> bool
     spaces
 }
 
-/// A line without the spaces and tabs at its front, as far as there are sixteen of them.
+/// Skips spaces and tabs at the front of a line, sixteen at a time, as long as there are sixteen.
 fn without_spaces(line: &[u8]) -> &[u8]
     ensures words { words result.now ≡ words line.now }
     ensures most { length result.now ≤ length line.now }
@@ -95,9 +95,9 @@ fn without_spaces(line: &[u8]) -> &[u8]
     rest
 }
 
-/// The first words of a line, at most seven: no form has as many. `memchr` finds where they end, a
-/// register of bytes at a time; std's `split` looks at each byte, and a script of long lines takes
-/// nearly twice as long with it.
+/// The first words of a line, at most seven; no form has that many. `memchr` finds the ends of
+/// words a register of bytes at a time. std's `split` tests each byte, which nearly doubles the time
+/// for a script of long lines.
 pub(crate) fn words<'a>(line: &'a [u8]) -> FirstWords<'a>
     ensures { result ≡ take MOST_WORDS (words line.now) }
 {

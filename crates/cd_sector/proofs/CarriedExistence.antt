@@ -1,4 +1,5 @@
--- For any header and user data there is a sector to which a sector's damage is carried.
+-- For any header and user data there is a sector with this content and the damage of a given
+-- sector.
 use Rattle.std.proofs.Common.{◌≡◌, ℕ, ◌+◌, ◌≤◌, List, ◌++◌, length, take, ◌∙◌, arith, lit≤}
 use Rattle.std.proofs.lemmas.List.{length-append, length-take-le, take_all}
 use Rattle.cd_code.specs.Field.{AreBytes}

@@ -1,4 +1,4 @@
--- A sector by its content and its defect: why there is one carried sector and no other.
+-- A sector is determined by its content and its defect, so there is at most one carried sector.
 use Rattle.std.proofs.Common.{◌≡◌, ℕ, ◌+◌, ◌/◌, ◌%◌, ◌<◌, ◌≤◌, Bool, Decides, List, ◌++◌, length, get_or, take, drop, bit_xor, refl, sym, ap, ap₂, ◌∙◌, arith, lit<}
 use Rattle.std.specs.List.{slice_range}
 use Rattle.std.specs.Int.Bits.{xor_self}
@@ -22,7 +22,7 @@ use Rattle.cd_sector.proofs.SumLemmas.{AllCodeWords-same, AllCodeWords-sum, Same
 
 -- ---- the members of two defects
 
--- equal lists of syndromes, word by word
+-- words with equal lists of syndromes have the same syndromes, word by word
 syndromes-equal : (v w : ℕ → List ℕ) (n : ℕ) → all_syndromes v n ≡ all_syndromes w n → (i : ℕ)
     → i < n → SameSums (v i) (w i)
 syndromes-equal v w n same i below =
@@ -31,7 +31,7 @@ syndromes-equal v w n same i below =
     ∙ syndromes-at w n i none below in
     record { first = ap (λ p. p.0) both; second = ap (λ p. p.1) both }
 
--- and the other way
+-- words with the same syndromes, word by word, have equal lists of syndromes
 syndromes-same : (v w : ℕ → List ℕ) (n : ℕ) → ((i : ℕ) → i < n → SameSums (v i) (w i))
     → all_syndromes v n ≡ all_syndromes w n
 syndromes-same v w n same =
@@ -44,7 +44,7 @@ syndromes-same v w n same =
     syndromes-at v n i none below ∙ ap₂ pair (same i below).first (same i below).second
     ∙ sym (syndromes-at w n i none below))
 
--- defects by their members
+-- two defects are equal if their members are
 pub defect-same : (s t : List ℕ) → slice_range s 2068 2076 ≡ slice_range t 2068 2076
     → remainder (bits (take 2068 s)) ≡ remainder (bits (take 2068 t)) → SameSyndromes s t
     → defect_of s ≡ defect_of t
@@ -84,7 +84,7 @@ same-syndromes s t same =
 
 -- ---- by content and defect
 
--- a front and a defect leave one sector
+-- a sector is determined by its front and its defect
 pub sector_by_front : (s t : List ℕ) → length s ≡ 2352 → AreBytes s → length t ≡ 2352 → AreBytes t
     → Agree s t 2064
     → defect_of s ≡ defect_of t → s ≡ t
@@ -143,7 +143,7 @@ consistent_carried old s h k = record {
 
 -- ---- the test of two defects
 
--- the sum of two sectors is whole exactly where their defects are equal
+-- the sum of two sectors has no defect exactly if the defects of the two sectors are equal
 pub same_defect-decided : (a b sum : List ℕ) (r : Bool) → length a ≡ 2352 → length b ≡ 2352
     → length sum ≡ 2352 → IsSum sum a b
     → r ≡ is_sound (defect_of sum) → Decides r (defect_of a ≡ defect_of b)
@@ -176,7 +176,7 @@ same_defect-decided a b sum r la lb ls h e =
     ))
     known
 
--- equal bytes before the EDC, and equal defects
+-- two sectors with equal bytes before the EDC, and with equal defects, are equal
 pub same_defect-unique : (a b : List ℕ) → length a ≡ 2352 → AreBytes a → length b ≡ 2352 → AreBytes b
     → take 2064 a ≡ take 2064 b → defect_of a ≡ defect_of b → a ≡ b
 same_defect-unique a b la ha lb hb front same =

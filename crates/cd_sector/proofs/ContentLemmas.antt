@@ -1,4 +1,4 @@
--- A sector as it is made: its content in its places, and the parts after it.
+-- How a sector is encoded: its content in its places, and the fields after it.
 use Rattle.std.proofs.Common.{◌≡◌, ℕ, suc, ◌+◌, ◌-◌, ◌<◌, ◌≤◌, ◌⊎◌, inl, List, [], ◌∷◌, ◌++◌, length, get_or, take, drop, refl, sym, ap, ap₂, ◌∙◌, arith, lit<, lit≤, append_assoc}
 use Rattle.std.specs.List.{slice_range}
 use Rattle.std.proofs.Math.Seq.{take-add}
@@ -15,7 +15,7 @@ use Rattle.cd_sector.proofs.SectorLemmas.{header_of-same, kind_of-same, mode1-fr
 
 -- ---- the content
 
--- the front up to the user data
+-- the front of a sector, up to the end of the user data
 abbrev pub content_of : List ℕ → List ℕ → List ℕ
 content_of header user = sync_field ++ (header ++ 1 ∷ user)
 
@@ -26,7 +26,7 @@ length-content header user h k =
     length-append header (1 ∷ user) ∙ ap₂ (λ m n. m + suc n) h k in
     length-append sync_field (header ++ 1 ∷ user) ∙ ap (λ n. 12 + n) a
 
--- a sector with such a front, and what stands after it
+-- a sector with this front, and with the right fields after it, is encoded
 pub encoded : (header user s : List ℕ) → length header ≡ 3 → length user ≡ 2048
     → length s ≡ 2352 → AreBytes s
     → ((k : ℕ) → k < 2064 → get_or s k 0 ≡ get_or (content_of header user) k 0)
@@ -68,7 +68,7 @@ encoded header user s size long s_size bytes front zeros divides words =
       has_user = has_user;
     }
 
--- the only one
+-- the encoded sector is unique
 pub encoded-unique : (header user s t : List ℕ) → IsEncoded header user t
     → IsConsistent s → header_of s ≡ header ++ 1 ∷ [] → user_of s ≡ user → s ≡ t
 encoded-unique header user s t made h e f =
@@ -76,12 +76,12 @@ encoded-unique header user s t made h e f =
 
 -- ---- parts in their places
 
--- the parts of a sector's front, each put into the list that the one before left
+-- `new` is `old` with a part of a sector's front written at a place
 pub record Puts (at : ℕ) (part old new : List ℕ) : Type 0 where
   pub inside : (i : ℕ) → i < length part → get_or new (at + i) 0 ≡ get_or part i 0
   pub outside : (k : ℕ) → (k < at) ⊎ (at + length part ≤ k) → get_or new k 0 ≡ get_or old k 0
 
--- a part that is put after a front
+-- a part that is written after a front
 Puts-front : (at : ℕ) (front part old new : List ℕ) → Puts at part old new
     → at + length part ≤ length old → length new ≡ length old → take at old ≡ front
     → take (at + length part) new ≡ front ++ part
@@ -127,7 +127,7 @@ header_bytes bytes s same size =
 
 -- ---- a sector that is rebuilt
 
--- the same front in another sector of Mode 1, and what stands after it
+-- a sector with the front of a Mode 1 sector, and with the right fields after it, is consistent
 pub rebuilt : (old new : List ℕ) → length old ≡ 2352 → length new ≡ 2352 → AreBytes new
     → kind_of old ≡ Mode1
     → ((k : ℕ) → k < 2064 → get_or new k 0 ≡ get_or old k 0)

@@ -1,4 +1,4 @@
--- Counting words that are not code words, and the test of a whole sector.
+-- Lemmas about counting words that are not code words, and about the test of a sector.
 use Rattle.std.proofs.Common.{◌≡◌, ℕ, ◌+◌, ◌-◌, ◌/◌, ◌%◌, ◌<◌, ◌≤◌, inl, inr, Bool, true, false, not, ◌&&◌, ◌||◌, cond, Decides, List, [], ◌∷◌, length, get_or, take, drop, refl, sym, ap, ap₂, subst, ◌∙◌, arith, lit<}
 use Rattle.std.specs.Bool.{◌==◌, nat_lt}
 use Rattle.std.specs.List.{count_by, list_all, list_any, slice_range}
@@ -44,7 +44,7 @@ broken_more word count i number one plain weighted sums h before e =
     ∙ sym (sum_by-map-range_with_len_more (λ w. cond {A = ℕ} (is_broken w) 1 0)
     (λ k. (first_syndrome (word k), second_syndrome (word k))) 0 i i (omega arith))
 
--- the count over as many words as there are sums
+-- the count of broken words, for as many words as there are sums
 pub broken_of : (word : ℕ → List ℕ) (count r : ℕ) (plain weighted : List ℕ) → length plain ≡ count
     → SumsOf word count plain weighted
     → (SumsOf word (length plain) plain weighted
@@ -76,7 +76,7 @@ one_or_none : (b : Bool) → (cond {A = ℕ} b 1 0 == 0) ≡ not b
 one_or_none true = refl
 one_or_none false = refl
 
--- none is broken
+-- the number of broken words is 0 exactly if no word is broken
 pub none_broken : (ws : List (ℕ × ℕ))
     → (count_by is_broken ws == 0) ≡ list_all (λ w. not (is_broken w)) ws
 none_broken ws =
@@ -88,7 +88,7 @@ not-and : (x y : Bool) → not (x && y) ≡ (not x || not y)
 not-and true y = refl
 not-and false y = refl
 
--- not all are 0
+-- not all numbers are 0 exactly if some number is not 0
 pub some_nonzero : (xs : List ℕ) → not (list_all (λ b. b == 0) xs) ≡ list_any is_nonzero xs
 some_nonzero [] = refl
 some_nonzero (x ∷ xs) =
@@ -155,7 +155,7 @@ whole_words word n =
     (Decides-by_and (λ w. not (is_broken w)) P (list_all (λ w. not (is_broken w))) whole_word refl
     (λ x xs. refl) ws)
 
--- a test of each element, which what stands past the end passes
+-- a test of each element, which the 0 past the end of a list passes too
 all_at : (p : ℕ → Bool) (P : ℕ → Type 0) → ((x : ℕ) → Decides (p x) (P x)) → P 0 → (s : List ℕ)
     → Decides (list_all p s) ((i : ℕ) → P (get_or s i 0))
 all_at p P each none s =
@@ -177,7 +177,7 @@ mode1_decided Mode1 = (λ e. refl, λ e. refl)
 mode1_decided Mode2 = (λ e. absurd cc, λ e. absurd cc)
 mode1_decided Other = (λ e. absurd cc, λ e. absurd cc)
 
--- the Intermediate field is all 00, and the division leaves nothing
+-- the tests of the Intermediate field and of the EDC's division
 abbrev pub zeros_of : List ℕ → Bool
 zeros_of s = list_all (λ b. b == 0) (slice_range s 2068 2076)
 
@@ -208,7 +208,7 @@ all_zeros s =
     ])
     (all_at (λ b. b == 0) (λ b. b ≡ 0) (λ b. Decides-eqb b 0) refl zs)
 
--- the test by its parts
+-- the test of a sector by its parts
 abbrev pub parts_of : List ℕ → Bool
 parts_of s =
     ((zeros_of s && divides_of s)
@@ -250,7 +250,7 @@ by_plane s h = (
   λ i k. h.words.diagonals (i % 2) (i / 2) (omega arith) (omega arith),
 )
 
--- the test of a sector is the record of its parts
+-- the test of a sector decides the record of its parts
 pub consistent-decided : (s : List ℕ) → Decides (consistent s) (IsConsistent s)
 consistent-decided s =
     let size = length s == 2352 in
@@ -273,7 +273,7 @@ consistent-decided s =
     (mode1_decided (kind_of s)))
     (parts_decided s)))
 
--- the test by the counts of broken words
+-- the test of a sector by the counts of broken words
 abbrev pub columns_of : List ℕ → Bool
 columns_of s = count_by is_broken (all_syndromes (column_of s) 86) == 0
 
@@ -287,7 +287,7 @@ sound-counts s =
     ∙ sym (ap₂ (λ t u. ((zeros_of s && divides_of s) && t) && u)
     (none_broken (all_syndromes (column_of s) 86)) (none_broken (all_syndromes (diagonal_of s) 52)))
 
--- the way of the code through the four parts: all hold, or the first that fails
+-- the code tests the four parts in order: all of them hold, or one is the first that fails
 pub sound-all : (s : List ℕ) → zeros_of s ≡ true → divides_of s ≡ true → columns_of s ≡ true
     → diagonals_of s ≡ is_sound (defect_of s)
 sound-all s zeros edc columns =
@@ -308,7 +308,7 @@ unsound-columns s fails =
     sym (sound-counts s ∙ ap (λ t. t && diagonals_of s)
     (ap (λ c. (zeros_of s && divides_of s) && c) fails ∙ and-false (zeros_of s && divides_of s)))
 
--- of a list that is a sector only the kind and the defect are asked
+-- for a list that is a sector, the test depends only on the kind and the defect
 pub consistent-sector : (s : List ℕ) → length s ≡ 2352 → AreBytes s
     → consistent s ≡ (is_mode1 (kind_of s) && is_sound (defect_of s))
 unfolding consistent
@@ -319,12 +319,12 @@ consistent-sector s long bytes =
     ((Decides-eqb (length s) 2352).1 long)
     ∙ ap (λ t. ((true && t) && mode) && sound) ((all_bytes s).1 bytes)
 
--- the test of a defect's members
+-- the test of a defect by its members
 pub sound_decided : (s : List ℕ) → Decides (is_sound (defect_of s)) (IsWhole s)
 sound_decided s =
     Decides-at (is_sound (defect_of s)) (parts_of s) (sound-parts s) (parts_decided s)
 
--- of another kind
+-- a sector of a kind other than Mode 1 is not consistent
 pub consistent-false : (s : List ℕ) (mode : Bool) → mode ≡ is_mode1 (kind_of s) → mode ≡ false
     → false ≡ consistent s
 consistent-false s mode e fails =

@@ -1,4 +1,4 @@
--- The EDC in its place: written there, and compared with what stands there.
+-- The EDC field of a sector: writing an EDC to it, and comparing an EDC with it.
 use Rattle.std.proofs.Common.{◌≡◌, ℕ, ◌+◌, ◌-◌, ◌^◌, ◌<◌, ◌≤◌, ◌⊎◌, inl, Bool, Decides, List, [], ◌∷◌, ◌++◌, length, get_or, take, drop, bit_xor, sym, ap, ◌∙◌, arith}
 use Rattle.std.specs.Bool.{◌==◌, one_answer}
 use Rattle.std.specs.Prelude.{slice_range}
@@ -13,7 +13,7 @@ use Rattle.cd_code.proofs.general.Lists.{front-same, length-part}
 use Rattle.cd_code.proofs.EdcLemmas.{Ends-from, Ends-more, IsEdc-unique, after, after-append, after-word, after_bits, remainder-after}
 use Rattle.cd_sector.specs.EdcField.{StoresEdc}
 
--- the word of the first bytes, put after them
+-- the EDC word of the first bytes, written after them
 pub StoresEdc-put : (old new : List ℕ) (w error : ℕ) → length old ≡ 2352 → length new ≡ 2352
     → error < 2 ^ 32
     → IsEdc (take 2064 old) w → slice_range new 2064 2068 ≡ to_le_bytes w32 (bit_xor w error)
@@ -24,7 +24,7 @@ StoresEdc-put old new w error old_size new_size fits word put stays =
     front-same new old 2064 (omega arith) (omega arith) (λ i below. stays i (inl below)) in
     record { word = w; fits = fits; is_word = rw front word; at_end = put }
 
--- what the division leaves is what the error leaves
+-- the remainder of the division is the remainder of the error
 pub StoresEdc-remainder : {s : List ℕ} {error : ℕ} → StoresEdc s error
     → remainder (bits (take 2068 s)) ≡ after_bits 32 0 error
 StoresEdc-remainder {s} {error} h =
@@ -45,7 +45,7 @@ stored_lt (a ∷ b ∷ c ∷ d ∷ []) long h =
     omega arith
 stored_lt _ long h = absurd (omega arith)
 
--- the test of the word that stands in the EDC's place
+-- the test of the word in the EDC field
 pub edc_decided : (s : List ℕ) (w stored : ℕ) (r : Bool) → length s ≡ 2352 → AreBytes s
     → IsEdc (take 2064 s) w
     → stored ≡ from_le_bytes w32 (slice_range s 2064 2068) → Decides r (w ≡ stored)

@@ -1,6 +1,6 @@
--- For any front up to the user data there is a sector with it, and with the defect of another one:
--- the other one, to which is added the difference of the fronts, with its EDC and its parity. So
--- for any header and user data there is a consistent sector.
+-- For any front up to the user data there is a sector with this front and the defect of a given
+-- sector: the given sector, to which the difference of the fronts is added, with the EDC and the
+-- parity of the difference. So for any header and user data there is a consistent sector.
 use Rattle.std.proofs.Common.{◌≡◌, ℕ, zero, suc, ◌+◌, ◌-◌, ◌*◌, ◌/◌, ◌%◌, ◌<◌, ◌≤◌, ◌⊎◌, inl, inr, List, [], ◌∷◌, ◌++◌, length, map, get_or, take, drop, replicate, bit_xor, refl, sym, ap, ap₂, ◌∙◌, arith, lit<}
 use Rattle.std.specs.List.{range_with_len}
 use Rattle.std.specs.Int.{to_le_bytes, w32}
@@ -52,7 +52,7 @@ edc_of_front v h (suc n) k =
 
 -- ---- parity
 
--- a list in which the parity of words stands in its place
+-- a list in which the parity of words is in its place
 record Made (word : ℕ → List ℕ) (start count : ℕ) (old : List ℕ) : Type 0 where
   sector : List ℕ
   size : length sector ≡ length old
@@ -124,7 +124,7 @@ made word start count old words each room =
       };
     }
 
--- the same front with code words after it
+-- the same bytes before the parity, and parity with which all words are code words
 record WithWords (old : List ℕ) : Type 0 where
   sector : List ℕ
   size : length sector ≡ 2352
@@ -152,7 +152,7 @@ with_words old size each =
 
 -- ---- the EDC
 
--- the same front with an EDC after it
+-- the same bytes outside the EDC field, and an EDC that matches the bytes before it
 record Checked (old : List ℕ) : Type 0 where
   sector : List ℕ
   size : length sector ≡ 2352

@@ -1,4 +1,4 @@
--- An image's sectors and its tail.
+-- Lemmas about the sectors and the tail of an image.
 use Rattle.std.proofs.Common.{◌≡◌, ℕ, zero, suc, ◌+◌, ◌*◌, ◌/◌, ◌<◌, ◌≤◌, List, [], ◌∷◌, ◌++◌, length, take, drop, sym, ap, ◌∙◌, subst, arith, append_assoc, length-append, take_at, drop_at, take-append-drop, refl}
 use Rattle.std.specs.List.{All}
 use Rattle.std.specs.Simd.{first_chunks}
@@ -7,7 +7,7 @@ use Rattle.std.proofs.lemmas.List.Elements.{All-head, All-tail}
 use Rattle.cd_sector.proofs.general.Chunks.{length-first_chunks, first_chunks-each}
 use Rattle.cd_sector.specs.Image.{IsCut, bytes_of, sectors, tail}
 
--- a sector before more
+-- a sector followed by more bytes
 pub sectors-sector : (sector more : List ℕ) → length sector ≡ 2352
     → sectors (sector ++ more) ≡ sector ∷ sectors more
 unfolding sectors
@@ -19,14 +19,14 @@ sectors-sector sector more size =
     (take_at sector more 2352 size)
     ∙ ap (λ xs. sector ∷ first_chunks 2352 (length more / 2352) xs) (drop_at sector more 2352 size)
 
--- less than a sector
+-- fewer bytes than a sector
 pub sectors-short : (more : List ℕ) → length more < 2352 → sectors more ≡ []
 unfolding sectors
 sectors-short more short =
     let none : length more / 2352 ≡ 0 = omega arith in
     ap (λ k. first_chunks 2352 k more) none
 
--- after n sectors
+-- the tail after n sectors
 pub length-tail : (read rest : List ℕ) (n : ℕ) → length read ≡ 2352 * n → length rest < 2352
     → length (tail (read ++ rest)) ≡ length rest
 unfolding tail
@@ -34,7 +34,7 @@ length-tail read rest n whole short =
     let all = length-append read rest in
     length-drop (2352 * (length (read ++ rest) / 2352)) (read ++ rest) ∙ omega arith
 
--- there are no more sectors than bytes, nor a longer tail
+-- an image has no more sectors than bytes, and its tail is not longer than the image
 pub length-sectors-le : (image : List ℕ) → length (sectors image) ≤ length image
 unfolding sectors
 length-sectors-le image = omega (arith, length-first_chunks 2352 (length image / 2352) image)
@@ -80,7 +80,7 @@ unfolding tail
 tail-short more short =
     let none : length more / 2352 ≡ 0 = omega arith in ap (λ k. drop (2352 * k) more) none
 
--- the cut of joined sectors and a tail
+-- sectors and a tail that are joined are cut into the same sectors and tail
 pub cut_of_joined : (whole : List (List ℕ)) (rest : List ℕ)
     → All (λ sector. length sector ≡ 2352) whole → length rest < 2352
     → (whole ≡ sectors (bytes_of whole ++ rest)) × (rest ≡ tail (bytes_of whole ++ rest))
@@ -101,7 +101,7 @@ IsCut-only image whole rest cut =
     subst (λ bytes. (whole ≡ sectors bytes) × (rest ≡ tail bytes)) cut.joined
     (cut_of_joined whole rest cut.each cut.short)
 
--- sectors before more bytes
+-- sectors followed by more bytes
 pub sectors-bytes_of : (whole : List (List ℕ)) (more : List ℕ)
     → All (λ sector. length sector ≡ 2352) whole
     → sectors (bytes_of whole ++ more) ≡ whole ++ sectors more

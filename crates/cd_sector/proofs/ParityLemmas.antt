@@ -15,7 +15,7 @@ use Rattle.cd_code.specs.declared.lane_sums.LaneSums.{LaneSums}
 use Rattle.cd_code.specs.CodeWords.{AllCodeWords, SumsOf, place_of, bytes_at, column_input, column_of, column_places, diagonal_input, diagonal_of, diagonal_places}
 use Rattle.cd_code.proofs.PlaceLemmas.{length-bytes_at, bytes_at-byte, bytes_at-same, AreBytes-bytes_at, length-column_input, column_input_place, length-column_places, column_place, length-diagonal_input, diagonal_input_place, column_of-parts, diagonal_of-parts, plane-by_number}
 
--- words by number are words by plane
+-- all words by number are all words by plane
 pub AllCodeWords-by_number : (s : List ℕ)
     → ((i : ℕ) → i < 86 → IsCodeWord (column_of s i))
     → ((i : ℕ) → i < 52 → IsCodeWord (diagonal_of s i)) → AllCodeWords s
@@ -24,7 +24,7 @@ AllCodeWords-by_number s columns diagonals = record {
   diagonals = plane-by_number (λ p n. IsCodeWord (bytes_at s (diagonal_places p n))) 26 diagonals;
 }
 
--- columns do not reach the Q parity, so they stay code words while it is made
+-- columns do not include Q parity, so they are still code words after it is written
 pub AllCodeWords-filled : (mid new : List ℕ)
     → ((i : ℕ) → i < 86 → IsCodeWord (column_of mid i))
     → ((k : ℕ) → k < 2248 → get_or new k 0 ≡ get_or mid k 0)

@@ -1,4 +1,4 @@
--- Why a sector's content leaves only one consistent sector.
+-- There is only one consistent sector with a given content.
 use Rattle.std.proofs.Common.{◌≡◌, ℕ, ◌+◌, ◌-◌, ◌*◌, ◌/◌, ◌%◌, ◌<◌, ◌≤◌, inl, inr, Bool, true, false, List, ◌++◌, length, get_or, take, drop, refl, sym, ap, ◌∙◌, arith, lit<}
 use lib.Pointwise.{pointwise}
 use Rattle.std.specs.Bool.{nat_eq, if◌then◌else◌}
@@ -83,7 +83,7 @@ header_of-same s t inside same_size h =
 
 -- ---- one word after the other
 
--- the last two bytes of a word follow from the others and the sums
+-- the last two bytes of a word are determined by its other bytes and its syndromes
 pub word_agrees : (s t ps : List ℕ) (n : ℕ) → AreBytes s → AreBytes t → Agree s t n
     → ((k : ℕ) → k + 2 < length ps → get_or ps k 0 < n) → SameSums (bytes_at s ps) (bytes_at t ps)
     → (k : ℕ) → k < length ps → get_or s (get_or ps k 0) 0 ≡ get_or t (get_or ps k 0) 0
@@ -104,7 +104,8 @@ word_agrees s t ps n hs ht same inside sums k h =
     sums in
     sym (bytes_at-byte s ps k h) ∙ ap (λ v. get_or v k 0) equal ∙ bytes_at-byte t ps k h
 
--- words whose last two bytes are the next ones, first one byte of each word and then the other
+-- words whose last two bytes are next in the sector: first one byte of each word, then the other
+-- byte
 words_agree : (s t : List ℕ) (n count len : ℕ) (places : ℕ → List ℕ) → AreBytes s → AreBytes t
     → Agree s t n → ((i : ℕ) → length (places i) ≡ len + 2)
     → ((i k : ℕ) → i < count → k < len → get_or (places i) k 0 < n)
@@ -131,7 +132,7 @@ words_agree s t n count len places hs ht same long inside first second sums k h 
       ]
     ]
 
--- a sector's front, and what its remainder and syndromes are, leave one sector
+-- a sector is determined by its front, its Intermediate field, its remainder, and its syndromes
 pub sector_same : (s t : List ℕ) → length s ≡ 2352 → length t ≡ 2352 → AreBytes s → AreBytes t
     → Agree s t 2064 → remainder (bits (take 2068 s)) ≡ remainder (bits (take 2068 t))
     → ((i : ℕ) → 2068 ≤ i → i < 2076 → get_or s i 0 ≡ get_or t i 0) → SameSyndromes s t → s ≡ t
@@ -183,7 +184,7 @@ SameSyndromes-code_words s t h k = record {
       (k.diagonals plane n p q);
 }
 
--- the front by its parts
+-- two sectors with equal parts of the front agree on the front
 pub front-parts : (s t : List ℕ) → sync_of s ≡ sync_of t → header_of s ≡ header_of t
     → user_of s ≡ user_of t → Agree s t 2064
 unfolding sync_of header_of user_of

@@ -12,7 +12,7 @@ use Rattle.cd_code.proofs.general.Xor.{same_from_xor}
 use Rattle.cd_code.specs.CodeWords.{AllCodeWords, SameSyndromes, bytes_at, column_places, diagonal_places}
 use Rattle.cd_code.proofs.PlaceLemmas.{bytes_at-byte, length-bytes_at}
 
--- if all syndromes of one are 0, so are those of the other
+-- if two sectors have the same syndromes, and those of one are all 0, so are those of the other
 pub AllCodeWords-same : {s t : List ℕ} → SameSyndromes s t → AllCodeWords t → AllCodeWords s
 AllCodeWords-same h k = record {
   columns = λ plane n hp hn.
@@ -25,7 +25,7 @@ AllCodeWords-same h k = record {
       record { first = same.first ∙ word.first; second = same.second ∙ word.second };
 }
 
--- ---- their syndromes
+-- ---- the syndromes
 
 bytes_at-sum : (u s t ps : List ℕ) → IsSum u s t → (i : ℕ) → i < length (bytes_at u ps)
     → get_or (bytes_at u ps) i 0 ≡ bit_xor (get_or (bytes_at s ps) i 0) (get_or (bytes_at t ps) i 0)
@@ -51,7 +51,7 @@ sums_add u s t ps h =
           (bytes_at-sum u s t ps h),
     )
 
--- a code word added to the bytes of a word leaves its syndromes
+-- adding a code word to the bytes of a word does not change its syndromes
 SameSums-sum : (u s t ps : List ℕ) → IsSum u s t → IsCodeWord (bytes_at t ps)
     → SameSums (bytes_at u ps) (bytes_at s ps)
 SameSums-sum u s t ps h word =
@@ -98,7 +98,7 @@ IsCodeWord-sum u s t ps h same =
       second = sums.1 ∙ ap (λ n. bit_xor n q) same.second ∙ xor_self q;
     }
 
--- and the sum's syndromes are 0 if they are equal
+-- the syndromes of the sum are 0 if those of the two sectors are equal
 pub AllCodeWords-sum : (u s t : List ℕ) → IsSum u s t → SameSyndromes s t → AllCodeWords u
 AllCodeWords-sum u s t h same = record {
   columns = λ plane n hp hn. IsCodeWord-sum u s t (column_places plane n) h
@@ -107,7 +107,7 @@ AllCodeWords-sum u s t h same = record {
       (same.diagonals plane n hp hn);
 }
 
--- ---- the remainder of their first bytes
+-- ---- the remainder of the first bytes
 
 take-sum : (u s t : List ℕ) (n : ℕ) → IsSum u s t → IsSum (take n u) (take n s) (take n t)
 take-sum u s t n h =

@@ -1,3 +1,3 @@
--- Lemmas that name nothing of this crate.
+-- Lemmas that do not mention anything of this crate.
 pub mod Chunks
 pub mod Counts

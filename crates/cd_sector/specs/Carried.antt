@@ -1,17 +1,17 @@
--- A sector whose damage is carried to another content: what was wrong in the old sector is wrong in
--- the new one, part by part, and nothing else is (ECMA-130, 14 and Annex A). The sector may be of
--- any kind; only the law about consistent sectors needs the mode byte 01.
+-- A sector whose damage is carried to different content: the new sector has the defects of the old
+-- one, part by part, and no others (ECMA-130, 14 and Annex A). The sector may be of any kind; only
+-- the law about consistent sectors needs the mode byte 01.
 use Rattle.std.specs.Prelude.{◌≡◌, ℕ, List, length, slice_range}
 use Rattle.cd_code.specs.Field.{AreBytes}
 use Rattle.cd_sector.specs.Consistent.{header_of, user_of}
 use Rattle.cd_sector.specs.Defect.{defect_of}
 
--- the bytes where the sync field stands
+-- the bytes in the place of the sync field
 unfoldable pub sync_of : List ℕ → List ℕ
 sync_of s = slice_range s 0 12
 
--- `new` has the sync field's bytes and the defect of `old`, and this header and this user data: the
--- same bytes in the Intermediate field, the same remainder of the EDC's division, the same 276
+-- `new` has this header and this user data, and the sync bytes and the defect of `old`: the same
+-- bytes in the Intermediate field, the same remainder of the EDC's division, and the same 276
 -- syndromes
 pub record IsCarried (old header user new : List ℕ) : Type 0 where
   pub size : length new ≡ 2352

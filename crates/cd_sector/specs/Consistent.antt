@@ -31,7 +31,7 @@ consistent s =
     (((length s == 2352) && list_all (λ b. nat_lt b 256) s) && is_mode1 (kind_of s))
     && is_sound (defect_of s)
 
--- a consistent sector, part by part: what `consistent` tests
+-- a consistent sector, part by part: the parts that `consistent` tests
 pub record IsConsistent (s : List ℕ) : Type 0 where
   pub size : length s ≡ 2352
   pub bytes : AreBytes s

@@ -1,4 +1,4 @@
--- What is wrong with a sector: four parts that are all 0 in a sound one (ECMA-130, 14 and Annex A).
+-- The defect of a sector: four parts, which are all 0 in a sound sector (ECMA-130, 14 and Annex A).
 use Rattle.std.specs.Prelude.{ℕ, ◌==◌, Bool, not, ◌&&◌, ◌||◌, if◌then◌else◌, List, map, take, slice_range}
 use Rattle.std.specs.List.{list_all, range_with_len}
 use Rattle.cd_code.specs.Edc.{bits, remainder}

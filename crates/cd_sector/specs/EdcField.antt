@@ -4,7 +4,7 @@ use Rattle.std.specs.Prelude.{◌≡◌, ℕ, ◌^◌, ◌<◌, bit_xor, List, t
 use Rattle.std.specs.Int.{to_le_bytes, w32}
 use Rattle.cd_code.specs.Edc.{IsEdc}
 
--- the EDC of the first 2064 bytes, with `error` added to it, stands after them
+-- the first 2064 bytes are followed by their EDC, with `error` added to it
 pub record StoresEdc (s : List ℕ) (error : ℕ) : Type 0 where
   pub word : ℕ
   pub fits : error < 2 ^ 32

@@ -1,4 +1,4 @@
--- An image: a list of bytes, cut into whole sectors from its front on, and a tail that is shorter
+-- An image: a list of bytes, divided from its front into whole sectors, and a tail that is shorter
 -- than a sector.
 use Rattle.std.specs.Prelude.{◌≡◌, ℕ, ◌*◌, ◌/◌, ◌<◌, ◌++◌, All, List, length, drop}
 use Rattle.std.specs.List.{flat_map}
@@ -18,11 +18,11 @@ tail image = drop (SECTOR_SIZE * (length image / SECTOR_SIZE)) image
 abbrev pub bytes_of : List (List ℕ) → List ℕ
 bytes_of whole = flat_map (λ sector. sector) whole
 
--- how many whole sectors an image may have
+-- the largest number of whole sectors in an image
 abbrev pub sector_limit : ℕ
 sector_limit = 1000000
 
--- how many bytes an image may have, its tail included
+-- the largest number of bytes in an image, including its tail
 abbrev pub image_limit : ℕ
 image_limit = SECTOR_SIZE * sector_limit
 
@@ -36,7 +36,7 @@ pub record IsCut (image : List ℕ) (whole : List (List ℕ)) (rest : List ℕ) 
   pub short : length rest < SECTOR_SIZE
   pub joined : flat_map (λ sector. sector) whole ++ rest ≡ image
 
--- the definitions cut each image, and nothing else does
+-- each image consists of its sectors and its tail, and divides in no other way
 abbrev pub ImagesAreCut : Type 0
 ImagesAreCut =
     (image : List ℕ) → IsCut image (sectors image) (tail image)

@@ -1,11 +1,11 @@
--- What follows from the definitions of sectors; each law is a contract of `laws.rt`.
+-- Laws that follow from the definitions of sectors. Each law is a contract in `laws.rt`.
 use Rattle.std.specs.Prelude.{◌≡◌, ◌↔◌, ℕ, IsTrue, List, [], ◌∷◌, ◌++◌, length, slice_index}
 use Rattle.cd_code.specs.Field.{AreBytes}
 use Rattle.cd_sector.specs.Carried.{IsCarried, sync_of}
 use Rattle.cd_sector.specs.Consistent.{IsConsistent, consistent, header_of, user_of}
 use Rattle.cd_sector.specs.Defect.{defect_of}
 
--- `consistent` tests just what `IsConsistent` says part by part
+-- `consistent` tests exactly the parts of `IsConsistent`
 abbrev pub ConsistentByParts : Type 0
 ConsistentByParts = (s : List ℕ) → IsTrue (consistent s) ↔ IsConsistent s
 
@@ -50,13 +50,13 @@ CarriedExists =
     → length header ≡ 4
     → AreBytes user → length user ≡ 2048 → (s : List ℕ) × IsCarried old header user s
 
--- what a consistent sector is carried to is consistent, if its mode byte is 1
+-- if a consistent sector is carried to a header with mode byte 1, the new sector is consistent
 abbrev pub CarriedOfConsistent : Type 0
 CarriedOfConsistent =
     (old header user s : List ℕ) → IsConsistent old → slice_index header 3 ≡ 1
     → IsCarried old header user s → IsConsistent s
 
--- each consistent sector is what any other consistent one is carried to
+-- any consistent sector, carried to the content of a consistent sector, becomes that sector
 abbrev pub ConsistentIsCarried : Type 0
 ConsistentIsCarried =
     (old s : List ℕ) → IsConsistent old → IsConsistent s → IsCarried old (header_of s) (user_of s) s

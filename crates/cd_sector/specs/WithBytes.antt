@@ -1,22 +1,22 @@
--- Plumbing of `with_bytes_mut`: nothing about CDs. A closure is called with a context and the bytes
--- of a sector, both lent to it where they stand.
+-- Plumbing of `with_bytes_mut`, and nothing about CDs: a closure is called with mutable references
+-- to a context and to the bytes of a sector.
 use Rattle.std.specs.Prelude.{◌≡◌, List, ℕ}
 use Rattle.std.specs.Borrow.{MutBor}
 use Rattle.std.specs.Fn.{Once}
 
--- what such a closure is passed, and what it returns, with what both references have afterwards
+-- the arguments of such a closure, and its result with both references after the call
 abbrev pub BytesCall : Type 0 → Type 0 → Type 0 → Type 1
 BytesCall F C R =
     Once F (MutBor C × (MutBor (List ℕ) × Unit {0})) (R × (MutBor C × (MutBor (List ℕ) × Unit {0})))
 
--- it may be called with this context and these bytes
+-- the closure may be called with this context and these bytes
 abbrev pub CanCall : {F C R : Type 0} → BytesCall F C R → F → C → List ℕ → Type 0
 CanCall {F} {C} call f context bytes =
     (given : MutBor C) (loan : MutBor (List ℕ)) → given.now ≡ context → loan.now ≡ bytes
     → call.pre f (given, (loan, tt))
 
--- called with this context and these bytes, it may return `result`, and leave the context as
--- `context'` and the bytes as `bytes'`
+-- called with this context and these bytes, the closure may return `result`, and leave the context
+-- as `context'` and the bytes as `bytes'`
 pub record Calls {F C R : Type 0} (call : BytesCall F C R) (f : F) (context : C) (bytes : List ℕ)
     (result : R) (context' : C) (bytes' : List ℕ) : Type 0 where
   pub given : MutBor C

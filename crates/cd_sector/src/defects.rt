@@ -1,4 +1,4 @@
-//! What is wrong with a sector, and whether it is consistent.
+//! Finds the defects of a sector, and tests whether it is consistent.
 
 ghost use Rattle.std.specs.Prelude.{◌≡◌, ℕ, ◌==◌, ◌<◌, ◌≤◌, ◌&&◌, ◌↔◌, IsTrue, if◌then◌else◌, count_by, length, List, slice_index, slice_range, take, true};
 ghost use Rattle.std.specs.List.{list_all, list_any};
@@ -15,12 +15,12 @@ use crate::sums::sum_of_bytes;
 use cd_code::{COLUMNS, DIAGONALS, P_PARITY};
 use cd_lanes::{all_column_sums, all_diagonal_sums, edc_of};
 
-/// Which parts of a sector are wrong (ECMA-130, 14 and Annex A).
+/// The parts of a sector that are wrong (ECMA-130, 14 and Annex A).
 #[derive(Clone, Copy, Debug, PartialEq, Eq)]
 pub struct DefectReport {
-    /// A byte of the Intermediate field, 2068 to 2075, is not `00`.
+    /// Whether a byte of the Intermediate field, 2068 to 2075, is not `00`.
     pub zeros: bool,
-    /// The EDC is not that of bytes 0 to 2063.
+    /// Whether the EDC field does not contain the EDC of bytes 0 to 2063.
     pub edc: bool,
     /// The number of P columns, of 86, that are not code words.
     pub p: u8,
@@ -28,7 +28,7 @@ pub struct DefectReport {
     pub q: u8,
 }
 
-/// What is wrong with a sector of any kind, taken as one of Mode 1 (ECMA-130, 14 and Annex A).
+/// Reports the defects of a sector of any kind, as if it were of Mode 1 (ECMA-130, 14 and Annex A).
 ///
 /// # Examples
 ///
@@ -53,7 +53,7 @@ pub fn defect(s: &Sector) -> DefectReport
     }
 }
 
-/// Whether a sector is of Mode 1, without any defect (ECMA-130, 14 and Annex A).
+/// Whether a sector is of Mode 1 and has no defect (ECMA-130, 14 and Annex A).
 ///
 /// # Examples
 ///
@@ -69,9 +69,9 @@ pub fn is_consistent(s: &Sector) -> bool
     has_mode1(s) && is_sound(s.bytes())
 }
 
-/// Whether two sectors of any kind, taken as ones of Mode 1, have the same defect: equal bytes in
-/// the Intermediate field, equal remainders of the EDC's division and equal syndromes (ECMA-130, 14
-/// and Annex A). The kinds play no part.
+/// Whether two sectors of any kind, as if they were of Mode 1, have the same defect: equal bytes in
+/// the Intermediate field, equal remainders of the EDC's division, and equal syndromes
+/// (ECMA-130, 14 and Annex A). Their kinds are not compared.
 ///
 /// # Examples
 ///
@@ -85,8 +85,8 @@ pub fn same_defect(a: &Sector, b: &Sector) -> bool
     ensures same { IsTrue result ↔ (defect_of a.now ≡ defect_of b.now) }
     ensures unique { result ≡ true → take 2064 a.now ≡ take 2064 b.now → a.now ≡ b.now }
 {
-    // Each part of the sum's defect is the sum of both parts, so it is 0 if they are equal. One
-    // test serves this call and `is_consistent`.
+    // Each part of the defect of the sum is the sum of the two parts, so it is 0 if they are equal.
+    // One test serves this call and `is_consistent`.
     is_sound(&sum_of_bytes(a.bytes(), b.bytes()))
 }
 
@@ -126,7 +126,7 @@ pub fn has_zeros(bytes: &[u8; SECTOR_SIZE]) -> bool
     bytes[INTERMEDIATE..P_PARITY].starts_with(&[0; P_PARITY - INTERMEDIATE])
 }
 
-/// Whether the EDC is that of the bytes before it.
+/// Whether the EDC field contains the EDC of the bytes before it.
 fn has_edc(bytes: &[u8; SECTOR_SIZE]) -> bool
     ensures { result ≡ (remainder (bits (take 2068 bytes.now)) == 0) }
 {
@@ -150,8 +150,9 @@ fn count_broken_diagonals(bytes: &[u8; SECTOR_SIZE]) -> u8
     count_broken(&sums.plain, &sums.weighted)
 }
 
-/// Marks the P columns of a sector of any kind, taken as one of Mode 1: 1 for a column that is not a
-/// code word, else 0 (ECMA-130, Annex A). Entry `2N + plane` is column N of that plane.
+/// Marks the P columns that are not code words, in a sector of any kind as if it were of Mode 1
+/// (ECMA-130, Annex A). Entry `2N + plane` becomes 1 if column N of that plane is not a code word,
+/// else 0.
 ///
 /// # Examples
 ///
@@ -169,8 +170,9 @@ pub fn mark_columns(s: &Sector, marks: &mut [u8; COLUMNS])
     mark_broken(&sums.plain, &sums.weighted, marks);
 }
 
-/// Marks the Q diagonals of a sector of any kind, taken as one of Mode 1: 1 for a diagonal that is
-/// not a code word, else 0 (ECMA-130, Annex A). Entry `2N + plane` is diagonal N of that plane.
+/// Marks the Q diagonals that are not code words, in a sector of any kind as if it were of Mode 1
+/// (ECMA-130, Annex A). Entry `2N + plane` becomes 1 if diagonal N of that plane is not a code
+/// word, else 0.
 ///
 /// # Examples
 ///
@@ -188,8 +190,8 @@ pub fn mark_diagonals(s: &Sector, marks: &mut [u8; DIAGONALS])
     mark_broken(&sums.plain, &sums.weighted, marks);
 }
 
-/// Marks words by their two syndromes, `plain` and `weighted`: 1 if these are not both 0, else 0
-/// (ECMA-130, Annex A).
+/// Marks the words whose two syndromes, in `plain` and `weighted`, are not both 0: their marks
+/// become 1, all others 0 (ECMA-130, Annex A).
 ///
 /// # Examples
 ///
@@ -209,8 +211,8 @@ pub fn mark_broken(plain: &[u8], weighted: &[u8], marks: &mut [u8])
     }
 }
 
-/// The number of words, at most 86, whose two syndromes, `plain` and `weighted`, are not both 0
-/// (ECMA-130, Annex A).
+/// Counts, among at most 86 words, those whose two syndromes, in `plain` and `weighted`, are not
+/// both 0 (ECMA-130, Annex A).
 ///
 /// # Examples
 ///

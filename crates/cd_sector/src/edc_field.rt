@@ -9,7 +9,7 @@ use crate::sector::{EDC, INTERMEDIATE, SECTOR_SIZE, put_part};
 use byteorder::{ByteOrder, LittleEndian};
 use cd_lanes::edc_of;
 
-/// The four bytes of an EDC word, as they stand in a sector (ECMA-130, 14).
+/// Converts an EDC word to its four bytes in a sector, the least significant first (ECMA-130, 14).
 ///
 /// # Examples
 ///
@@ -24,7 +24,7 @@ pub fn edc_bytes(word: u32) -> [u8; 4]
     bytes
 }
 
-/// The word in the EDC field of a sector of these bytes, right or not (ECMA-130, 14).
+/// Reads the word in the EDC field of a sector, whether it is right or wrong (ECMA-130, 14).
 ///
 /// See the example of [`put_edc`].
 pub fn stored_edc(bytes: &[u8; SECTOR_SIZE]) -> u32
@@ -33,7 +33,7 @@ pub fn stored_edc(bytes: &[u8; SECTOR_SIZE]) -> u32
     LittleEndian::read_u32(&bytes[EDC..INTERMEDIATE])
 }
 
-/// Makes `word` the word in the EDC field (ECMA-130, 14).
+/// Writes `word` to the EDC field (ECMA-130, 14).
 ///
 /// # Examples
 ///
@@ -51,8 +51,8 @@ pub fn put_edc(bytes: &mut [u8; SECTOR_SIZE], word: u32)
     put_part(bytes, EDC, &edc_bytes(word));
 }
 
-/// Writes the EDC of bytes 0 to 2063 after them, with `error` added: 0, or the error of a
-/// damaged sector's EDC (ECMA-130, 14).
+/// Writes the EDC of bytes 0 to 2063 after them, with `error` added. `error` is 0, or the error in
+/// the EDC of a damaged sector (ECMA-130, 14).
 ///
 /// # Examples
 ///

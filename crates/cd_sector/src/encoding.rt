@@ -1,4 +1,4 @@
-//! Making the one consistent sector with a given content.
+//! Encodes Mode 1 sectors: finds the one consistent sector with a given content.
 
 ghost use Rattle.std.specs.Prelude.{◌≡◌, ℕ, ◌<◌, ◌≤◌, List, [], ◌∷◌, ◌++◌, slice_index, take};
 ghost use Rattle.cd_code.specs.Edc.{bits, remainder};
@@ -17,8 +17,8 @@ use crate::sector::{
     put_part,
 };
 
-/// The one consistent sector with these three header bytes, which may be any, the mode byte 01 and
-/// this user data (ECMA-130, 14 and Annex A).
+/// Encodes a sector: returns the one consistent sector with these three header bytes (of any
+/// value), the mode byte 01, and this user data (ECMA-130, 14 and Annex A).
 ///
 /// # Examples
 ///
@@ -39,8 +39,8 @@ pub fn encode(header: [u8; 3], user: &[u8; USER_SIZE]) -> Sector
     Sector::from_bytes(bytes)
 }
 
-/// Makes a sector of any content the one that [`encode`] gives, in its place (ECMA-130, 14 and
-/// Annex A).
+/// Overwrites a sector of any content with the sector that [`encode`] returns
+/// (ECMA-130, 14 and Annex A).
 ///
 /// # Examples
 ///
@@ -59,8 +59,8 @@ pub fn encode_into(s: &mut Sector, header: [u8; 3], user: &[u8; USER_SIZE])
     s.with_bytes_mut(&mut (), |_, bytes| fill_sector(bytes, header, user));
 }
 
-/// Makes a sector of Mode 1 the one consistent sector with its header and its user data
-/// (ECMA-130, 14 and Annex A).
+/// Recalculates the EDC, the Intermediate field, and the parity of a Mode 1 sector. It becomes the
+/// one consistent sector with its header and its user data (ECMA-130, 14 and Annex A).
 ///
 /// # Examples
 ///
@@ -92,7 +92,7 @@ fn fill_sector(bytes: &mut [u8; SECTOR_SIZE], header: [u8; 3], user: &[u8; USER_
     fill_codes(bytes);
 }
 
-/// Writes a Mode 1 sector up to its user data.
+/// Writes the sync field, the header, and the user data of a Mode 1 sector.
 #[inline(always)]
 fn put_content(bytes: &mut [u8; SECTOR_SIZE], header: [u8; 3], user: &[u8; USER_SIZE])
     ensures { (k : ℕ) → k < 2064
@@ -104,8 +104,8 @@ fn put_content(bytes: &mut [u8; SECTOR_SIZE], header: [u8; 3], user: &[u8; USER_
     put_part(bytes, USER_DATA, user);
 }
 
-/// Writes what follows the user data of a Mode 1 sector: the EDC, the Intermediate field and the
-/// parity.
+/// Writes the fields after the user data of a Mode 1 sector: the EDC, the Intermediate field, and
+/// the parity.
 fn fill_codes(bytes: &mut [u8; SECTOR_SIZE])
     ensures front { (k : ℕ) → k < 2064 → slice_index bytes.new k ≡ slice_index bytes.old k }
     ensures zeros { (k : ℕ) → 2068 ≤ k → k < 2076 → slice_index bytes.new k ≡ 0 }

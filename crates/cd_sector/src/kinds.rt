@@ -1,11 +1,11 @@
-//! The kind of a sector, which its sync field and its mode byte give.
+//! The kinds of sectors, recognised by the sync field and the mode byte.
 
 ghost use Rattle.std.specs.Prelude.{◌≡◌};
 ghost use Rattle.cd_sector.specs.Kind.{kind_of};
 
 use crate::sector::{MODE, Sector};
 
-/// The kinds of sector that ECMA-130 knows, and two that it does not: without a sync field, and
+/// The kinds of sectors: the three of ECMA-130, and two others, one without a sync field and one
 /// with a mode byte above 2.
 #[derive(Clone, Copy, Debug, PartialEq, Eq)]
 pub enum SectorKind {

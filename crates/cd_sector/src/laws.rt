@@ -1,5 +1,5 @@
-//! Laws of consistent sectors and of carried damage, each the contract of a function that does
-//! nothing.
+//! Laws of consistent sectors and of carried damage. Each law is the contract of a function that
+//! does nothing.
 
 ghost use Rattle.cd_sector.specs.Laws.{CarriedExists, CarriedIsUnique, CarriedOfConsistent, ConsistentByParts, ConsistentIsCarried, SectorByDefect, SectorExists, SectorIsUnique};
 
@@ -24,25 +24,26 @@ pub fn sector_by_defect()
     ensures { SectorByDefect }
 {}
 
-/// There is at most one sector with a sector's sync field and defect, and a given header and given
-/// user data.
+/// There is at most one sector with the sync field and the defect of a given sector, and with a
+/// given header and given user data.
 pub fn carried_is_unique()
     ensures { CarriedIsUnique }
 {}
 
-/// For any sector, any four header bytes and 2048 bytes of user data there is a sector with that
-/// content and the old sync field and defect.
+/// For any sector, any four header bytes, and any 2048 bytes of user data, there is a sector with
+/// this content, and with the sync field and the defect of the given sector.
 pub fn carried_exists()
     ensures { CarriedExists }
 {}
 
-/// What a consistent sector is carried to, with mode byte 01, is consistent.
+/// If the damage of a consistent sector is carried to a content with mode byte 01, the new sector
+/// is consistent.
 pub fn carried_of_consistent()
     ensures { CarriedOfConsistent }
 {}
 
-/// A consistent sector is what any other consistent one is carried to, with its header and user
-/// data.
+/// If the damage of a consistent sector is carried to the header and the user data of another
+/// consistent sector, that other sector results.
 pub fn consistent_is_carried()
     ensures { ConsistentIsCarried }
 {}

@@ -1,5 +1,5 @@
-//! A sector of a CD-ROM as ECMA-130, 14 lays it out: its kind, the one consistent sector with a
-//! given content, and what is wrong with a sector. Places count from 0.
+//! Sectors of a CD-ROM (ECMA-130, 14): recognises their kinds, encodes them from their content, and
+//! reports their defects. Places are counted from 0.
 //!
 //! | Bytes | Field of a Mode 1 sector |
 //! |---|---|
@@ -19,9 +19,9 @@
 //! assert!(rt; !is_consistent(&sector));
 //! ```
 //!
-//! A sector of any other kind is only named ([`kind`]): the two forms of Mode 2 are not in
-//! ECMA-130. An image has at most [`MAX_SECTORS`] whole sectors, then a tail that is shorter. No call
-//! takes memory.
+//! Of a sector of any other kind only the kind is recognised ([`kind`]), since the two forms of
+//! Mode 2 are not in ECMA-130. An image has at most [`MAX_SECTORS`] whole sectors, followed by a
+//! tail that is shorter than a sector. No call allocates memory.
 //!
 //! Tests: `crates/cd_low_tests/src/tests/sectors.rt`.
 #![tactic(auto)]

@@ -6,8 +6,9 @@ ghost use Rattle.cd_code.specs.CodeWords.{AllCodeWords};
 use crate::sector::{SECTOR_SIZE, Sector};
 use cd_lanes::{fill_columns, fill_diagonals};
 
-/// Makes the 276 bytes of P and Q parity from the 2076 bytes before them, in a sector of any kind
-/// (ECMA-130, Annex A). Public for cd_delta too, which gives a sector of differences its parity.
+/// Computes and writes the 276 bytes of P and Q parity from the 2076 bytes before them, in a sector
+/// of any kind (ECMA-130, Annex A). Public for cd_delta too, which computes the parity of a sector
+/// of differences.
 ///
 /// # Examples
 ///
@@ -24,7 +25,7 @@ pub fn fill_parity(s: &mut Sector)
     s.with_bytes_mut(&mut (), |_, bytes| fill_code_words(bytes));
 }
 
-/// Makes the P parity, and then the Q parity, whose diagonals run through the P parity.
+/// Writes the P parity first, and then the Q parity, whose diagonals include the P parity.
 pub(crate) fn fill_code_words(bytes: &mut [u8; SECTOR_SIZE])
     ensures words { AllCodeWords bytes.new }
     ensures stays { (k : ℕ) → k < 2076 → slice_index bytes.new k ≡ slice_index bytes.old k }

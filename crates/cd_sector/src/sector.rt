@@ -1,8 +1,8 @@
-//! The 2352 bytes of one sector, and where its parts begin (ECMA-130, 14 and Annex A). Places count
-//! from 0.
+//! The 2352 bytes of a sector, and the places of its fields (ECMA-130, 14 and Annex A). Places are
+//! counted from 0.
 //!
-//! The code of this crate and of cd_delta uses these constants. Definitions and clauses have the
-//! standard's numbers, so the contracts refuse a wrong constant.
+//! The code of this crate and of cd_delta uses these constants. Definitions and clauses contain the
+//! numbers of the standard, so that the contracts refuse a wrong constant.
 
 ghost use Rattle.std.specs.Prelude.{◌≡◌, ◌+◌, ◌<◌, ◌≤◌, ◌⊎◌, List, ℕ, length, replicate, slice_index, slice_set};
 ghost use Rattle.cd_code.specs.Field.{AreBytes};
@@ -20,10 +20,10 @@ pub const USER_SIZE: usize = 2048;
 /// The place of the header, after the sync field; the planes of the parity begin here too.
 pub const HEADER: usize = cd_code::HEADER;
 
-/// The place of the mode byte, the last of the header.
+/// The place of the mode byte, which is the last byte of the header.
 pub(crate) const MODE: usize = 15;
 
-/// Where the user data begins.
+/// The place of the user data.
 pub const USER_DATA: usize = 16;
 
 /// The place of the four bytes of the EDC, after the user data.
@@ -32,8 +32,8 @@ pub const EDC: usize = 2064;
 /// The place of the eight bytes of the Intermediate field, after the EDC.
 pub const INTERMEDIATE: usize = 2068;
 
-/// A sector: 2352 bytes of any content, and nothing else in memory (`repr(C)`), so C's 2352 bytes
-/// are a `Sector` where they stand. A contract sees the list of its bytes.
+/// A sector: 2352 bytes of any content. It has no other bytes in memory (`repr(C)`), so 2352 bytes
+/// in C are used as a `Sector` without a copy. Contracts see it as the list of its bytes.
 #[derive(Clone, Copy, Debug, PartialEq, Eq)]
 #[repr(C)]
 pub struct Sector {
@@ -55,7 +55,7 @@ impl Model for Sector {
 }
 
 impl Sector {
-    /// The sector of these 2352 bytes.
+    /// Creates a sector from its 2352 bytes.
     ///
     /// # Examples
     ///
@@ -82,7 +82,7 @@ impl Sector {
         &self.bytes
     }
 
-    /// The byte at `place`, which counts from 0.
+    /// The byte at `place`, counted from 0.
     ///
     /// See the example of [`Sector::put`].
     pub fn byte(&self, place: usize) -> u8
@@ -92,7 +92,7 @@ impl Sector {
         self.bytes[place]
     }
 
-    /// Makes `b` the byte at `place`, which counts from 0.
+    /// Sets the byte at `place`, counted from 0, to `b`.
     ///
     /// # Examples
     ///
@@ -108,10 +108,10 @@ impl Sector {
         self.bytes[place] = b;
     }
 
-    /// Proof step: calls `f` with `context` and the 2352 bytes, where they stand, and returns
-    /// its result. The toolchain does not prove a method that returns the loan, and knows nothing
-    /// of what a closure captured by `&mut`, so the bytes, and what else `f` changes, go through a
-    /// call.
+    /// Proof step: calls `f` with `context` and with the 2352 bytes in place, and returns its
+    /// result. The toolchain cannot prove a method that returns a mutable reference, and knows
+    /// nothing of variables that a closure captures by `&mut`. So the bytes, and everything else
+    /// that `f` changes, are arguments of the call.
     ///
     /// # Examples
     ///
@@ -130,7 +130,7 @@ impl Sector {
         ensures { Calls F.FnOnce f context.old self.old result context.new self.new }
     {
         let result = f(context, &mut self.bytes);
-        // So the list of bytes that contracts see is one of numbers below 256 again.
+        // Restores the invariant: the list of bytes that contracts see has only numbers below 256.
         lemma_are_bytes(&self.bytes);
         result
     }
@@ -173,7 +173,7 @@ impl Sector {
 }
 
 impl Default for Sector {
-    /// 2352 bytes `00`.
+    /// A sector of 2352 bytes `00`.
     fn default() -> Self
         ensures { result ≡ replicate SECTOR_SIZE 0 }
     {
@@ -181,7 +181,7 @@ impl Default for Sector {
     }
 }
 
-/// Writes `part` over the bytes of a sector from place `at` on, which counts from 0.
+/// Copies `part` over the bytes of a sector from place `at` on, counted from 0.
 ///
 /// # Examples
 ///
@@ -200,8 +200,8 @@ pub fn put_part(bytes: &mut [u8; SECTOR_SIZE], at: usize, part: &[u8])
     bytes[at..at + part.len()].copy_from_slice(part);
 }
 
-/// Proof step: does nothing. Its contract says that each byte of an array is below 256, whoever has
-/// written it.
+/// Proof step: does nothing. Its contract states that each byte of an array is below 256, whatever
+/// code wrote it.
 #[inline(always)]
 pub(crate) fn lemma_are_bytes(bytes: &[u8; SECTOR_SIZE])
     ensures { AreBytes bytes.now }

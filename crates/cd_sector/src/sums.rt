@@ -1,13 +1,13 @@
-//! The sum of two sectors, byte by byte. Its syndromes and the remainder of its EDC are the sums of
-//! theirs.
+//! Adds two sectors byte by byte. The syndromes of the sum, and the remainder of its EDC, are the
+//! sums of the syndromes and of the remainders of the two sectors.
 
 ghost use Rattle.std.specs.Prelude.{◌≡◌, ℕ, bit_xor, length, slice_index};
 ghost use Rattle.cd_code.specs.Field.{AreBytes, IsSum};
 
 use crate::sector::{SECTOR_SIZE, Sector};
 
-/// The sum of two sectors, byte by byte, in the field of the parity (ECMA-130, Annex A). Public for
-/// cd_delta, which makes a sector of differences.
+/// Adds two sectors byte by byte, in the field of the parity (ECMA-130, Annex A). Public for
+/// cd_delta, which computes a sector of differences.
 ///
 /// # Examples
 ///

@@ -1,4 +1,4 @@
--- Bytes that are held in a buffer, from one place to another.
+-- The bytes that a buffer holds between two places.
 use Rattle.std.proofs.Common.{◌≡◌, ℕ, ◌+◌, ◌-◌, ◌≤◌, List, ◌++◌, length, take, drop, Option, [], Result, Ok, Err, append-nil, refl, sym, subst, ap, ◌∙◌, arith, append_assoc}
 use Rattle.std.proofs.Math.ListN.{length-drop}
 use Rattle.std.proofs.Math.Seq.{take-append-add}
@@ -11,11 +11,11 @@ use Rattle.std.specs.Prelude.{◌<◌, if◌then◌else◌, nat_le, IfOk}
 use Rattle.cd_stream.specs.Stream.{Outgoing}
 use Rattle.cd_stream.specs.Transfer.{PutSome}
 
--- what is held from a place to another
+-- the bytes held from one place to another
 abbrev pub between : ℕ → ℕ → List ℕ → List ℕ
 between start end space = take (end - start) (drop start space)
 
--- the bytes that a write put after those that are held are held with them
+-- bytes written after the held bytes are held too
 pub held-longer : (start end : ℕ) (space bytes : List ℕ) → start ≤ end
     → end + length bytes ≤ length space
     → between start (end + length bytes)
@@ -36,7 +36,7 @@ held-longer start end space bytes ordered room =
     (take-append-le (length bytes) bytes (drop (end + length bytes) space) (omega arith)
     ∙ take_all (length bytes) bytes (omega arith))
 
--- the same of the buffer as a write through a slice of it left it
+-- the same for the buffer after a write through a slice of it
 pub held-put : (start end : ℕ) (space lent new items bytes : List ℕ) → start ≤ end
     → end + length bytes ≤ length space → lent ≡ space
     → new ≡ take end lent ++ bytes ++ drop (end + length bytes) lent → items ≡ new
@@ -47,7 +47,7 @@ held-put start end space lent new items bytes ordered room whole put same =
     ∙ append_assoc (take end space) bytes (drop (end + length bytes) space) in
     ap (between start (end + length bytes)) written ∙ held-longer start end space bytes ordered room
 
--- what is held is its first n bytes, and then what is held from n places on
+-- the held bytes are the first n of them, and then those held from n places on
 held-cut : (start end n : ℕ) (space : List ℕ) → n ≤ end - start
     → between start end space ≡ take n (between start end space) ++ between (start + n) end space
 held-cut start end n space few =
@@ -58,7 +58,7 @@ held-cut start end n space few =
     sym (take-append-drop n (between start end space))
     ∙ ap (λ l. take n (between start end space) ++ l) rest
 
--- bytes that the sink below took are no longer held
+-- bytes that the inner sink accepted are no longer held
 pub Keeps-passed : (before got got' : Option (List ℕ)) (start end n : ℕ) (space lent : List ℕ)
     → n ≤ end - start → lent ≡ between start end space
     → Keeps before (append_known got (between start end space)) → Appends got got' (take n lent)
@@ -70,14 +70,14 @@ Keeps-passed before got got' start end n space lent few same kept went =
     ∙ ap (λ l. take n l ++ between (start + n) end space) (sym same)) in
     Keeps-trans before _ _ kept passed
 
--- a buffer whose places are its front holds nothing
+-- a buffer whose two places are its front holds nothing
 pub between-none : (start end : ℕ) (space : List ℕ) → start ≡ 0 → end ≡ 0
     → between start end space ≡ []
 between-none start end space s e =
     let none : end - start ≡ 0 = omega (arith, s, e) in
     ap (λ k. take k (drop start space)) none
 
--- a write past a buffer that holds nothing is the write of the sink below
+-- a write past a buffer that holds nothing is a write of the inner sink
 pub PutSome-past : {E : Type 0} (before after old new : Outgoing) (held given : List ℕ)
     (result : Result ℕ E) → held ≡ []
     → after.written ≡ append_known new.written held
@@ -101,7 +101,7 @@ pub held_only-past : (space : ℕ) (bytes : List ℕ) → space < length bytes
     → (if nat_le (length bytes) space then bytes else []) ≡ []
 held_only-past space bytes more = rw (lt-leb (length bytes) space more) refl
 
--- what holds in any case holds at Ok
+-- a fact that is true in any case is true at Ok
 pub IfOk-any : {X E : Type 0} (r : Result X E) (P : Type 0) → P → IfOk r (λ _. P)
 IfOk-any (Ok x) P p = p
 IfOk-any (Err e) P p = tt

@@ -1,4 +1,4 @@
--- Bytes that come or go in several calls, and how they are counted.
+-- Bytes that are read or written in several calls, and their counts.
 use Rattle.std.proofs.Common.{◌≡◌, ℕ, ◌+◌, ◌-◌, ◌≤◌, List, ◌++◌, [], length, length-append, take, drop, Option, Result, refl, sym, ap, ◌∙◌, subst, arith}
 use Rattle.std.proofs.Math.ListN.{length-take}
 use Rattle.std.proofs.Math.Seq.{take-add, take-append-add}
@@ -31,7 +31,7 @@ Takes-front old new n bytes few went count same lent =
       lent = lent;
     }
 
--- none
+-- no bytes
 pub Takes-nil : (a : Outgoing) → Takes a a []
 Takes-nil a = record {
   appends = Appends-nil a.written;
@@ -40,7 +40,7 @@ Takes-nil a = record {
   lent = refl;
 }
 
--- one after the other
+-- bytes of two reads, one after the other
 pub Gives-trans : (a b c : Incoming) (bs cs : List ℕ) → Gives a b bs → Gives b c cs
     → Gives a c (bs ++ cs)
 Gives-trans a b c bs cs p q = record {
@@ -67,7 +67,7 @@ Takes-flushed a b c bs result went flush = record {
   lent = flush.lent ∙ went.lent;
 }
 
--- the front of a buffer, after n bytes more were read into what follows it
+-- the front of a buffer, after n more bytes were read into the part after it
 take-refilled : (have n : ℕ) (xs ys post : List ℕ) → have ≤ length xs → n ≤ length ys
     → take (have + n) (take have xs ++ (ys ++ post)) ≡ take have xs ++ take n ys
 take-refilled have n xs ys post h m =
@@ -94,7 +94,7 @@ Consumes-ended a b c have n xs ys post h e p q =
     subst (λ k. Consumes a c (take k (take have xs ++ (ys ++ post)))) none
     (Consumes-filled a b c have n xs ys post h (omega (arith, e)) p q)
 
--- what follows a place is as long as a slice from there to the end
+-- the part after a place is at least as long as a slice from there to the end
 pub length-after : (at : ℕ) (bytes : List ℕ)
     → length (take (length bytes - at) (drop at bytes)) ≤ length bytes - at
 length-after at bytes = omega (arith, length-take (length bytes - at) (drop at bytes))

@@ -1,4 +1,4 @@
--- What the adapters show besides what every source and sink does.
+-- The state of the adapters in contracts, beyond the properties of all sources and sinks.
 use Rattle.std.specs.Prelude.{ℕ, ◌+◌, ◌-◌, Bool, ◌&&◌, false, true, Some, length, min, nat_eq, replicate, take}
 use Rattle.std.specs.Prelude.{List, drop}
 use Rattle.std.specs.Borrow.{GName, MutBor}
@@ -12,7 +12,7 @@ use Rattle.cd_stream.specs.declared.adapters.zero_source.ZeroSource.{ZeroSource}
 
 -- ---- a slice as a source, and zeros
 
--- what a contract sees of a slice: its bytes from the next one on, and no failure
+-- a slice as a source in contracts: its bytes from the next one on, and no failure
 abbrev pub slice_incoming : SliceSource → Incoming
 slice_incoming s = record {
   rest = Some s.rest.now;
@@ -21,7 +21,7 @@ slice_incoming s = record {
   ended = s.ended;
 }
 
--- what a contract sees of zeros: as many as are left, and no failure
+-- zeros as a source in contracts: as many as are left, and no failure
 abbrev pub zeros_incoming : ZeroSource → Incoming
 zeros_incoming s = record {
   rest = Some (replicate s.left 0);
@@ -36,7 +36,7 @@ zeros_incoming s = record {
 abbrev pub lent_to : SliceSink → MutBor (List ℕ)
 lent_to s = (manually_drop_value s.lent).value.slice
 
--- what a contract sees of a slice as a sink: the bytes at its front; its flush never fails
+-- a slice as a sink in contracts: the bytes at its front; its flush never fails
 abbrev pub slice_outgoing : SliceSink → Outgoing
 slice_outgoing s = record {
   written = Some (take s.used s.space.now);
@@ -48,7 +48,7 @@ slice_outgoing s = record {
   lent = Some (lent_to s);
 }
 
--- what was written, at the front of the slice
+-- the bytes written, at the front of the slice
 abbrev pub slice_written : SliceSink → List ℕ
 slice_written s = take s.used s.space.now
 
@@ -56,8 +56,7 @@ slice_written s = take s.used s.space.now
 abbrev pub rest_of_slice : SliceSink → List ℕ
 rest_of_slice s = drop s.used s.space.now
 
--- the ghost name of the slice that it stands over: plumbing, by which a caller finds his slice
--- again
+-- the ghost name of the slice: plumbing, by which a caller knows that it is the same slice
 abbrev pub slice_ghost_name : SliceSink → GName
 slice_ghost_name s = s.space.ghost_name
 
@@ -65,25 +64,25 @@ slice_ghost_name s = s.space.ghost_name
 abbrev pub room_of : SliceSink → ℕ
 room_of s = length s.space.now - s.used
 
--- ---- few bytes a call
+-- ---- few bytes per call
 
 -- the source or sink inside
 abbrev pub short_inner : {S : Type 0} → Short S → S
 short_inner s = s.inner
 
--- the largest number of bytes that it passes in a call
+-- the largest number of bytes that it passes per call
 abbrev pub passes_at_most : {S : Type 0} → Short S → ℕ
 passes_at_most s = s.most
 
--- whether the last call of its own `write` and `finish` was a `finish` that succeeded
+-- whether the last call of its own `write` or `finish` was a `finish` that succeeded
 abbrev pub short_finished : {S : Type 0} → Short S → Bool
 short_finished s = s.finished
 
--- what a contract sees of it: as the sink inside, but finished or not by its own calls
+-- its state in contracts: that of the sink inside, but finished or not by its own calls
 abbrev pub short_outgoing : {S : Type 0} → (S → Outgoing) → Short S → Outgoing
 short_outgoing seen s = record (seen s.inner) { finished = s.finished }
 
--- ---- failing from some byte on
+-- ---- failing after a number of bytes
 
 -- the source or sink inside
 abbrev pub fail_after_inner : {S : Type 0} → FailAfter S → S
@@ -97,23 +96,24 @@ still_passes f = f.left
 abbrev pub own_failures : {S : Type 0} → FailAfter S → ℕ
 own_failures f = f.own
 
--- whether the last call of its own `write` and `finish` was a `finish` that succeeded
+-- whether the last call of its own `write` or `finish` was a `finish` that succeeded
 abbrev pub fail_after_finished : {S : Type 0} → FailAfter S → Bool
 fail_after_finished f = f.finished
 
--- the failures inside and its own, as far as they can be counted
+-- the sum of the failures inside and its own, as far as they can be counted
 abbrev pub failures_with : {S : Type 0} → ℕ → FailAfter S → ℕ
 failures_with within f = min (within + f.own) 4294967295
 
--- what a contract sees of it as a source: as the source inside, with its own failures; once it has
--- failed itself, it has not ended
+-- its state as a source in contracts: that of the source inside, with its own failures added; once
+-- it has failed itself, it has not ended
 abbrev pub failing_incoming : {S : Type 0} → (S → Incoming) → FailAfter S → Incoming
 failing_incoming seen f = record (seen f.inner) {
   failures = failures_with (seen f.inner).failures f;
   ended = (seen f.inner).ended && nat_eq f.own 0;
 }
 
--- what a contract sees of it as a sink: as the sink inside, with its own failures, also in a flush
+-- its state as a sink in contracts: that of the sink inside, with its own failures added, including
+-- those of a flush
 abbrev pub failing_outgoing : {S : Type 0} → (S → Outgoing) → FailAfter S → Outgoing
 failing_outgoing seen f = record {
   written = (seen f.inner).written;

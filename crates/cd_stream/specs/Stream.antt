@@ -1,21 +1,20 @@
--- What a contract sees of a source and of a sink.
+-- A source and a sink, as contracts see them.
 use Rattle.std.specs.Prelude.{◌≡◌, ℕ, ◌<◌, Bool, List, ◌++◌, Option}
 use Rattle.std.specs.Borrow.{MutBor}
 
--- of a source: the bytes that are still to come, if they are known; how many its reads have given,
--- known or not; how many of its reads have failed; and whether its last read returned 0 bytes: not
--- before its first one, unless it stands over one that has ended
+-- a source: the bytes that are still to be read, if they are known; the number of bytes read, known
+-- or not; the number of failed reads; and whether the last read returned 0 bytes. The last is false
+-- before the first read, unless the source adapts one that has ended
 pub record Incoming : Type 0 where
   pub rest : Option (List ℕ)
   pub given : ℕ
   pub failures : ℕ
   pub ended : Bool
 
--- of a sink: the bytes that it has got, if they are known; how many its writes have taken, known or
--- not; how many flushes were made; how many of its writes and flushes have failed; whether the last
--- call of `write` and `finish` was a `finish` that succeeded; and two facts that no call changes:
--- whether a flush of it may fail at all, and the slice that its bytes go to, as it was lent, if it
--- stands over one
+-- a sink: the bytes written to it, if they are known; the number of bytes written, known or not;
+-- the number of flushes; the number of failed writes and flushes; and whether the last call of
+-- `write` or `finish` was a `finish` that succeeded. No call changes the last two fields: whether a
+-- flush may fail at all, and, if the bytes go to a slice, the slice as it was lent
 pub record Outgoing : Type 0 where
   pub written : Option (List ℕ)
   pub taken : ℕ
@@ -25,11 +24,11 @@ pub record Outgoing : Type 0 where
   pub flush_may_fail : Bool
   pub lent : Option (MutBor (List ℕ))
 
--- how many failures a source or a sink can count
+-- the largest number of failures that a source or a sink can count
 abbrev pub failure_limit : ℕ
 failure_limit = 4294967295
 
--- one failure more can be counted
+-- one more failure can be counted
 abbrev pub CanCountFailure : ℕ → Type 0
 CanCountFailure failures = failures < failure_limit
 

@@ -1,4 +1,4 @@
-//! The forms of sources and sinks.
+//! The types that are sources or sinks.
 
 pub mod buffered;
 pub mod fail_after;

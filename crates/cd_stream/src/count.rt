@@ -1,4 +1,4 @@
-//! A number that only clauses read.
+//! A counter that only contracts can read.
 
 ghost use Rattle.std.specs.Prelude.{◌≡◌, ℕ, ◌+◌, Option, List, [], ◌∷◌, length, sum};
 ghost use Rattle.std.specs.Option.{unwrap_or};
@@ -9,7 +9,8 @@ use std::marker::Model;
 use std::mem::{self, ManuallyDrop};
 use std::snapshot::Snapshot;
 
-/// One increment, linked to the earlier ones. A contract sees all of them, the last one first.
+/// One increment, linked to the earlier ones. A contract sees the list of all increments, the last
+/// one first.
 #[derive(Drop)]
 struct More {
     before: ManuallyDrop<Snapshot<Option<More>>>,
@@ -24,12 +25,14 @@ impl Model for More {
     ghost size = { length };
 }
 
-/// A number that only clauses read: it has no bytes, and adding to it costs nothing. A contract
-/// sees the number. A source or a sink over a file counts by it, since a field of the machine would
-/// end at its largest value and cost instructions, and a ghost field can hold no number.
+/// A counter that only contracts can read: it occupies no bytes, and adding to it costs nothing. A
+/// contract sees its value as a number. Sources and sinks over files count with it, since a machine
+/// integer would end at its largest value and cost instructions, and a ghost field cannot hold a
+/// number.
 #[derive(Drop)]
 pub struct Count {
-    // Nothing is to be dropped, so that what holds a count can be dropped after what it borrows.
+    // Nothing is dropped, so that a value with a count can be dropped after the data that it
+    // borrows.
     number: ManuallyDrop<Snapshot<Option<More>>>,
 }
 
@@ -46,7 +49,7 @@ impl Debug for Count {
 }
 
 impl Count {
-    /// A count of nothing.
+    /// A count of 0.
     ///
     /// # Examples
     ///
@@ -63,7 +66,7 @@ impl Count {
         }
     }
 
-    /// Counts `n` more.
+    /// Adds `n`.
     ///
     /// See the example of [`Count::zero`].
     pub fn add(&mut self, n: usize)

@@ -1,4 +1,4 @@
-//! Where bytes come from and where they go: sources and sinks that count their failures.
+//! Sources and sinks of bytes, which count their failures.
 //!
 //! ```
 //! let mut source = SliceSource::new(b"abc");
@@ -7,15 +7,15 @@
 //! assert_eq!(rt; into, *b"abc\0");
 //! ```
 //!
-//! A [`Source`] reads some bytes a call and returns 0 at the end; a [`Sink`] writes some, and
-//! `finish` passes on what it holds back. Nothing is tried again: a call that fails has moved no
-//! byte, and one failure more is counted. So a caller, and its contract, can say afterwards which
-//! side has failed.
+//! A [`Source`] reads some bytes per call and returns 0 at the end. A [`Sink`] writes some bytes
+//! per call, and its `finish` passes on the bytes that it holds back. Nothing is tried again: a
+//! call that fails has moved no byte, and one more failure is counted. So a caller, and its
+//! contract, can say afterwards which side has failed.
 //!
-//! [`FromRead`] and [`ToWrite`] stand over std's readers and writers, [`SliceSource`] and
-//! [`SliceSink`] over memory, [`Buffered`] over a sink that is costly to call. [`ZeroSource`],
-//! [`Short`] and [`FailAfter`] are for tests. No call takes memory of its own: a [`Buffered`] is
-//! given its space. At most 4,294,967,295 failures are counted.
+//! [`FromRead`] and [`ToWrite`] adapt std's readers and writers, [`SliceSource`] and [`SliceSink`]
+//! adapt memory, and [`Buffered`] adapts a sink that is costly to call. [`ZeroSource`], [`Short`],
+//! and [`FailAfter`] are for tests. No call allocates memory: the space of a [`Buffered`] is passed
+//! to it. At most 4,294,967,295 failures are counted.
 //!
 //! Tests: `crates/cd_image_tests/src/tests/streams`.
 #![tactic(auto)]

@@ -1,4 +1,4 @@
-//! Where bytes go.
+//! Sinks: where bytes are written.
 
 ghost use Rattle.std.specs.Prelude.{◌≡◌, ◌<◌, length};
 ghost use Rattle.cd_stream.specs.Stream.{CanCountFailure, Outgoing};
@@ -11,38 +11,38 @@ use thiserror::Error;
 #[error("a write or a flush failed")]
 pub struct SinkFailed;
 
-/// Writes bytes in their order. Each failed write or flush is counted.
+/// A destination of bytes, which are written in order. Each failed write or flush is counted.
 pub trait Sink {
-    // What a contract sees of it.
+    // The state that contracts see.
     ghost seen: { Self → Outgoing };
 
-    /// Writes some bytes from the front of `bytes`, which is not empty, and returns how many: at
-    /// least 1.
+    /// Writes some bytes from the front of `bytes`, which is not empty, and returns their number:
+    /// at least 1.
     ///
     /// # Errors
     ///
-    /// [`SinkFailed`] if the write failed: no byte has gone out, and one failure more is
-    /// counted.
+    /// [`SinkFailed`] if the write failed: no byte was written, and one more failure is counted.
     fn write(&mut self, bytes: &[u8]) -> Result<usize, SinkFailed>
         requires some { 0 < length bytes.now }
         requires countable { CanCountFailure (seen self.old).failures }
         ensures { Writes (seen self.old) (seen self.new) bytes.now result };
 
-    /// Passes on all that it still holds back. It may be called again, or between writes: a flush
-    /// moves no byte of what the sink has got, and one that fails is counted as any failure.
+    /// Passes on all bytes that the sink still holds back. It may be called again, or between
+    /// writes: a flush does not change the bytes that the sink was given. A failed flush is counted
+    /// like any failure.
     ///
     /// # Errors
     ///
-    /// [`SinkFailed`] if a write or the flush failed; one failure more is counted.
+    /// [`SinkFailed`] if a write or the flush failed; one more failure is counted.
     fn finish(&mut self) -> Result<(), SinkFailed>
         requires { CanCountFailure (seen self.old).failures }
         ensures { Flushes (seen self.old) (seen self.new) result };
 
-    /// Whether the last call of `write` and `finish` was a `finish` that succeeded.
+    /// Whether the last call of `write` or `finish` was a `finish` that succeeded.
     fn finished(&self) -> bool
         ensures { result ≡ (seen self.now).finished };
 
-    /// How many writes and flushes have failed.
+    /// The number of writes and flushes that have failed.
     fn failures(&self) -> u32
         ensures { result ≡ (seen self.now).failures };
 }

@@ -1,4 +1,4 @@
-//! Where bytes come from.
+//! Sources: where bytes are read from.
 
 ghost use Rattle.std.specs.Prelude.{◌≡◌, ◌<◌, length};
 ghost use Rattle.cd_stream.specs.Stream.{CanCountFailure, Incoming};
@@ -11,26 +11,26 @@ use thiserror::Error;
 #[error("a read failed")]
 pub struct SourceFailed;
 
-/// Bytes that come once, from front to back. Each failed read is counted.
+/// A source of bytes, which are read once, from front to back. Each failed read is counted.
 ///
-/// A source need not show the bytes that are still to come; whether its last read returned 0 is
-/// known of each.
+/// A contract may not know the bytes that a source still has; it always knows whether the last read
+/// returned 0.
 pub trait Source {
-    // What a contract sees of it.
+    // The state that contracts see.
     ghost seen: { Self → Incoming };
 
-    /// Reads some bytes to the front of `into`, which is not empty, and returns how many: 0 only at
-    /// the end.
+    /// Reads some bytes into the front of `into`, which is not empty, and returns their number: 0
+    /// only at the end.
     ///
     /// # Errors
     ///
-    /// [`SourceFailed`] if the read failed: no byte has come, and one failure more is counted.
+    /// [`SourceFailed`] if the read failed: no byte was read, and one more failure is counted.
     fn read(&mut self, into: &mut [u8]) -> Result<usize, SourceFailed>
         requires room { 0 < length into.old }
         requires countable { CanCountFailure (seen self.old).failures }
         ensures { Reads (seen self.old) (seen self.new) into.new result };
 
-    /// How many reads have failed.
+    /// The number of reads that have failed.
     fn failures(&self) -> u32
         ensures { result ≡ (seen self.now).failures };
 }

@@ -1,5 +1,5 @@
-//! Reads and writes in as many calls as they need: the loops of cd_read, cd_report, cd_image and
-//! the program.
+//! Fills a buffer, and writes all bytes of a slice, in as many calls as needed: the loops of
+//! cd_read, cd_report, cd_image, and the program.
 
 ghost use Rattle.std.specs.Prelude.{◌<◌};
 ghost use Rattle.cd_stream.specs.Transfer.{Fills, Sends};
@@ -8,12 +8,12 @@ ghost use Rattle.cd_stream.specs.Stream.{CanCountFailure};
 use crate::sink::{Sink, SinkFailed};
 use crate::source::{Source, SourceFailed};
 
-/// Reads until `into` is full or nothing is left, and returns how many bytes came: fewer than
-/// `into` holds only at the end.
+/// Reads until `into` is full or the source has ended, and returns the number of bytes read: less
+/// than the length of `into` only at the end.
 ///
 /// # Errors
 ///
-/// [`SourceFailed`] if a read failed. What came before stands at the front of `into`.
+/// [`SourceFailed`] if a read failed. The bytes read before are at the front of `into`.
 ///
 /// # Examples
 ///
@@ -38,11 +38,11 @@ pub fn fill_buffer<I: Source>(image: &mut I, into: &mut [u8]) -> Result<usize, S
     Ok(have)
 }
 
-/// Writes all of `bytes` in as many calls as it needs.
+/// Writes all of `bytes`, in as many calls as needed.
 ///
 /// # Errors
 ///
-/// [`SinkFailed`] if a write failed: a front of `bytes` has gone out, without the last.
+/// [`SinkFailed`] if a write failed: only a front of `bytes` was written, without the last byte.
 ///
 /// # Examples
 ///

@@ -1,4 +1,4 @@
--- Words of eight bytes.
+-- Lemmas about words of eight bytes.
 use Rattle.std.proofs.Common.{◌≡◌, ℕ, zero, suc, ◌+◌, ◌-◌, ◌*◌, ◌/◌, ◌%◌, ◌<◌, ◌≤◌, ◌⊎◌, true, List, [], ◌∷◌, ◌++◌, append_assoc, get_or, inl, inr, length, map, take, bit_and, bit_xor, refl, sym, subst, ap, ◌∙◌, arith, lit<}
 use Rattle.std.specs.Bool.{◌==◌}
 use Rattle.std.specs.Int.{from_le_bytes, to_le_bytes, w64}
@@ -19,7 +19,7 @@ use Rattle.cd_words.specs.declared.diagonals.TheConstants.{ROW}
 use Rattle.cd_words.specs.declared.words.WordSums.{WordSums}
 use Rattle.cd_words.specs.Words.{IsWord, SumsOfEight, column_input_of, diagonal_input_of, number_of}
 
--- an operation that goes byte by byte
+-- an operation that works byte by byte
 pub record IsBytewise (op : ℕ → ℕ → ℕ) : Type 0 where
   pub none : op 0 0 ≡ 0
   pub block : (a b x y : ℕ) → x < 256 → y < 256 → op (a * 256 + x) (b * 256 + y) ≡ op a b * 256 + op x y
@@ -129,7 +129,7 @@ column-front s c =
     ∙ first-part (column_input_of s c) (get_or s (2076 + c) 0 ∷ get_or s (2076 + 86 + c) 0 ∷ []) 24
     (length-bytes_at s (column_input (c % 2) (c / 2)) ∙ length-column_input (c % 2) (c / 2))
 
--- they stay if only parity is written
+-- these bytes do not change if only parity is written
 pub column_input-stays : (s t : List ℕ) (c : ℕ) → c < 86
     → ((k : ℕ) → k < 2076 → get_or s k 0 ≡ get_or t k 0) → column_input_of s c ≡ column_input_of t c
 column_input-stays s t c h same =
@@ -175,7 +175,7 @@ row-byte j = (
   ),
 )
 
--- what the diagonals n + 3 to n have taken before step k: that of pair j begins in step 3 - j
+-- the bytes of diagonals n + 3 to n before step k; the diagonal of pair j begins in step 3 - j
 abbrev pub taken_at : List ℕ → ℕ → ℕ → ℕ → List ℕ
 taken_at s n k i = take (k + i % 8 / 2 - 3) (diagonal_input_of s (2 * (n + 3 - i % 8 / 2) + i % 2))
 
@@ -225,7 +225,7 @@ taken-all s n k i h =
     input-all s (k + m % 8 / 2 - 3) (2 * (n + 3 - m % 8 / 2) + m % 2) (omega arith)
     ∙ ap (diagonal_input_of s) (omega arith)
 
--- the bytes of a diagonal before its parity stay if only Q parity is written
+-- the bytes of a diagonal before its parity do not change if only Q parity is written
 pub diagonal_input-stays : (s t : List ℕ) (c : ℕ)
     → ((k : ℕ) → k < 2248 → get_or s k 0 ≡ get_or t k 0)
     → diagonal_input_of s c ≡ diagonal_input_of t c

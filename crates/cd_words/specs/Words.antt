@@ -1,16 +1,16 @@
--- Plumbing of this crate: eight bytes side by side in a word of 64 bits, the first of the lowest worth.
+-- Plumbing of this crate: eight bytes in a word of 64 bits, the first byte the least significant.
 use Rattle.std.specs.Prelude.{◌≡◌, ℕ, zero, suc, ◌+◌, ◌*◌, ◌/◌, ◌%◌, ◌<◌, List, bit_xor}
 use Rattle.cd_code.specs.Field.{double, product}
 use Rattle.cd_code.specs.CodeWords.{bytes_at, column_input, diagonal_input}
 use Rattle.cd_code.specs.Syndrome.{first_syndrome, second_syndrome}
 use Rattle.cd_words.specs.declared.words.WordSums.{WordSums}
 
--- so many bytes as one number
+-- the first n bytes as one number, the first byte the least significant
 unfoldable pub number_of : ℕ → (ℕ → ℕ) → ℕ
 number_of zero byte = 0
 number_of (suc n) byte = byte 0 + number_of n (λ i. byte (suc i)) * 256
 
--- the word of eight bytes
+-- the word has these eight bytes
 pub record IsWord (byte : ℕ → ℕ) (word : ℕ) : Type 0 where
   pub same : word ≡ number_of 8 byte
   pub bytes : (i : ℕ) → byte i < 256

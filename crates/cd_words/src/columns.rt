@@ -1,4 +1,4 @@
-//! The syndromes of the 86 columns, eight at a time in words of 64 bits.
+//! Computes the syndromes of the 86 columns, eight columns at a time in words of 64 bits.
 
 ghost use Rattle.std.specs.Prelude.{ℕ, ◌+◌, ◌%◌, ◌≤◌, take};
 ghost use Rattle.cd_code.specs.CodeWords.{SumsOf, column_of};
@@ -29,7 +29,7 @@ fn whole_column_sums_at(bytes: &[u8; SECTOR_SIZE], at: usize) -> WordSums
     column_sums_at(bytes, at, ROWS)
 }
 
-/// The syndromes of each column and its parity (ECMA-130, Annex A).
+/// Computes both syndromes of each column, including its parity (ECMA-130, Annex A).
 ///
 /// See the example of `cd_lanes::all_column_sums`.
 pub fn all_column_sums(bytes: &[u8; SECTOR_SIZE]) -> ColumnSums
@@ -40,7 +40,7 @@ pub fn all_column_sums(bytes: &[u8; SECTOR_SIZE]) -> ColumnSums
         let eight = whole_column_sums_at(bytes, 8 * k);
         put_sums(&mut sums.plain, &mut sums.weighted, 8 * k, eight);
     }
-    // The last eight overlap those before.
+    // The last eight columns overlap with the columns before them.
     let last = whole_column_sums_at(bytes, COLUMNS - 8);
     put_sums(&mut sums.plain, &mut sums.weighted, COLUMNS - 8, last);
     sums

@@ -3,7 +3,7 @@
 ghost use Rattle.std.specs.Prelude.{◌≡◌, ℕ};
 ghost use Rattle.cd_code.specs.Edc.{IsEdc};
 
-/// The EDC word of any list of bytes (ECMA-130, 14).
+/// Computes the EDC word of a list of bytes of any length (ECMA-130, 14).
 ///
 /// See the example of `cd_code::edc_of`.
 pub fn edc_of(bytes: &[u8]) -> u32

@@ -1,6 +1,7 @@
-//! The sums and the parity of a sector's code words, eight side by side in a word of 64 bits (ECMA-130,
-//! 14 and Annex A): for wasm64, where vectors are slow. The five calls have the names and the contracts
-//! of those of cd_lanes, whose place this crate takes in the modules (`tools/wasm.sh`).
+//! Computes the syndromes, the EDC, and the parity of a sector for wasm64, where vectors are slow:
+//! eight code words at a time, in words of 64 bits (ECMA-130, 14 and Annex A). The five calls have
+//! the names and the contracts of the calls of cd_lanes, which this crate replaces in the
+//! WebAssembly modules (`tools/wasm.sh`).
 #![tactic(auto)]
 
 mod columns;

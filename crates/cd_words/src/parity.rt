@@ -1,4 +1,4 @@
-//! The P and the Q parity of a sector, of eight code words at a time (ECMA-130, Annex A).
+//! Writes the P and the Q parity of a sector, for eight code words at a time (ECMA-130, Annex A).
 
 ghost use Rattle.std.specs.Prelude.{◌≡◌, ℕ, ◌+◌, ◌*◌, ◌<◌, ◌≤◌, ◌⊎◌, List, slice_index};
 ghost use Rattle.cd_code.specs.CodeWords.{column_of, diagonal_of};
@@ -11,7 +11,7 @@ use crate::diagonals::diagonal_input_sums_at;
 use crate::words::{WordSums, put_word};
 use cd_code::{COLUMNS, DIAGONALS, FIRST_P_ROW, P_PARITY, Q_PARITY, ROWS, SECTOR_SIZE};
 
-/// Makes the P parity of each column (ECMA-130, Annex A).
+/// Computes and writes the P parity of each column (ECMA-130, Annex A).
 ///
 /// See the example of `cd_lanes::fill_columns`.
 pub fn fill_columns(bytes: &mut [u8; SECTOR_SIZE])
@@ -22,11 +22,12 @@ pub fn fill_columns(bytes: &mut [u8; SECTOR_SIZE])
     for k in 0..10 {
         fill_columns_at(bytes, 8 * k);
     }
-    // The last eight overlap those before.
+    // The last eight columns overlap with the columns before them.
     fill_columns_at(bytes, COLUMNS - 8);
 }
 
-/// Makes the Q parity of each diagonal, which runs through the P parity too (ECMA-130, Annex A).
+/// Computes and writes the Q parity of each diagonal, whose bytes include P parity
+/// (ECMA-130, Annex A).
 ///
 /// See the example of `cd_lanes::fill_diagonals`.
 pub fn fill_diagonals(bytes: &mut [u8; SECTOR_SIZE])
@@ -36,11 +37,11 @@ pub fn fill_diagonals(bytes: &mut [u8; SECTOR_SIZE])
     for k in 0..6 {
         fill_diagonals_at(bytes, 4 * k);
     }
-    // The last eight overlap those before.
+    // The last eight words overlap with the words before them.
     fill_diagonals_at(bytes, ROWS - 4);
 }
 
-/// Makes the P parity of the eight columns from `at` on.
+/// Writes the P parity of the eight columns from `at` on.
 fn fill_columns_at(bytes: &mut [u8; SECTOR_SIZE], at: usize)
     requires { at + 8 ≤ 86 }
     ensures { (first : List ℕ) (n : ℕ) → at ≤ n
@@ -51,7 +52,7 @@ fn fill_columns_at(bytes: &mut [u8; SECTOR_SIZE], at: usize)
     put_pairs(bytes, P_PARITY + at, COLUMNS, sums);
 }
 
-/// Makes the Q parity of the four diagonals from n on, of both planes.
+/// Writes the Q parity of the four diagonals from n on, of both planes.
 fn fill_diagonals_at(bytes: &mut [u8; SECTOR_SIZE], n: usize)
     requires { n + 4 ≤ 26 }
     ensures { (first : List ℕ) (filled : ℕ) → 2 * n ≤ filled

@@ -1,4 +1,5 @@
-//! Eight bytes in a word, the first of the lowest worth, and eight code words side by side.
+//! Arithmetic with eight bytes in a word of 64 bits, the first byte the least significant, and with
+//! eight code words side by side.
 
 ghost use Rattle.std.specs.Prelude.{bit_xor, ◌≡◌, ℕ, ◌+◌, ◌-◌, ◌*◌, ◌/◌, ◌%◌, ◌<◌, ◌≤◌, ◌⊎◌, List, [], ◌∷◌, ◌++◌, length, slice_index};
 ghost use Rattle.cd_code.specs.Field.{AreBytes, double, product};
@@ -8,7 +9,7 @@ ghost use Rattle.cd_words.specs.Words.{IsWord, SumsOfEight, first_of_pair};
 /// The low seven bits of each byte.
 const LOW_BITS: u64 = 0x7F7F_7F7F_7F7F_7F7F;
 
-/// Eight field elements times alpha.
+/// Multiplies eight field elements by alpha.
 #[inline(always)]
 fn doubled_word(x: u64) -> u64
     ensures { (f : ℕ → ℕ) → IsWord f x → IsWord (λ i. double (f i)) result }
@@ -18,7 +19,7 @@ fn doubled_word(x: u64) -> u64
     (low << 1) ^ high.wrapping_mul(0x1D)
 }
 
-/// Eight field elements times alpha, with others added.
+/// Multiplies eight field elements by alpha, and adds eight other elements.
 #[inline(always)]
 fn doubled_and_added(x: u64, added: u64) -> u64
     ensures { (f g : ℕ → ℕ) → IsWord f x → IsWord g added
@@ -27,7 +28,7 @@ fn doubled_and_added(x: u64, added: u64) -> u64
     doubled_word(x) ^ added
 }
 
-/// Eight field elements times F4, which is alpha to the 7, 6, 5, 4 and 2.
+/// Multiplies eight field elements by F4, which is the sum of alpha to the 7, 6, 5, 4, and 2.
 #[inline(always)]
 fn times_inverse_of_three(x: u64) -> u64
     ensures { (f : ℕ → ℕ) → IsWord f x → IsWord (λ i. product 244 (f i)) result }
@@ -39,7 +40,7 @@ fn times_inverse_of_three(x: u64) -> u64
     doubled_word(doubled_word(five))
 }
 
-/// Four pairs of bytes, the last pair first.
+/// Reverses the order of four pairs of bytes, but not the two bytes of a pair.
 #[inline(always)]
 fn reversed_word(x: u64) -> u64
     ensures { (f : ℕ → ℕ) → IsWord f x → IsWord (λ i. f (2 * (3 - i % 8 / 2) + i % 2)) result }
@@ -48,7 +49,7 @@ fn reversed_word(x: u64) -> u64
     u64::from_le_bytes([g, h, e, f, c, d, a, b])
 }
 
-/// Of each byte that of `y` if the byte of `mask` is FF, and that of `x` if it is 00.
+/// Selects byte by byte: `y` where `mask` is FF, and `x` where it is 00.
 #[inline(always)]
 fn chosen_word(x: u64, y: u64, mask: u64) -> u64
     ensures { (f g on choice : ℕ → ℕ) → IsWord f x → IsWord g y → IsWord on mask
@@ -58,7 +59,7 @@ fn chosen_word(x: u64, y: u64, mask: u64) -> u64
     x ^ ((x ^ y) & mask)
 }
 
-/// Eight bytes from place `at` on.
+/// Reads eight bytes from place `at` on.
 #[inline(always)]
 pub(crate) fn word_at(bytes: &[u8], at: usize) -> u64
     requires { at + 8 ≤ length bytes.now }
@@ -100,12 +101,12 @@ fn put_eight(bytes: &mut [u8], at: usize, eight: &[u8; 8])
     bytes[at..at + 8].copy_from_slice(eight);
 }
 
-/// Proof step: a byte is below 256.
+/// Proof step: does nothing. Its contract states that each byte is below 256.
 pub(crate) fn are_bytes(bytes: &[u8])
     ensures { AreBytes bytes.now }
 {}
 
-/// Both syndromes of eight words, byte by byte.
+/// Both syndromes of eight words, one word in each byte.
 #[derive(Clone, Copy)]
 pub(crate) struct WordSums {
     /// The sum of each word's bytes.
@@ -115,7 +116,7 @@ pub(crate) struct WordSums {
 }
 
 impl WordSums {
-    /// The sums of words that have no byte yet.
+    /// The sums of eight empty words.
     #[inline(always)]
     pub(crate) fn zero() -> Self
         ensures { SumsOfEight (λ _. []) result }
@@ -138,7 +139,8 @@ impl WordSums {
         }
     }
 
-    /// The sums in `next` of the words whose byte of `mask` is FF, and these of those with 00.
+    /// Selects word by word: the sums in `next` where the byte of `mask` is FF, and these sums
+    /// where it is 00.
     #[inline(always)]
     pub(crate) fn or_next(self, next: Self, mask: u64) -> Self
         ensures { (code longer choice : ℕ → List ℕ) (on : ℕ → ℕ) → SumsOfEight code self
@@ -152,7 +154,8 @@ impl WordSums {
         }
     }
 
-    /// The two parity bytes that make a code word of each word followed by them (ECMA-130, Annex A).
+    /// The two parity bytes of each word: the word followed by them is a code word
+    /// (ECMA-130, Annex A).
     #[inline(always)]
     pub(crate) fn pairs(self) -> (u64, u64)
         ensures first { (f g : ℕ → ℕ) → IsWord f self.plain → IsWord g self.weighted
@@ -165,7 +168,7 @@ impl WordSums {
         (first, self.plain ^ first)
     }
 
-    /// Of four pairs of words the last pair first.
+    /// Reverses the order of four pairs of words, but not the two words of a pair.
     #[inline(always)]
     pub(crate) fn reversed(self) -> Self
         ensures { (code : ℕ → List ℕ) → SumsOfEight code self
@@ -178,7 +181,7 @@ impl WordSums {
     }
 }
 
-/// Writes the sums of eight code words at the places from `at` on; some may stand there already.
+/// Writes the sums of eight code words from place `at` on. Some of them may be there already.
 #[inline(always)]
 pub(crate) fn put_sums(plain: &mut [u8], weighted: &mut [u8], at: usize, sums: WordSums)
     requires within_plain { at + 8 ≤ length plain.old }

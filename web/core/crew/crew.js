@@ -21,7 +21,7 @@ import { SECTOR_SIZE } from '../module/index.js';
  * A worker of a crew: a worker thread, or this thread. The door calls `onreply` with the reply of `serving`, and `onfault` if the worker
  * itself fails. With `isHere` the job is done when `post` returns, and the hand keeps no bytes.
  * @typedef {{ post(message: Message, transfer: ArrayBuffer[]): void, onreply: (reply: Reply) => void,
- *     onfault: (error: Error) => void, isHere?: boolean }} Hand
+ *     onfault: (error: Error) => void, isHere?: boolean }} CrewWorker
  */
 /** @typedef {Pick<Crew, 'share'>} Sharer distributes a job */
 /**
@@ -95,18 +95,18 @@ export function transfersOf({ answer }) {
  * A hand that works at once, in this thread.
  * @param {Calls} calls
  * @param {JobTable} table
- * @returns {Hand}
+ * @returns {CrewWorker}
  */
-export function localHand(calls, table) {
+export function localWorker(calls, table) {
     const serve = serving(calls, table);
-    /** @type {Hand} */
-    const hand = {
-        post: (/** @type {Message<JobName, Uint8Array>} */ message) => hand.onreply(serve(message)),
+    /** @type {CrewWorker} */
+    const worker = {
+        post: (/** @type {Message<JobName, Uint8Array>} */ message) => worker.onreply(serve(message)),
         onreply() {},
         onfault() {},
         isHere: true,
     };
-    return hand;
+    return worker;
 }
 
 /**
@@ -135,30 +135,30 @@ function ownBytes(bytes) {
  */
 export class Crew {
     /**
-     * @param {Hand[]} hands one at least
+     * @param {CrewWorker[]} workers one at least
      * @param {boolean} lends whether hands read lent bytes. If one replies UNREAD, this thread reads for all hands from then on.
      */
-    constructor(hands, lends = false) {
+    constructor(workers, lends = false) {
         this.lends = lends;
         this.number = 0;
         /** @type {Error | null} */
         this.fault = null;
-        /** @type {Map<Hand, number>} the number of ranges in flight of each hand */
-        this.loads = new Map(hands.map(hand => [hand, 0]));
+        /** @type {Map<CrewWorker, number>} the number of ranges in flight of each hand */
+        this.loads = new Map(workers.map(worker => [worker, 0]));
         /** @type {Map<number, (reply: Reply) => void>} callbacks by the number of the expected reply */
         this.waiting = new Map();
-        for (const hand of hands) {
-            hand.onreply = reply => this.settle(hand, reply);
-            hand.onfault = error => this.fail(error);
+        for (const worker of workers) {
+            worker.onreply = reply => this.settle(worker, reply);
+            worker.onfault = error => this.fail(error);
         }
     }
 
     /**
-     * @param {Hand} hand
+     * @param {CrewWorker} worker
      * @param {Reply} reply
      */
-    settle(hand, reply) {
-        this.loads.set(hand, (this.loads.get(hand) || 0) - 1);
+    settle(worker, reply) {
+        this.loads.set(worker, (this.loads.get(worker) || 0) - 1);
         const settle = this.waiting.get(reply.number);
         this.waiting.delete(reply.number);
         if (settle) settle(reply);
@@ -179,15 +179,15 @@ export class Crew {
     reply(range) {
         const number = this.number++;
         if (this.fault) return Promise.resolve({ number, fault: this.fault });
-        const [[hand, load]] = [...this.loads].sort(([, a], [, b]) => a - b);
-        this.loads.set(hand, load + 1);
-        const pieces = range.pieces.map(piece => piece instanceof Uint8Array && !hand.isHere ? ownBytes(piece) : piece);
+        const [[worker, load]] = [...this.loads].sort(([, a], [, b]) => a - b);
+        this.loads.set(worker, load + 1);
+        const pieces = range.pieces.map(piece => piece instanceof Uint8Array && !worker.isHere ? ownBytes(piece) : piece);
         return new Promise(resolve => {
             this.waiting.set(number, resolve);
             try {
-                hand.post({ ...range, number, pieces }, pieces.flatMap(piece => piece instanceof Uint8Array ? piece.buffer : []));
+                worker.post({ ...range, number, pieces }, pieces.flatMap(piece => piece instanceof Uint8Array ? piece.buffer : []));
             } catch (error) {
-                this.settle(hand, { number, fault: errorFault(error) });
+                this.settle(worker, { number, fault: errorFault(error) });
             }
         });
     }

@@ -1,3 +1,3 @@
 // Workers, and the distribution of jobs over ranges of sectors among them.
 
-export { Crew, UNREAD, localHand, serving, transfersOf } from './crew.js';
+export { Crew, UNREAD, localWorker, serving, transfersOf } from './crew.js';

@@ -190,6 +190,20 @@ export class KnownDumps {
     }
 
     /**
+     * Adds the entries of other DATs. Throws a Fault if there are too many.
+     * @param {KnownDumps} known
+     */
+    addAll({ dumps, leftOut }) {
+        this.byHash = null;
+        this.leftOut += leftOut;
+        for (const [key, { name, size, isBad, md5, names }] of dumps) {
+            const hash = key.slice(key.indexOf(':') + 1);
+            const hashes = { sha1: hexOf(hash, 40), crc32: hexOf(hash, 8), md5: md5 || hexOf(hash, 32) };
+            for (const [own, isOwnBad] of names || [[name, isBad]]) this.addDump(own, size, hashes, isOwnBad);
+        }
+    }
+
+    /**
      * Finds the dump that matches a file; null if none does.
      * @param {number} size
      * @param {Hashes} hashes
@@ -217,6 +231,14 @@ export class KnownDumps {
     /** @param {number} size */
     hasSize(size) {
         return this.sizes.has(size);
+    }
+
+    /**
+     * The names of the dumps of a size.
+     * @param {number} size
+     */
+    namesOfSize(size) {
+        return this.hasSize(size) ? [...this.dumps.values()].filter(dump => dump.size === size).map(({ name }) => name) : [];
     }
 
     /**

@@ -21,8 +21,8 @@ import { kindOfFile } from './file_type.js';
  */
 /**
  * An image whose texts are read in the order of its files, or of its sectors if `order` is undefined. The functions on texts accept only
- * this type, so that no caller forgets the order.
- * @typedef {DiscImage & { order: import('../iso/file_order.js').FileOrder | undefined }} OrderedImage
+ * this type, so that no caller forgets the order. `fileSize` is how many bytes a plain file has, if its bytes are presented as sectors.
+ * @typedef {DiscImage & { order: import('../iso/file_order.js').FileOrder | undefined, fileSize?: number }} OrderedImage
  */
 /**
  * A track. Without a cue sheet there is one. `file` is the index of its file in the disc's files, or -1 if that file is not open. `image`

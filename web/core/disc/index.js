@@ -6,6 +6,6 @@ export { KnownDumps } from './dat.js';
 export { beginsLikeDat } from './dat_text.js';
 export { dataTrack, openDisc } from './disc.js';
 export { kindOfFile } from './file_type.js';
-export { MODE1, fileIn, lostSectors, mode1Tracks, otherSectors } from './lost.js';
+export { MODE1, MODE2_TRACKS, fileIn, lostSectors, otherSectors, sheetTracks } from './lost.js';
 export { isOneTrack, sheetOfOneTrack } from './one_track.js';
 export { lackOf } from './volume_end.js';

@@ -1,7 +1,7 @@
-// Lost sectors: blocks of a track of Mode 1 that are not Mode 1, such as those that a drive could not read and a dumper filled.
+// Lost sectors: blocks of a data track that are not of its mode, such as those that a drive could not read and a dumper filled.
 
 import { SECTOR_KIND } from '../module/index.js';
-import { addToRuns, commonRuns, joinedRuns, kindRuns } from '../sectors/index.js';
+import { addToRuns, commonRuns, isTestedMode2, joinedRuns, kindRuns, mode2Runs, runsWithout } from '../sectors/index.js';
 import { blocksOfVolume } from './volume_end.js';
 
 /** @typedef {import('./disc.js').Disc} Disc */
@@ -11,76 +11,108 @@ import { blocksOfVolume } from './volume_end.js';
 /** @typedef {import('../sectors/survey.js').FilledRun} FilledRun */
 /** @typedef {import('../sectors/survey.js').Survey} Survey */
 /** @typedef {Run & { kind: number }} KindRun */
-/** @typedef {{ others: KindRun[], filled: FilledRun[] }} OtherSectors those that are not Mode 1, and those that one byte fills */
-/** @typedef {'track' | 'volume' | 'filled'} LostIn why blocks count as lost: by their place, or by their bytes */
 /**
- * The sectors of an image that are not Mode 1: those that are lost, and those that are not tested. `used` lists the blocks that the volume
- * uses, null if they were not read.
+ * The sectors that are neither Mode 1 nor tested Mode 2, and those of them that one byte fills. `mode2` lists all Mode 2 sectors if some
+ * were tested; else it is empty.
+ * @typedef {{ others: KindRun[], filled: FilledRun[], mode2: Run[] }} OtherSectors
+ */
+/**
+ * The tracks of an image that are Mode 1 and Mode 2 according to the cue sheet.
+ * @typedef {{ mode1: Run[], mode2: Run[] }} SheetTracks
+ */
+/**
+ * Why blocks count as lost: by their place, in a track of Mode 1 or of Mode 2, or in a file, or by their bytes.
+ * @typedef {'track' | 'mode2' | 'volume' | 'filled'} LostIn
+ */
+/**
+ * The sectors of an image that are neither Mode 1 nor tested Mode 2: those that are lost, and those that are not tested. `used` lists the
+ * blocks that the volume uses, null if they were not read.
  * @typedef {{ lost: (Run & { why: LostIn })[], untested: KindRun[], used: UsedBlocks | null }} Lost
  */
 
-/** How a cue sheet names a track of raw Mode 1 sectors. */
+/** How a cue sheet names tracks of raw Mode 1 and of raw Mode 2 sectors. */
 export const MODE1 = 'MODE1/2352';
+export const MODE2_TRACKS = ['MODE2/2352', 'CDI/2352'];
 
 /** The number of sectors of the shortest track (ECMA-130 and the Red Book: four seconds). */
 const SHORTEST_TRACK = 300;
 
 /** @type {LostIn[]} by the mark of a block, which counts from 1 */
-const REASONS = ['filled', 'volume', 'track'];
+const REASONS = ['filled', 'volume', 'track', 'mode2'];
 
 /**
- * The sectors of a whole survey that are not Mode 1.
+ * The sectors of a whole survey that are neither Mode 1 nor tested Mode 2.
  * @param {Survey} survey
  * @param {FilledRun[]} filled
+ * @param {Uint8Array} [mode2] the settled findings in its Mode 2 sectors
  * @returns {OtherSectors}
  */
-export function otherSectors(survey, filled) {
-    return { others: [...kindRuns(survey)].filter(({ kind }) => kind !== SECTOR_KIND.MODE1), filled };
+export function otherSectors(survey, filled, mode2 = new Uint8Array(0)) {
+    const others = [...kindRuns(survey)].filter(({ kind }) => kind !== SECTOR_KIND.MODE1);
+    const tested = mode2Runs(mode2, survey.block, isTestedMode2);
+    const all = tested.length === 0 ? [] : others.filter(({ kind }) => kind === SECTOR_KIND.MODE2);
+    return { others: runsWithout(others, tested), filled, mode2: all };
 }
 
 /**
- * The tracks of a file that are Mode 1 according to the cue sheet, as runs of blocks counted from the image's base; null without a sheet.
+ * The tracks of a file that are Mode 1 and Mode 2 according to the cue sheet, as runs of blocks counted from the image's base; null without
+ * a sheet.
  * @param {Disc} disc
  * @param {number} file
  * @param {number} base of the file's image
- * @returns {Run[] | null}
+ * @returns {SheetTracks | null}
  */
-export function mode1Tracks({ sheet, tracks }, file, base) {
+export function sheetTracks({ sheet, tracks }, file, base) {
     if (sheet === null) return null;
-    return tracks.filter(it => it.file === file && it.type === MODE1).flatMap(({ image, part, sectors }) => {
+    const ofTypes = (/** @type {string[]} */ types) => tracks.filter(it => it.file === file && types.includes(it.type)).flatMap(track => {
+        const { image, part, sectors } = track;
         if (image === null || part === null || sectors === null || sectors === 0) return [];
         const first = base + part.base - image.base;
         return [{ first, last: first + sectors - 1 }];
     });
+    return { mode1: ofTypes([MODE1]), mode2: ofTypes(MODE2_TRACKS) };
 }
 
 /**
- * Finds the lost sectors of an image. With a sheet, these are the sectors in its Mode 1 tracks, except tracks that are Mode 2 throughout.
- * Without a sheet, they are the sectors that one byte other than 00 fills, which audio never has. If there is Mode 1, they are also those
- * that the volume uses, and runs between Mode 1 sectors that are shorter than any track. Throws what the readers of the dumps throw.
+ * Finds the lost sectors of an image. With a sheet, these are the sectors in its data tracks, except Mode 1 tracks that are Mode 2
+ * throughout. Without a sheet, they are the sectors that one byte other than 00 fills, which
+ * audio never has. If there is data, they are also those that the volume uses, and runs between data sectors that are shorter than any
+ * track. Throws what the readers of the dumps throw.
  * @param {{ base: number, sectors: number }} image
  * @param {OtherSectors} found
- * @param {Run[] | null} tracks those that are Mode 1 according to the sheet, null without a sheet
+ * @param {SheetTracks | null} tracks null without a sheet
  * @param {Dump[]} dumps of the disc, whose volumes are read if there is no sheet
  * @returns {Promise<Lost>}
  */
-export async function lostSectors({ base, sectors }, { others, filled }, tracks, dumps) {
+export async function lostSectors({ base, sectors }, { others, filled, mode2 }, tracks, dumps) {
     const range = { first: base, last: base + sectors - 1 };
-    const runs = joinedRuns(others);
+    const isMode2 = (/** @type {KindRun} */ { kind }) => kind === SECTOR_KIND.MODE2;
+    const notMode2 = others.filter(it => !isMode2(it));
+    const runs = joinedRuns(mode2.length > 0 ? notMode2 : others);
     const reasons = new Uint8Array(sectors);
     const mark = (/** @type {Run[]} */ some, /** @type {LostIn} */ why) =>
         some.forEach(({ first, last }) => reasons.fill(REASONS.indexOf(why) + 1, first - base, last - base + 1));
     if (tracks !== null) {
-        const isMode2 = (/** @type {Run} */ track) => others.some(it => it.kind === SECTOR_KIND.MODE2 && isWithin(track, it));
-        mark(commonRuns(runs, joinedRuns(tracks.filter(it => !isMode2(it)))), 'track');
+        const isOther = (/** @type {Run} */ track) => others.some(it => isMode2(it) && isWithin(track, it));
+        mark(commonRuns(runs, joinedRuns(tracks.mode1.filter(it => !isOther(it)))), 'track');
+        mark(commonRuns(joinedRuns(notMode2), joinedRuns(tracks.mode2)), 'mode2');
         return { ...byReasons(others, base, reasons), used: null };
     }
     mark(filled.filter(({ byte }) => byte !== 0), 'filled');
     const used = runs.length > 0 && !isWithin(range, runs[0]) ? await usedByAll(dumps) : null;
     const hollow = others.filter(({ kind }) => kind === SECTOR_KIND.MODE0 || kind === SECTOR_KIND.OTHER);
     if (used !== null) mark(commonRuns(runs, blocksInUse(used, range, runs, [...filled, ...hollow])), 'volume');
-    mark(runs.filter(({ first, last }) => first > range.first && last < range.last && last - first + 1 < SHORTEST_TRACK), 'track');
+    for (const run of runs.filter(it => isHole(it, range))) mark([run], mode2.some(it => it.last === run.first - 1) ? 'mode2' : 'track');
     return { ...byReasons(others, base, reasons), used };
+}
+
+/**
+ * Whether a run lies inside an image and is shorter than any track.
+ * @param {Run} run
+ * @param {Run} range of the image
+ */
+function isHole({ first, last }, range) {
+    return first > range.first && last < range.last && last - first + 1 < SHORTEST_TRACK;
 }
 
 /**

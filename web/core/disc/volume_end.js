@@ -36,11 +36,11 @@ const LONGEST_PAUSE = 150;
 /**
  * Awaits a result. Returns null in place of the failure that a track has no volume.
  * @template T
- * @param {Promise<T>} asked
+ * @param {Promise<T>} reading
  */
-async function ifVolume(asked) {
+async function ifVolume(reading) {
     try {
-        return await asked;
+        return await reading;
     } catch (error) {
         if (!failedBy(error, 'volume')) throw error;
         return null;

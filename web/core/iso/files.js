@@ -122,7 +122,7 @@ export async function filesOf(reader, base) {
     files.sort((a, b) => a.block - b.block || Number(a.path > b.path) - Number(a.path < b.path));
     const faults = new Map(found.flatMap(it => it.faults).map(it => [JSON.stringify(it), it]));
     if (joliet && !other) faults.set('', remark('tree/no-joliet-root', {}));
-    const own = ownBlocks(volume, count, found.flatMap(it => [...it.met]));
+    const own = ownBlocks(volume, count, found.flatMap(it => [...it.visited]));
     const tables = tableBlocks(volume, joliet === null ? [primary] : [primary, joliet]);
     return { files, faults: [...faults.values()], entries: found.flatMap(it => it.files), udf, own, tables, first };
 }
@@ -159,10 +159,11 @@ export function endOfExtent({ block, size }) {
  * Formats each entry of a list of files as a line.
  * @param {FileEntry[]} files
  * @param {(path: string) => string} shown formats a path
- * @param {(fault: ExtentFault) => string} said
+ * @param {(fault: ExtentFault) => string} sentenceFor
  */
-export function filesLines(files, shown, said) {
-    return files.map(({ block, size, path, fault }) => [block, size, shown(path), ...fault === null ? [] : [said(fault)]].join('\t'));
+export function filesLines(files, shown, sentenceFor) {
+    const reason = (/** @type {ExtentFault | null} */ fault) => fault === null ? [] : [sentenceFor(fault)];
+    return files.map(({ block, size, path, fault }) => [block, size, shown(path), ...reason(fault)].join('\t'));
 }
 
 /** @param {Uint8Array} descriptor */

@@ -7,7 +7,7 @@ import { entriesOfDirectory } from './records.js';
 
 /** @typedef {import('../facts.js').Remark} Remark */
 /** @typedef {import('./files.js').FileEntry} FileEntry */
-/** @typedef {{ files: FileEntry[], faults: Remark[], met: Set<number> }} TreeFiles `met` are the sectors of its directories */
+/** @typedef {{ files: FileEntry[], faults: Remark[], visited: Set<number> }} TreeFiles `visited` are the sectors of its directories */
 /** @typedef {import('./files.js').VolumeReader} VolumeReader */
 /** @typedef {import('./records.js').RecordPlace} RecordPlace */
 /** @typedef {{ path: string, extent: number, size: number, depth: number }} Directory */
@@ -35,10 +35,10 @@ class Walk {
         this.volume = volume;
         this.tree = tree;
         /** @type {TreeFiles} */
-        this.found = { files: [], faults: [], met: new Set() };
+        this.found = { files: [], faults: [], visited: new Set() };
         this.faults = 0;
         /** The sectors of directories that were read. */
-        this.met = this.found.met;
+        this.met = this.found.visited;
         this.most = Math.max(volume.sectors, FEWEST_ENTRIES);
         this.entries = 0;
         this.characters = 0;

@@ -1,9 +1,9 @@
 // The arguments and answers of the jobs in the table.
 
-import { AskedTexts, Told } from '../texts/range.js';
+import { TextOptions, FoundText } from '../texts/range.js';
 import { Found, Limits, Wanted } from '../texts/find.js';
 import { Summed } from '../sectors/sums.js';
-import { RangeSurvey, Survey } from '../sectors/survey.js';
+import { RangeSurvey, Survey, SurveyArgs } from '../sectors/survey.js';
 import { How, Lines } from '../script/sector_lines.js';
 import { Differing } from '../tasks/compare.js';
 import { UserRange } from '../tasks/convert.js';
@@ -11,10 +11,10 @@ import { Merged } from '../tasks/merge.js';
 
 declare module '../crew/jobs.js' {
     interface Jobs {
-        survey: { args: { shift?: number }; answer: RangeSurvey };
+        survey: { args: SurveyArgs; answer: RangeSurvey };
         /** The records have only kinds. */
-        kinds: { args: { shift?: number }; answer: Survey };
-        sums: { args: { surveys: boolean; shift?: number }; answer: Summed };
+        kinds: { args: SurveyArgs; answer: Survey };
+        sums: { args: { surveys: boolean } & SurveyArgs; answer: Summed };
         find: { args: { texts: Wanted[] } & Limits; answer: Found[] };
         diff: { args: {}; answer: Lines };
         lines: { args: { blocks: number[]; how: How }; answer: Lines };
@@ -23,6 +23,6 @@ declare module '../crew/jobs.js' {
         replace: { args: { end: number }; answer: Lines };
         user: { args: {}; answer: UserRange };
         raw: { args: {}; answer: Uint8Array };
-        texts: { args: AskedTexts & { count: number; size: number }; answer: Told[] };
+        texts: { args: TextOptions & { count: number; size: number }; answer: FoundText[] };
     }
 }

@@ -1,10 +1,10 @@
 // The memory of a libcdpatch module: fixed rooms, lent ranges, and after these an arena that grows and is reused.
 
 import { inMemory } from '../faults.js';
-import { PATCH_SIZE, PATCH_STRUCT, STEP_STRUCT } from './numbers.js';
+import { COLUMNS, DIAGONALS, PATCH_SIZE, PATCH_STRUCT, STEP_STRUCT } from './numbers.js';
 
-// The step of a run is the largest answer of any call.
-const ANSWER_SIZE = STEP_STRUCT.BYTES;
+// The largest answers of all calls.
+const ANSWER_SIZE = Math.max(STEP_STRUCT.BYTES, COLUMNS + DIAGONALS);
 const PAGE_SIZE = 65536;
 
 /** Manages the memory of a module. Held bytes are valid until others are put, so nothing may be awaited while they are used. */

@@ -7,7 +7,7 @@ import { SectorCalls } from './sector_calls.js';
 /**
  * A run, and the memory that is lent to it: the addresses of that memory, of its hand, and of its step; the arguments of the two calls;
  * and the number of patches in its script.
- * @typedef {{ at: number, hand: number, step: number, script: bigint[], entries: bigint[], rooms: bigint[], patches: number }} Run
+ * @typedef {{ at: number, sectors: number, step: number, script: bigint[], entries: bigint[], rooms: bigint[], patches: number }} ScriptRun
  */
 /** @typedef {{ number: number, start: number, size: number }} LinePlace a line's number, and the range of its bytes in the script */
 /**
@@ -104,7 +104,7 @@ export class Calls extends SectorCalls {
      * @param {number} base
      * @param {number | null} imageSize null if it is not known
      * @param {number} flags
-     * @returns {Run}
+     * @returns {ScriptRun}
      */
     runBegin(script, base, imageSize, flags) {
         const length = script.reduce((sum, piece) => sum + piece.length, 0);
@@ -113,14 +113,14 @@ export class Calls extends SectorCalls {
         const sizes = [RUN, STEP_SIZE, ROOMS, SECTORS_IN_HAND * SECTOR_SIZE, room * ENTRY, length];
         const at = this.lend(sizes.reduce((sum, size) => sum + size, 0));
         let end = at;
-        const [run, step, rooms, hand, entries, text] = sizes.map(size => (end += size) - size);
+        const [run, step, rooms, sectors, entries, text] = sizes.map(size => (end += size) - size);
         let filled = text;
         for (const piece of script) {
             this.memory.set(piece, filled);
             filled += piece.length;
         }
-        const made = { at, hand, step, script: [text, length].map(BigInt), entries: [entries, room].map(BigInt),
-            rooms: [hand, SECTORS_IN_HAND, rooms, step].map(BigInt), patches: -1 };
+        const made = { at, sectors, step, script: [text, length].map(BigInt), entries: [entries, room].map(BigInt),
+            rooms: [sectors, SECTORS_IN_HAND, rooms, step].map(BigInt), patches: -1 };
         const given = [base, BigInt(imageSize === null ? -1 : imageSize), flags];
         const begin = this.exports.cdpatch_run_begin;
         if (base === base >>> 0) made.patches = Number(begin(BigInt(run), ...made.script, ...given, ...made.entries));
@@ -131,7 +131,7 @@ export class Calls extends SectorCalls {
 
     /**
      * The lines of the patches of a run, in the order of application.
-     * @param {Run} run
+     * @param {ScriptRun} run
      * @returns {LinePlace[]}
      */
     runLines({ entries: [first], patches }) {
@@ -144,11 +144,11 @@ export class Calls extends SectorCalls {
 
     /**
      * The next step of a run.
-     * @param {Run} run
+     * @param {ScriptRun} run
      * @param {number} done how many bytes of the last step were moved, 0 at first
      * @returns {Step}
      */
-    runNext({ at, hand, step, script, entries, rooms }, done) {
+    runNext({ at, sectors, step, script, entries, rooms }, done) {
         // Written out, because spreading the three arrays takes ten times as long as the call.
         this.exports.cdpatch_run_next(BigInt(at), BigInt(done), script[0], script[1], entries[0], entries[1],
             rooms[0], rooms[1], rooms[2], rooms[3]);
@@ -156,7 +156,7 @@ export class Calls extends SectorCalls {
         const { KIND, STATUS, NUMBER, RESULT, BLOCK, OFFSET, AT, PLACE, SIZE, TEXT } = STEP_STRUCT;
         const kind = number(KIND);
         return { kind, status: number(STATUS), number: number(NUMBER), result: number(RESULT), block: number(BLOCK),
-            offset: number(OFFSET), at: number(AT), from: kind === STEP.LOG ? step + TEXT : hand + number(PLACE), size: number(SIZE) };
+            offset: number(OFFSET), at: number(AT), from: kind === STEP.LOG ? step + TEXT : sectors + number(PLACE), size: number(SIZE) };
     }
 
     /**
@@ -167,7 +167,7 @@ export class Calls extends SectorCalls {
         return this.memory.subarray(from, from + size);
     }
 
-    /** @param {Run} run */
+    /** @param {ScriptRun} run */
     runEnd({ at }) {
         this.giveBack(at);
     }

@@ -5,6 +5,10 @@ import { Arena } from './arena.js';
 import { ADDRESS_SIZE, COLUMNS, DIAGONALS, DIGEST_SIZE, SECTOR_SIZE, SHA1_STRUCT, USER_SIZE } from './numbers.js';
 import { RECORD, RECORD_SIZE, sectorCount } from './records.js';
 
+/** The place of the header in a sector, and its size. */
+const HEADER_AT = 12;
+const HEADER_SIZE = 4;
+
 /**
  * Returns the bytes if they have the size that a call relies on. Throws a RangeError if they do not.
  * @param {Uint8Array} bytes
@@ -133,6 +137,30 @@ export class SectorCalls extends Arena {
         const [at, columns, diagonals] = this.put(sized(sector, SECTOR_SIZE), COLUMNS, DIAGONALS);
         this.exports.cdpatch_find_broken(at, columns, diagonals);
         return { columns: this.copied(columns, COLUMNS), diagonals: this.copied(diagonals, DIAGONALS) };
+    }
+
+    /**
+     * The EDC of a range of held bytes.
+     * @param {number} from
+     * @param {number} end
+     * @returns {number}
+     */
+    heldEdc(from, end) {
+        return this.exports.cdpatch_edc(BigInt(this.arena + from), BigInt(this.within(end) - from)) >>> 0;
+    }
+
+    /**
+     * Whether all P columns and Q diagonals of a held sector are code words with a header of four bytes 00, which is written to the held
+     * bytes.
+     * @param {number} at the place of the sector
+     */
+    hasHeldParity(at) {
+        const sector = this.arena + this.within(at + SECTOR_SIZE) - SECTOR_SIZE;
+        const marks = this.answer;
+        this.memory.fill(0, sector + HEADER_AT, sector + HEADER_AT + HEADER_SIZE);
+        this.exports.cdpatch_find_broken(BigInt(sector), this.places.answer, BigInt(marks + COLUMNS));
+        for (let i = marks; i < marks + COLUMNS + DIAGONALS; i++) if (this.memory[i] !== 0) return false;
+        return true;
     }
 
     /** The state of a SHA-1 of no bytes. */

@@ -88,8 +88,8 @@ export function faultyWord(calls, line, fault) {
  * @param {number} number
  */
 export function wordsOn(text, number) {
-    const [said, named] = [new TextDecoder().decode(text).trimEnd(), `line ${number}: `];
-    return said.slice(said.indexOf(named) + named.length);
+    const [message, named] = [new TextDecoder().decode(text).trimEnd(), `line ${number}: `];
+    return message.slice(message.indexOf(named) + named.length);
 }
 
 /**

@@ -17,7 +17,7 @@ import { ScriptModel, byNumber, modelInParts, userPlace } from './model.js';
  * @param {UserRange} range
  * @param {(line: ScriptLine) => boolean} isMade
  */
-function givesWay(line, range, isMade) {
+function isReplacedBy(line, range, isMade) {
     const { patch } = line;
     if (patch === null || patch.verb !== VERB.SET) return false;
     const from = userPlace(patch) - userPlace(range);
@@ -42,7 +42,7 @@ function linesRead({ lines }) {
  * @param {(line: ScriptLine) => boolean} isMade
  */
 function linesFor(script, range, isMade) {
-    return script.linesWriting(range).filter(line => givesWay(line, range, isMade)).sort(byNumber);
+    return script.linesWriting(range).filter(line => isReplacedBy(line, range, isMade)).sort(byNumber);
 }
 
 /** Merges lines, one after the other, with a script that itself does not change. */
@@ -64,12 +64,12 @@ class Merging {
     /** @param {{ text: string, patch: UserRange }} line */
     add({ text, patch }) {
         const { put, counts } = this;
-        const gone = linesFor(this.script, patch, this.isMade);
-        const first = gone.find(({ number }) => !put.has(number));
-        if (gone.length === 0) counts.added += 1;
-        else if (gone.length === 1 && gone[0].text === text) counts.same += 1;
+        const removed = linesFor(this.script, patch, this.isMade);
+        const first = removed.find(({ number }) => !put.has(number));
+        if (removed.length === 0) counts.added += 1;
+        else if (removed.length === 1 && removed[0].text === text) counts.same += 1;
         else counts.replaced += 1;
-        for (const { number } of gone) if (!put.has(number)) put.set(number, '');
+        for (const { number } of removed) if (!put.has(number)) put.set(number, '');
         if (first) put.set(first.number, text);
         else this.end.push(text);
     }
@@ -85,24 +85,36 @@ class Merging {
 /**
  * The lines of a script, in order, that new lines which set bytes would replace.
  * @param {ScriptModel} script
- * @param {string[]} come
+ * @param {string[]} incoming
  * @param {(line: ScriptLine) => boolean} isMade whether a line was generated like the new ones, and not typed
  */
-export function linesGivingWay(script, come, isMade) {
-    const read = linesRead(new ScriptModel(script.calls, scriptOf(come)));
+export function replacedLines(script, incoming, isMade) {
+    const read = linesRead(new ScriptModel(script.calls, scriptOf(incoming)));
     return [...new Set(read.flatMap(({ patch }) => linesFor(script, patch, isMade)))].sort(byNumber);
+}
+
+/**
+ * The lines of a script, in order, that write some of the bytes of new lines which set bytes, but begin at none of their places.
+ * @param {ScriptModel} script
+ * @param {string[]} incoming
+ */
+export function linesBeside(script, incoming) {
+    const read = linesRead(new ScriptModel(script.calls, scriptOf(incoming)));
+    const places = new Set(read.map(({ patch }) => userPlace(patch)));
+    const there = read.flatMap(({ patch }) => script.linesWriting(patch));
+    return there.filter(({ patch }) => patch !== null && !places.has(userPlace(patch))).sort(byNumber);
 }
 
 /**
  * Merges lines that set bytes, and do not overlap, with a script, and returns the texts of all lines. Each new line is put in the place of
  * the first line that it replaces, or at the end.
  * @param {ScriptModel} script
- * @param {string[]} come
+ * @param {string[]} incoming
  * @param {(line: ScriptLine) => boolean} isMade whether a line was generated like the new ones, and not typed
  */
-export function mergedLines(script, come, isMade) {
+export function mergedLines(script, incoming, isMade) {
     const merging = new Merging(script, isMade);
-    for (const line of linesRead(new ScriptModel(script.calls, scriptOf(come)))) merging.add(line);
+    for (const line of linesRead(new ScriptModel(script.calls, scriptOf(incoming)))) merging.add(line);
     return merging.merged();
 }
 
@@ -110,13 +122,13 @@ export function mergedLines(script, come, isMade) {
  * Like mergedLines, for tens of thousands of lines. Other tasks get turns in between, in which the script must not change. Build the new
  * script from the lines with `modelInParts`, which gives turns too.
  * @param {ScriptModel} script
- * @param {string[]} come
+ * @param {string[]} incoming
  * @param {(line: ScriptLine) => boolean} isMade
  * @param {import('../turns.js').Signal} [signal]
  */
-export async function mergedInTurns(script, come, isMade, signal) {
+export async function mergedInTurns(script, incoming, isMade, signal) {
     const merging = new Merging(script, isMade);
-    for (const line of linesRead(await modelInParts(script.calls, scriptOf(come), () => letOthersIn(signal)))) {
+    for (const line of linesRead(await modelInParts(script.calls, scriptOf(incoming), () => letOthersIn(signal)))) {
         if (isTurnDue()) await letOthersIn(signal);
         merging.add(line);
     }
@@ -126,16 +138,16 @@ export async function mergedInTurns(script, come, isMade, signal) {
 /**
  * Like linesGivingWay, with turns for other tasks in between, in which the script must not change.
  * @param {ScriptModel} script
- * @param {string[]} come
+ * @param {string[]} incoming
  * @param {(line: ScriptLine) => boolean} isMade
  * @param {import('../turns.js').Signal} [signal]
  */
-export async function linesGivingWayInTurns(script, come, isMade, signal) {
+export async function replacedLinesInTurns(script, incoming, isMade, signal) {
     /** @type {Set<ScriptLine>} */
-    const gone = new Set();
-    for (const { patch } of linesRead(await modelInParts(script.calls, scriptOf(come), () => letOthersIn(signal)))) {
+    const removed = new Set();
+    for (const { patch } of linesRead(await modelInParts(script.calls, scriptOf(incoming), () => letOthersIn(signal)))) {
         if (isTurnDue()) await letOthersIn(signal);
-        for (const line of linesFor(script, patch, isMade)) gone.add(line);
+        for (const line of linesFor(script, patch, isMade)) removed.add(line);
     }
-    return [...gone].sort(byNumber);
+    return [...removed].sort(byNumber);
 }

@@ -10,7 +10,7 @@ import { contentOf, lineParts, linesOfText, partOfWord, wordsOf } from './line_w
 /** A line: its number, from 1, its text, its CONTENT, and its patch, null if it has none. */
 /** @typedef {{ number: number, text: string, content: number, patch: PatchRange | null }} ScriptLine */
 /** @typedef {{ block: number, offset: number, size: number }} UserRange user bytes, from an offset in a block on */
-/** @typedef {{ number: number, block: number, offset: number }} Asked a line, and the user byte whose writer is looked up for it */
+/** @typedef {{ number: number, block: number, offset: number }} Queried a line, and the user byte whose writer is looked up for it */
 
 /** If more lines are removed, all others are read again, because each removed line is searched among all lines of its block. */
 const MANY = 256;
@@ -48,12 +48,12 @@ export function byNumber(a, b) {
  * For each of several lines that ask for a byte of one block, finds the last line before it that writes the byte, or 0.
  * @param {number} block
  * @param {ScriptLine[]} lines those that write in the block, in order
- * @param {Asked[]} asked the lines, in order, with their bytes
+ * @param {Queried[]} queried the lines, in order, with their bytes
  */
-export function writersIn(block, lines, asked) {
+export function writersIn(block, lines, queried) {
     const [writers, start] = [new Uint32Array(USER_SIZE), block * USER_SIZE];
     let next = 0;
-    return asked.map(({ number, offset }) => {
+    return queried.map(({ number, offset }) => {
         for (; next < lines.length && lines[next].number < number; next++) {
             const patch = /** @type {PatchRange} */ (lines[next].patch);
             const from = userPlace(patch) - start;
@@ -171,14 +171,14 @@ export class ScriptModel {
         const isMany = count > MANY;
         if (!isMany) for (const line of this.lines.slice(at, at + count)) this.count(line, -1);
         if (at <= head) Object.assign(this, { head: -1, version: 0 });
-        const come = this.entered(texts.join('\n'), texts, at + 1);
-        this.lines = this.lines.slice(0, at).concat(come, this.lines.slice(at + count));
+        const incoming = this.entered(texts.join('\n'), texts, at + 1);
+        this.lines = this.lines.slice(0, at).concat(incoming, this.lines.slice(at + count));
         this.joined = null;
         const [stays, found] = [at + count <= head, this.head >= 0];
-        if (stays && !found) Object.assign(this, { head: head + come.length - count, version });
+        if (stays && !found) Object.assign(this, { head: head + incoming.length - count, version });
         const isOther = at <= head && (stays === found || this.version !== version);
         if (isOther || this.tooMany || isMany || this.lines.length === 0) this.readText(this.text());
-        else if (come.length !== count) this.lines.forEach((line, i) => { line.number = i + 1; });
+        else if (incoming.length !== count) this.lines.forEach((line, i) => { line.number = i + 1; });
     }
 
     /**
@@ -224,22 +224,22 @@ export class ScriptModel {
 
     /**
      * For each asking line, by its number, the last applied line before it that writes the byte it asks for, or 0.
-     * @param {Asked[]} asking
+     * @param {Queried[]} asking
      * @param {(number: number) => boolean} isApplied
      */
     writersBefore(asking, isApplied) {
-        /** @type {Map<number, Asked[]>} */
+        /** @type {Map<number, Queried[]>} */
         const blocks = new Map();
         for (const it of asking) {
-            const asked = blocks.get(it.block) || [];
-            if (asked.push(it) === 1) blocks.set(it.block, asked);
+            const queried = blocks.get(it.block) || [];
+            if (queried.push(it) === 1) blocks.set(it.block, queried);
         }
         /** @type {Map<number, number>} */
         const writers = new Map();
-        for (const [block, asked] of blocks) {
+        for (const [block, queried] of blocks) {
             const lines = this.linesNear(block, block).filter(({ number, patch }) => patch && patch.size > 0 && isApplied(number));
-            asked.sort((a, b) => a.number - b.number);
-            writersIn(block, lines.sort(byNumber), asked).forEach((writer, i) => writers.set(asked[i].number, writer));
+            queried.sort((a, b) => a.number - b.number);
+            writersIn(block, lines.sort(byNumber), queried).forEach((writer, i) => writers.set(queried[i].number, writer));
         }
         return writers;
     }

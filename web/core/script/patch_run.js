@@ -13,15 +13,15 @@ import { isTurnDue, letOthersIn } from '../turns.js';
 
 /**
  * Options of a run. `base`: the block of the image's first sector. `carry`: whether damaged sectors are patched too. `withoutOld`: whether
- * old bytes are not compared. `near`: up to how many bytes between patched sectors are passed on with them, if they were read too.
- * @typedef {{ base: number, carry?: boolean, withoutOld?: boolean, near?: number }} How
+ * old bytes are not compared. `mostBetween`: up to how many bytes between patched sectors are passed on with them, if they were read too.
+ * @typedef {{ base: number, carry?: boolean, withoutOld?: boolean, mostBetween?: number }} How
  */
 
 /** The size in bytes from which joined bytes of adjacent sectors are passed on. */
 const JOINED_SIZE = 1 << 19;
-/** Values of `near`: if pieces are held, and if they are written at once, where reading a slice again takes longer. */
-export const NEAR_HELD = 1 << 14;
-export const NEAR_WRITTEN = 1 << 17;
+/** Values of `mostBetween`: if pieces are held, and if they are written at once, where reading a slice again takes longer. */
+export const BETWEEN_HELD = 1 << 14;
+export const BETWEEN_WRITTEN = 1 << 17;
 
 /** Joins the bytes of adjacent pieces. */
 class JoinedPieces extends PieceCutter {
@@ -59,13 +59,13 @@ class JoinedPieces extends PieceCutter {
  * @param {number} flags
  */
 export function* stepsOf(calls, script, base, size, flags) {
-    const run = calls.runBegin(script, base, size, flags);
+    const scriptRun = calls.runBegin(script, base, size, flags);
     try {
-        let step = calls.runNext(run, 0);
-        for (; step.kind !== STEP.END; step = calls.runNext(run, step.size)) yield step;
+        let step = calls.runNext(scriptRun, 0);
+        for (; step.kind !== STEP.END; step = calls.runNext(scriptRun, step.size)) yield step;
         yield step;
     } finally {
-        calls.runEnd(run);
+        calls.runEnd(scriptRun);
     }
 }
 
@@ -79,7 +79,8 @@ export function* stepsOf(calls, script, base, size, flags) {
  * @param {(step: Step, line: Uint8Array) => void} log
  * @param {Take | null} take null if the image is not needed
  */
-export async function runScript(calls, reader, script, { base, carry = false, withoutOld = false, near = NEAR_HELD }, log, take) {
+export async function runScript(calls, reader, script, how, log, take) {
+    const { base, carry = false, withoutOld = false, mostBetween = BETWEEN_HELD } = how;
     const [ahead, out] = [new ReadAhead(reader), take && new JoinedPieces(take)];
     const flags = (carry ? RUN_FLAG.CARRY : 0) + (withoutOld ? RUN_FLAG.WITHOUT_OLD : 0);
     let status = STATUS.DONE;
@@ -92,7 +93,7 @@ export async function runScript(calls, reader, script, { base, carry = false, wi
         else if (kind === STEP.END) status = step.status;
         else if (out !== null) {
             const bytes = kind === STEP.WRITE ? calls.stepBytes(step) :
-                size <= near ? ahead.here(at, size) || await ahead.bytesOn(at, size) : null;
+                size <= mostBetween ? ahead.here(at, size) || await ahead.bytesOn(at, size) : null;
             await (bytes === null ? out.giveBytes() : out.join(at, bytes));
         }
         if (isTurnDue()) await letOthersIn();
@@ -108,14 +109,14 @@ export async function runScript(calls, reader, script, { base, carry = false, wi
  * @template T
  * @param {Calls} calls
  * @param {Uint8Array[]} script in pieces
- * @param {(run: import('../module/calls.js').Run) => T} read
+ * @param {(scriptRun: import('../module/calls.js').ScriptRun) => T} read
  */
 export function faultOr(calls, script, read) {
-    const run = calls.runBegin(script, 0, null, 0);
+    const scriptRun = calls.runBegin(script, 0, null, 0);
     try {
-        const step = calls.runNext(run, 0);
-        return step.kind === STEP.LOG ? calls.stepBytes(step).slice() : read(run);
+        const step = calls.runNext(scriptRun, 0);
+        return step.kind === STEP.LOG ? calls.stepBytes(step).slice() : read(scriptRun);
     } finally {
-        calls.runEnd(run);
+        calls.runEnd(scriptRun);
     }
 }

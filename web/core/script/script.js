@@ -2,15 +2,15 @@
 
 import { joinedBytes } from '../bytes.js';
 import { MOST_SCRIPT_BYTES } from '../module/index.js';
-import { basesSaid } from './base_said.js';
+import { basesNamed } from './base_comment.js';
 import { readLines, scriptParts } from './long_script.js';
 import { faultOr } from './patch_run.js';
 
 /** @typedef {import('../module/calls.js').Calls} Calls */
-/** @typedef {import('./base_said.js').BaseSaid} BaseSaid */
+/** @typedef {import('./base_comment.js').NamedBase} NamedBase */
 /** @typedef {import('./long_script.js').Part} Part */
 /** @typedef {Iterable<Uint8Array> | AsyncIterable<Uint8Array>} Pieces */
-/** @typedef {{ bases: BaseSaid[] } & ({ text: Uint8Array } | { parts: Part[] })} ReadScript a script without faults; a long one in parts */
+/** @typedef {{ bases: NamedBase[] } & ({ text: Uint8Array } | { parts: Part[] })} ReadScript a valid script; a long one in parts */
 
 /** The refusal of a script, with the program's line for it. */
 export class Refusal {
@@ -50,5 +50,5 @@ export async function readScript(calls, pieces, long = false) {
     const text = await wholeText(pieces, long ? Infinity : MOST_SCRIPT_BYTES);
     const lines = long ? readLines(calls, text) : faultOr(calls, [text], () => null);
     if (lines instanceof Uint8Array) return new Refusal(lines, !long && text.length > MOST_SCRIPT_BYTES);
-    return { bases: basesSaid(text), ...lines ? { parts: scriptParts(lines) } : { text } };
+    return { bases: basesNamed(text), ...lines ? { parts: scriptParts(lines) } : { text } };
 }

@@ -76,6 +76,28 @@ export function commonRuns(runs, others) {
 }
 
 /**
+ * The blocks of runs that are in none of other runs, with the other members of the first list's runs.
+ * @template {Run} R
+ * @param {R[]} runs in order, without overlaps
+ * @param {Run[]} others in order, without overlaps
+ */
+export function runsWithout(runs, others) {
+    /** @type {R[]} */
+    const rest = [];
+    let at = 0;
+    for (const run of runs) {
+        let { first } = run;
+        while (at < others.length && others[at].last < first) at += 1;
+        for (let i = at; i < others.length && others[i].first <= run.last; i++) {
+            if (others[i].first > first) rest.push({ ...run, first, last: others[i].first - 1 });
+            first = others[i].last + 1;
+        }
+        if (first <= run.last) rest.push({ ...run, first });
+    }
+    return rest;
+}
+
+/**
  * Sorts runs, and joins those that overlap or are adjacent.
  * @param {Run[]} runs
  */

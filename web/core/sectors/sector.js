@@ -161,6 +161,17 @@ export function addressText(address) {
 }
 
 /**
+ * Whether an address is not that of a block. False if the block has no address.
+ * @param {Calls} calls
+ * @param {Uint8Array} address
+ * @param {number} block
+ */
+export function hasOtherAddress(calls, address, block) {
+    const own = calls.address(block);
+    return own !== null && !sameBytes(own, address);
+}
+
+/**
  * The block that has an address, or null if none has.
  * @param {Calls} calls
  * @param {Uint8Array} address three bytes in BCD

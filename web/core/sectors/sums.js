@@ -12,7 +12,7 @@ import { surveyRange } from './survey.js';
  * @param {Calls} calls
  * @param {Uint8Array} bytes
  * @param {number} block
- * @param {{ surveys: boolean, shift?: number }} args including the argument of surveyRange
+ * @param {{ surveys: boolean } & import('./survey.js').SurveyArgs} args including those of surveyRange
  * @returns {Summed}
  */
 export function sumsOfRange(calls, bytes, block, { surveys, ...args }) {

@@ -1,8 +1,10 @@
 // Surveys of sectors: their records, and the reports of `list` and `audit`.
 
 import { ByteList, joinedBytes } from '../bytes.js';
+import { newBytes } from '../faults.js';
 import { RECORD, RECORD_SIZE, SECTOR_KIND, SECTOR_SIZE, STATUS, sectorCount } from '../module/index.js';
-import { runOf } from './runs.js';
+import { MODE2, isDamagedMode2, testMode2 } from './mode2.js';
+import { addToRuns, runOf } from './runs.js';
 import { asWords, isFilled } from './sector.js';
 
 /** @typedef {import('../module/calls.js').Calls} Calls */
@@ -15,7 +17,15 @@ import { asWords, isFilled } from './sector.js';
  * @typedef {{ block: number, records: Uint8Array }} Survey
  */
 
-/** @typedef {Survey & { filled: FilledRun[] }} RangeSurvey with the runs that one byte fills */
+/**
+ * With the runs that one byte fills, and the findings in Mode 2 sectors, which are empty if these were not tested.
+ * @typedef {Survey & { filled: FilledRun[], mode2: Uint8Array }} RangeSurvey
+ */
+
+/**
+ * How many blocks later the sectors are by their addresses, and whether Mode 2 sectors are tested, as cdpatch does not.
+ * @typedef {{ shift?: number, mode2?: boolean }} SurveyArgs
+ */
 
 /**
  * The output of a command, and its status.
@@ -27,12 +37,13 @@ import { asWords, isFilled } from './sector.js';
  * @param {Calls} calls
  * @param {Uint8Array} bytes
  * @param {number} block
- * @param {{ shift?: number }} args how many blocks later the sectors are by their addresses
+ * @param {SurveyArgs} args
  * @returns {RangeSurvey}
  */
-export function surveyRange(calls, bytes, block, { shift = 0 } = {}) {
+export function surveyRange(calls, bytes, block, { shift = 0, mode2 = false } = {}) {
     const records = shift === 0 ? calls.survey(bytes, block) : shiftedSurvey(calls, bytes, block + shift);
-    return { block, records, filled: filledRuns(bytes, records, block) };
+    const found = mode2 ? testMode2(calls, bytes, records, block + shift) : newBytes(0);
+    return { block, records, filled: filledRuns(bytes, records, block), mode2: found };
 }
 
 /**
@@ -101,6 +112,21 @@ export function surveyCounts({ records }) {
         wrong += Number(isBroken || records[at + RECORD.ADDRESS] !== 0);
     }
     return { sectors: records.length / RECORD_SIZE, mode1, damaged, elsewhere, wrong };
+}
+
+/**
+ * The runs of damaged sectors of a survey, and of those with a wrong address.
+ * @param {Survey} survey
+ * @param {Uint8Array} mode2 the settled findings in its Mode 2 sectors
+ */
+export function wrongRuns({ block, records }, mode2) {
+    /** @type {{ damaged: Run[], elsewhere: Run[] }} */
+    const runs = { damaged: [], elsewhere: [] };
+    for (let i = 0, at = 0; at < records.length; i++, at += RECORD_SIZE) {
+        if (isDamaged(records, at) || isDamagedMode2(mode2[i])) addToRuns(runs.damaged, runOf(block + i));
+        if (records[at + RECORD.ADDRESS] !== 0 || (mode2[i] & MODE2.ADDRESS) !== 0) addToRuns(runs.elsewhere, runOf(block + i));
+    }
+    return runs;
 }
 
 /**

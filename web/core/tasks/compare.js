@@ -48,19 +48,19 @@ export function diffRange(calls, old, fresh, first, how) {
 
 /**
  * Creates the script that turns the image of a track into another one of the same size. It is null if a script cannot express all
- * differences. With `skipDamaged` it may leave out blocks that are damaged in the other image, and with `partial` everything that it
- * cannot express. Throws what the readers throw, and a Fault, `cancelled`.
+ * differences. With `skipDamaged` it may leave out blocks that are damaged in the other image, with `skipMode2` those that are Mode 2 there
+ * unless it would be empty, and with `partial` everything that it cannot express. Throws what the readers throw, and a Fault, `cancelled`.
  * @param {Engine} engine
  * @param {Pick<OpenedTrack, 'image'>} opened
  * @param {Reader} fresh
- * @param {{ skipDamaged?: boolean, partial?: boolean, take?: (text: Uint8Array) => Promise<void> }} [options] `take` receives the text as
- *     it is generated, before it is known whether there is a script. The returned script then has only the start, which overwrites the
- *     start of the text
+ * @param {{ skipDamaged?: boolean, skipMode2?: boolean, partial?: boolean, take?: (text: Uint8Array) => Promise<void> }} [options]
+ *     `take` receives the text as it is generated, before it is known whether there is a script. The returned script then has only the
+ *     start, which overwrites the start of the text
  * @param {Sharing} [watch]
  * @returns {Promise<Comparison>}
  */
 export async function compareTrack({ calls, crew }, { image }, fresh, options = {}, watch = {}) {
-    const { skipDamaged, partial, take } = options;
+    const { skipDamaged, skipMode2, partial, take } = options;
     const parts = new ScriptParts();
     if (take !== undefined) await take(new TextEncoder().encode(`${headLine()}\n${baseComment(image.base)}`));
     await crew.share('diff', [image.reader, fresh], {}, { step: COMPARED_STEP, ...watch, base: image.base }, async lines => {
@@ -70,8 +70,18 @@ export async function compareTrack({ calls, crew }, { image }, fresh, options = 
     });
     const { left } = parts;
     const tail = await tailsDiffer(image.reader, fresh);
-    const isWanted = partial || (!tail && left.every(({ why }) => skipDamaged && why === 'damaged'));
+    const isSkipped = (/** @type {Left} */ run) => isToMode2(run) ? skipMode2 : skipDamaged && run.why === 'damaged';
+    const isEmpty = parts.patches === 0 && left.some(isToMode2);
+    const isWanted = partial || (!tail && !isEmpty && left.every(isSkipped));
     return { script: isWanted ? scriptForBase(parts.script(calls), image.base) : null, left, tail };
+}
+
+/**
+ * Whether blocks are left out of a script because they become Mode 2.
+ * @param {Left} run
+ */
+export function isToMode2({ why, kinds }) {
+    return why === 'kind' && kinds[1] === SECTOR_KIND.MODE2;
 }
 
 /**

@@ -25,7 +25,7 @@ import { replaceBytes } from './replace_bytes.js';
  * Finds a text in a track. An encoding in which it occurs only in the middle of characters is listed last. Throws a Fault: `find/empty`,
  * `text` if no encoding has its characters, `cancelled`.
  * @param {Pick<Engine, 'crew'>} engine
- * @param {OpenedTrack} opened
+ * @param {Pick<OpenedTrack, 'contents'>} opened
  * @param {WantedText & { limit: number }} options how many hits are kept in each encoding, one at least
  * @param {Watch} [watch]
  * @returns {Promise<FoundText>}

@@ -1,17 +1,24 @@
 // The tasks that a user does with a disc, for all doors. Tasks return data. Doors ask, show the progress, and print or draw.
 
 export { applyInMemory, applyScript } from './apply.js';
+export { checkLists } from './check_lists.js';
 export { commonPart, isSameRange } from './common_part.js';
-export { FIELD_COUNT, SECOND_STATE, compareTrack, diffRange, differRange, findDifferences } from './compare.js';
+export { FIELD_COUNT, SECOND_STATE, compareTrack, diffRange, differRange, findDifferences, isToMode2 } from './compare.js';
 export { extractFile, passUser, userRange } from './convert.js';
+export { NO_IMAGE, otherSummary, summaryOf } from './file_summary.js';
 export { findText, findTextAt } from './find.js';
-export { findingsIn, foundInSurvey, surveyedTrack, surveyedTracks, tailOf, unsurveyedTracks } from './inform.js';
+export { CollectedSurvey, findingsIn, foundInSurvey, surveyedTrack, surveyedTracks, tailOf, unsurveyedTracks } from './inform.js';
+export { COLUMN, NOT_IN_DAT, NOT_TESTED, NO_DAT, lacksHash, listedColumns, saidOfDump, saidOfFile } from './listed_line.js';
+export { ESCAPED_BYTE, SURROGATE_OF_BYTE, listedName, nameOfListed } from './listed_name.js';
 export { mergeRange } from './merge.js';
 export { OpenedTrack, openTrack, trackBeside } from './opened.js';
+export { importIntoFile, openPlainFile } from './plain_file.js';
+export { exportRecords } from './records.js';
 export { repairTrack } from './repair.js';
+export { patchedTexts } from './patched_texts.js';
 export { assertHasRoom, replaceHits } from './replace.js';
 export { filledUp, replaceBytes, replaceRange, sectorsOfRange, untriedLines } from './replace_bytes.js';
-export { placesOfFile, replaceFile } from './replace_file.js';
+export { patchedExtents, placeOfLength, placesOfFile, replaceFile } from './replace_file.js';
 export { assertBase, validScript } from './script_for.js';
-export { exportTable, importTable } from './table.js';
+export { exportTable, importRows, importTable, leftTable, newTextsOf, roomInTrack } from './table.js';
 export { undoScript } from './undo.js';

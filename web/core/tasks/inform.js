@@ -1,28 +1,31 @@
 // Determines which tracks of a disc are surveyed, and the findings of each survey.
 
-import { MODE1, lackOf, lostSectors, mode1Tracks, otherSectors } from '../disc/index.js';
+import { joinedBytes } from '../bytes.js';
+import { MODE1, MODE2_TRACKS, lackOf, lostSectors, otherSectors, sheetTracks } from '../disc/index.js';
 import { SECTOR_SIZE } from '../module/index.js';
-import { blocksIn, surveyCounts } from '../sectors/index.js';
+import { addToRuns, blocksIn, mode2Counts, settledMode2, surveyCounts } from '../sectors/index.js';
 import { addressShift } from './common_part.js';
 
 /** @typedef {import('../disc/disc.js').Disc} Disc */
 /** @typedef {import('../disc/disc.js').DiscImage} DiscImage */
 /** @typedef {import('../disc/lost.js').Lost} Lost */
+/** @typedef {import('../disc/lost.js').SheetTracks} SheetTracks */
 /** @typedef {import('../disc/volume_end.js').Lack} Lack */
-/** @typedef {import('../sectors/runs.js').Run} Run */
 /** @typedef {import('../sectors/survey.js').RangeSurvey} RangeSurvey */
 /** @typedef {import('../sectors/survey.js').Survey} Survey */
 /** @typedef {Pick<import('./opened.js').OpenedTrack, 'disc' | 'track' | 'image' | 'part'>} Opened */
 /**
  * A track that is surveyed, as the `part` of an `image`, whose sectors are `shift` blocks later by their addresses. `isWhole` means that
- * the image is a whole file, and `isAlone` that the disc has no other track according to the cue sheet. `mode1Tracks` lists the tracks in
- * the image that are Mode 1 according to the cue sheet, null without a sheet.
+ * the image is a whole file, and `isAlone` that the disc has no other track according to the cue sheet. `sheetTracks` lists the data tracks
+ * in the image according to the cue sheet, null without a sheet.
  * @typedef {{ number: number, file: number, image: DiscImage, part: DiscImage, shift: number, isWhole: boolean, isAlone: boolean,
- *     mode1Tracks: Run[] | null }} SurveyedTrack
+ *     sheetTracks: SheetTracks | null }} SurveyedTrack
  */
 /**
- * The findings of an image: its counts, the sectors that are lost or not tested, and the blocks of its volume that it lacks.
- * @typedef {ReturnType<typeof surveyCounts> & { survey: Survey, lack: Lack | null } & Lost} Found
+ * The findings of an image: the counts of its Mode 1 and Mode 2 sectors, and the settled findings in the latter (`mode2Found`); how many
+ * sectors of both are `wrong`; the sectors that are lost or not tested; and the blocks of its volume that it lacks.
+ * @typedef {ReturnType<typeof surveyCounts> & { survey: Survey, mode2: ReturnType<typeof mode2Counts>, mode2Found: Uint8Array,
+ *     lack: Lack | null } & Lost} Found
  */
 
 /**
@@ -44,7 +47,7 @@ function hasOneTrack({ sheet, tracks }) {
  * @returns {SurveyedTrack}
  */
 export function surveyedTrack({ disc, track: { number, file }, image, part }) {
-    const whole = { isWhole: true, isAlone: hasOneTrack(disc), mode1Tracks: mode1Tracks(disc, file, image.base) };
+    const whole = { isWhole: true, isAlone: hasOneTrack(disc), sheetTracks: sheetTracks(disc, file, image.base) };
     return { number, file, image, part, shift: addressShift(image), ...whole };
 }
 
@@ -61,9 +64,37 @@ export function surveyedTracks(disc) {
         const others = tracks.filter(it => it.file === file);
         const isWhole = others.every(it => it.image?.base === image.base);
         if (isWhole) return others[0] === track ? [surveyedTrack({ disc, track, image, part })] : [];
-        const own = type === MODE1 ? [{ first: part.base, last: part.base + part.sectors - 1 }] : [];
-        return [{ number, file, image: part, part, shift: addressShift(part), isWhole, isAlone: false, mode1Tracks: own }];
+        const ifType = (/** @type {string[]} */ types) =>
+            types.includes(type) ? [{ first: part.base, last: part.base + part.sectors - 1 }] : [];
+        const own = { mode1: ifType([MODE1]), mode2: ifType(MODE2_TRACKS) };
+        return [{ number, file, image: part, part, shift: addressShift(part), isWhole, isAlone: false, sheetTracks: own }];
     });
+}
+
+/** Collects the surveys of the ranges of an image, which are added in order. */
+export class CollectedSurvey {
+    /** @param {number} block of the first sector */
+    constructor(block) {
+        this.block = block;
+        /** @type {Uint8Array[]} */
+        this.records = [];
+        /** @type {Uint8Array[]} */
+        this.mode2 = [];
+        /** @type {RangeSurvey['filled']} */
+        this.filled = [];
+    }
+
+    /** @param {Survey & Partial<RangeSurvey>} range what is missing was not surveyed */
+    add({ records, mode2, filled = [] }) {
+        this.records.push(records);
+        if (mode2) this.mode2.push(mode2);
+        filled.forEach(run => addToRuns(this.filled, run));
+    }
+
+    /** @returns {RangeSurvey} */
+    whole() {
+        return { block: this.block, records: joinedBytes(this.records), mode2: joinedBytes(this.mode2), filled: this.filled };
+    }
 }
 
 /**
@@ -72,10 +103,12 @@ export function surveyedTracks(disc) {
  * @param {RangeSurvey} survey of the whole image
  * @returns {Promise<Found>}
  */
-export async function foundInSurvey({ image, part, isAlone, mode1Tracks: tracks }, { filled, ...survey }) {
+export async function foundInSurvey({ image, part, isAlone, sheetTracks: tracks }, { filled, mode2, ...survey }) {
     const lack = await lackOf(image, part, isAlone);
-    const lost = await lostSectors(image, otherSectors(survey, filled), tracks, [{ image, part, later: 0 }]);
-    return { survey, ...surveyCounts(survey), ...lost, lack };
+    const mode2Found = settledMode2(mode2);
+    const lost = await lostSectors(image, otherSectors(survey, filled, mode2Found), tracks, [{ image, part, later: 0 }]);
+    const [counts, ofMode2] = [surveyCounts(survey), mode2Counts(survey.records, mode2Found)];
+    return { survey, ...counts, wrong: counts.wrong + ofMode2.wrong, mode2: ofMode2, mode2Found, ...lost, lack };
 }
 
 /**

@@ -1,58 +1,29 @@
-// Reads a translator's list of old and new texts, and generates the lines that replace them.
+// Generates the lines that replace the texts of a translator's lists.
 
-import { encodingOf, fillerOf, fillingAfter, usualBytes } from '../encodings/index.js';
-import { Fault, failedBy, remark } from '../faults.js';
+import { encodingOf, endOfFilling, fillerOf, fillingAfter, usualBytes } from '../encodings/index.js';
+import { Fault, failedBy } from '../faults.js';
 import { ReadAhead } from '../read_ahead.js';
-import { LONGEST_TEXT, MARKS, Table, assertMeant, bytesAround, bytesBefore, endOfMatch, longTextOf, unitsOfCell } from '../texts/index.js';
-import { isTurnDue, letOthersIn, sortedInTurns } from '../turns.js';
+import { LineList } from '../script/index.js';
+import { LONGEST_TEXT, assertMeant, bytesAround, bytesBefore, bytesOfCode, endOfMatch, unitsOfCell } from '../texts/index.js';
+import { sortedInTurns } from '../turns.js';
 import { assertHasRoom, replacedEach } from './replace.js';
 import { filledUp, replaceBytes } from './replace_bytes.js';
 
-/** @typedef {import('../bytes.js').Reader} Reader */
 /** @typedef {import('../module/calls.js').Calls} Calls */
 /** @typedef {import('../disc/disc.js').OrderedImage} OrderedImage */
 /** @typedef {import('../turns.js').Signal} Signal */
 /** @typedef {import('../encodings/encoding.js').Encoding} Encoding */
 /** @typedef {import('../encodings/encoding.js').Filler} Filler */
+/** @typedef {import('../script/sector_lines.js').Lines} Lines */
 /** @typedef {import('./engine.js').Watch} Watch */
 /**
  * @template {import('../facts.js').Code} [Name=import('../facts.js').Code]
  * @typedef {import('../facts.js').Remark<Name>} Remark
  */
-/**
- * A row with a new text: its number, the place of the old text, the room there that the row names, or -1, and the encoding, or ''. `fault`
- * is the reason why the row cannot be read as it was meant, or null.
- * @typedef {{ number: number, block: number, offset: number, room: number, encoding: string, text: string, fresh: string,
- *     fault: Remark<'list/cell-runs-on'> | null }} ListRow
- */
+/** @typedef {import('./list_rows.js').ListRow} ListRow */
 /** @typedef {{ text: ListRow, why: Remark }} LeftRow a row that does not fit, and why */
-
-const LIST_COLUMNS = ['block', 'offset', 'text', 'new', 'room', 'encoding'];
-const NEEDED = LIST_COLUMNS.slice(0, 4);
-
-/** The most rows with new texts. */
-const MOST_ROWS = 1000000;
-
-/** How many rows at the start may name the columns. Other rows, such as a title, may come first. */
-const MOST_HEADS = 20;
-
-/** The most bytes of a list. */
-const MOST_LISTED = 1 << 28;
-
-/**
- * Reads the rows with a new text of a list in a file. Throws a Fault if there are none.
- * @param {Reader} reader
- * @param {string} name
- * @param {(row: ListRow) => boolean} [isAlso] selects rows without a new text that are returned too
- * @param {Signal} [signal]
- */
-export async function rowsOfList(reader, name, isAlso, signal) {
-    if (reader.size > MOST_LISTED) throw new Fault('list/too-large', { name, size: reader.size, most: MOST_LISTED });
-    const rows = [];
-    for await (const row of listRows(await longTextOf(reader, signal), isAlso, signal)) rows.push(row);
-    if (rows.length === 0) throw new Fault('list/no-new-text', {});
-    return rows;
-}
+/** @typedef {(row: ListRow, image: OrderedImage, old: Uint8Array, bytes: Uint8Array) => Promise<Lines>} LinesFor */
+/** @typedef {{ at: number, bytes: Uint8Array }} FileChange new bytes at a place in a plain file */
 
 /**
  * Returns a function that chooses the encodings for a row by the name in it: the named one, or else the given ones.
@@ -67,65 +38,6 @@ export function encodingsOfRows(given, isAsked) {
 }
 
 /**
- * Finds the mark between the cells of a list, and the row that names the columns, which may be in quotes. Null if the list has no row.
- * Throws a Fault if none of the first rows names the columns, or if a name occurs twice.
- * @param {string} list
- */
-function headOf(list) {
-    /** @type {{ number: number, missing: string[] } | null} */
-    let nearest = null;
-    for (const mark of MARKS) {
-        for (const { number, cells, isQuoted } of new Table(list, mark).rows()) {
-            if (number > MOST_HEADS) break;
-            const names = cells.map(name => name.trim().replace(/^"(.*)"$/, '$1').toLowerCase());
-            const missing = NEEDED.filter(name => !names.includes(name));
-            const twice = LIST_COLUMNS.find(name => names.indexOf(name) !== names.lastIndexOf(name));
-            if (missing.length === 0 && twice) throw new Fault('list/column-twice', { row: number, column: twice });
-            if (missing.length === 0) return { mark, number, names, isQuoted };
-            if (nearest === null || missing.length < nearest.missing.length) nearest = { number, missing };
-        }
-    }
-    if (nearest === null) return null;
-    throw new Fault('list/no-column', { row: nearest.number, columns: nearest.missing });
-}
-
-/** @param {string | undefined} cell */
-function wholeIn(cell) {
-    return cell !== undefined && /^\d{1,9}$/.test(cell) ? Number(cell) : -1;
-}
-
-/**
- * Yields the rows of a list that have a new text. Throws a Fault if none of its first rows names the columns.
- * @param {string} list
- * @param {(row: ListRow) => boolean} [isAlso] selects rows without a new text that are returned too
- * @param {Signal} [signal]
- * @returns {AsyncGenerator<ListRow>}
- */
-export async function* listRows(list, isAlso = () => false, signal) {
-    const head = headOf(list);
-    if (head === null) return;
-    const table = new Table(list, head.mark);
-    const [block, offset, text, fresh, room, encoding] = LIST_COLUMNS.map(name => head.names.indexOf(name));
-    const isPlace = (/** @type {string[]} */ cells) => [block, offset].every(column => wholeIn(cells[column]) >= 0);
-    table.isQuoted = table.isQuoted || head.isQuoted;
-    table.isRow = line => isPlace(line.split(head.mark, Math.max(block, offset) + 1));
-    let count = 0;
-    for (const { number, cells, overrun } of table.rows()) {
-        if (isTurnDue()) await letOthersIn(signal);
-        if (number <= head.number) continue;
-        const row = {
-            number, block: wholeIn(cells[block]), offset: wholeIn(cells[offset]), room: wholeIn(cells[room]),
-            encoding: cells[encoding] || '', text: cells[text] || '', fresh: cells[fresh] || '',
-            fault: overrun === 0 ? null : remark('list/cell-runs-on', { row: number + overrun }),
-        };
-        if (row.fresh === '' && row.fault === null && !isAlso(row)) continue;
-        count += Number(row.fresh !== '');
-        if (count > MOST_ROWS) throw new Fault('list/too-many-rows', { most: MOST_ROWS });
-        yield row;
-    }
-}
-
-/**
  * Generates the lines that replace the texts of a list's rows, and returns the rows that are left out, in order. The lines are not tried
  * here: that is done later for all of them.
  * @param {Calls} calls
@@ -136,19 +48,91 @@ export async function* listRows(list, isAlso = () => false, signal) {
  * @param {Watch} [watch]
  */
 export async function replaceList(calls, image, rows, encodingsFor, fill, watch = {}) {
+    /** @type {LinesFor} */
+    const linesFor = (row, window, old, bytes) => replaceBytes(calls, window, row, old, bytes, true);
+    return fittedRows(image, rows, encodingsFor, fill, watch, linesFor);
+}
+
+/**
+ * The changes of a plain file that replace the texts of lists' rows, in the order of their places, and the rows that are left out, in
+ * order.
+ * @param {OrderedImage} image that presents the file
+ * @param {ListRow[]} rows
+ * @param {(name: string) => Encoding[]} encodingsFor as in replaceList
+ * @param {Filler} fill
+ * @param {Watch} [watch]
+ */
+export async function changesOfList(image, rows, encodingsFor, fill, watch = {}) {
+    /** @type {FileChange[]} */
+    const changes = [];
+    /** @type {LinesFor} */
+    const linesFor = async ({ offset }, _, __, bytes) => {
+        changes.push({ at: offset, bytes });
+        return new LineList().lines();
+    };
+    const { left } = await fittedRows(image, rows, encodingsFor, fill, watch, linesFor);
+    return { changes, left };
+}
+
+/**
+ * Collects the lines that `linesFor` returns for each row that fits, and returns the rows that are left out, in order.
+ * @param {OrderedImage} image
+ * @param {ListRow[]} rows
+ * @param {(name: string) => Encoding[]} encodingsFor as in replaceList
+ * @param {Filler} fill
+ * @param {Watch} watch
+ * @param {LinesFor} linesFor
+ */
+async function fittedRows(image, rows, encodingsFor, fill, watch, linesFor) {
     const { reader } = image;
     const ahead = new ReadAhead(reader);
     const read = (/** @type {number} */ at, /** @type {number} */ length) => ahead.bytesAt(at, Math.min(length, reader.size - at));
-    const near = { ...image, reader: { size: reader.size, read } };
-    const inOrder = await sortedInTurns(rows, row => bytesBefore(image, row), watch.signal);
-    const { parts, left } = await replacedEach(image, inOrder, watch, async (row, met) => {
+    const window = { ...image, reader: { size: reader.size, read } };
+    const inOrder = withoutRepeats(await sortedInTurns(rows, row => bytesBefore(image, row), watch.signal));
+    const { parts, left } = await replacedEach(image, inOrder, watch, async (row, before) => {
         if (row.fault) throw new Fault(row.fault.code, row.fault.facts);
-        if (row.block < 0 || row.offset < 0) throw new Fault('list/no-place', {});
-        if (met !== null) throw new Fault('list/overlaps', { row: met.number });
-        const { old, fresh } = await fittedRow(near, row, encodingsFor(row.encoding), fill);
-        return { lines: await replaceBytes(calls, near, row, old, fresh, true), size: old.length };
+        assertHasPlace(image, row);
+        if (before !== null) throw new Fault('list/overlaps', { row: before });
+        const { old, fresh } = await fittedRow(window, row, encodingsFor(row.encoding), fill);
+        return { lines: await linesFor(row, window, old, fresh), size: old.length };
     });
-    return { parts, left: await sortedInTurns(left, ({ text }) => text.number, watch.signal) };
+    return { parts, left: await inListOrder(left, rows, watch.signal) };
+}
+
+/**
+ * Throws a Fault if a row names no place, or one in a plain file instead of in an image, or the reverse, or one after the end of the file.
+ * @param {OrderedImage} image
+ * @param {ListRow} row
+ */
+function assertHasPlace({ fileSize }, { block, offset, isInFile }) {
+    if (block < 0 || offset < 0) throw new Fault('list/no-place', {});
+    if (isInFile && fileSize === undefined) throw new Fault('list/place-in-file', {});
+    if (fileSize === undefined) return;
+    if (!isInFile) throw new Fault('list/place-in-image', {});
+    if (offset >= fileSize) throw new Fault('list/after-file', { size: fileSize });
+}
+
+/**
+ * Sorted rows without those that repeat the row before them: the lists of two translators may have the same rows.
+ * @param {ListRow[]} sorted
+ */
+export function withoutRepeats(sorted) {
+    return sorted.filter((row, i) => {
+        const before = sorted[i - 1];
+        const isPlace = i > 0 && row.block === before.block && row.offset === before.offset;
+        return !isPlace || row.text !== before.text || row.fresh !== before.fresh;
+    });
+}
+
+/**
+ * Sorts rows that do not fit by their lists and numbers.
+ * @param {LeftRow[]} left
+ * @param {ListRow[]} rows of all lists, in their order
+ * @param {Signal} [signal]
+ */
+export async function inListOrder(left, rows, signal) {
+    const names = [...new Set(rows.map(({ list }) => list))];
+    return sortedInTurns(left, ({ text }) => names.indexOf(text.list) * 2 ** 32 + text.number, signal);
 }
 
 /**
@@ -160,22 +144,82 @@ export async function replaceList(calls, image, rows, encodingsFor, fill, watch 
  * @param {Filler} fill
  */
 async function fittedRow(image, row, encodings, fill) {
+    const { bytes, at, encoding, known, size, own, filled, room } = await foundRow(image, row, encodings);
+    const fresh = cellBytes(encoding, row.fresh);
+    assertHasRoom(encoding, fresh, room);
+    const filler = fillerOf(encoding, fill || own);
+    if (fresh.length < size && filler === null) throw new Fault('list/no-space', { name: encoding.name });
+    // A new text that ends within a filler of a record replaces all of it.
+    const unitEnd = own !== null && fresh.length > known ? endOfFilling(encoding, bytes, at + known, filled, at + fresh.length) : 0;
+    const old = bytes.slice(at, Math.max(at + size, at + fresh.length, unitEnd));
+    return { old, fresh: filledUp(fresh, old.length, filler) };
+}
+
+/**
+ * Finds the old text of a row: the bytes around it and the index of the text in them; its encoding; how many bytes it has (`known`), and
+ * how many of these are replaced (`size`); the filler of a record, or null; the end of the filling after the text; and the most bytes that
+ * a new text may have (`room`). Throws a Fault if the old text is not there.
+ * @param {OrderedImage} image
+ * @param {ListRow} row
+ * @param {Encoding[]} encodings
+ */
+async function foundRow(image, row, encodings) {
     const [first, last] = [image.base, image.base + image.sectors - 1];
     if (Math.max(row.text.length, row.fresh.length) > LONGEST_TEXT) throw new Fault('list/long-text', { most: LONGEST_TEXT });
     if (row.block < first || row.block > last) throw new Fault('replace/no-block', { first, last });
     const longest = 4 * Math.max(row.text.length, row.fresh.length) + Math.max(row.room, 0) + 4;
     const { bytes, at } = await bytesAround(image, row, 0, Math.min(longest, LONGEST_TEXT));
     const { encoding, size: known } = encodingAt(encodings, row, bytes, at);
-    assertMeant(encoding, row.fresh);
-    const fresh = usualBytes(unitsOfCell(encoding, row.fresh));
-    // A row may name less room than its old text has, if the text was read too far, into other data.
-    const size = row.room < 0 ? known : Math.min(known, row.room);
-    const room = Math.max(Math.min(known + fillingAfter(encoding, bytes, at + known), row.room), size);
-    assertHasRoom(encoding, fresh, room);
-    const filler = fillerOf(encoding, fill);
-    if (fresh.length < size && filler === null) throw new Fault('list/no-space', { name: encoding.name });
-    const old = bytes.slice(at, at + Math.max(size, fresh.length));
-    return { old, fresh: filledUp(fresh, old.length, filler) };
+    const size = replacedSize(row, known);
+    const [own, end] = [fillOf(row), at + known];
+    const filled = own === null ? end + fillingAfter(encoding, bytes, end) : endOfFilling(encoding, bytes, end, at + row.room);
+    const room = Math.max(Math.min(filled - at, row.room), size);
+    return { bytes, at, encoding, known, size, own, filled, room };
+}
+
+/**
+ * The bytes of a new text. Throws a Fault if it must be a mistake, or has a character that the encoding lacks.
+ * @param {Encoding} encoding
+ * @param {string} cell
+ */
+function cellBytes(encoding, cell) {
+    assertMeant(encoding, cell);
+    return usualBytes(unitsOfCell(encoding, cell));
+}
+
+/**
+ * The room for the new text of a row: the most bytes that it may have, and a function that encodes it. Throws a Fault if a different new
+ * text cannot make the row fit.
+ * @param {OrderedImage} image
+ * @param {ListRow} row
+ * @param {(name: string) => Encoding[]} encodingsFor as in replaceList
+ */
+export async function roomOfRow(image, row, encodingsFor) {
+    if (row.fault) throw new Fault(row.fault.code, row.fault.facts);
+    assertHasPlace(image, row);
+    const { encoding, room } = await foundRow(image, { ...row, fresh: '' }, encodingsFor(row.encoding));
+    return { room, bytesOf: (/** @type {string} */ cell) => cellBytes(encoding, cell) };
+}
+
+/**
+ * The filler that a row of a record names, or null. Throws a Fault if it is not a code.
+ * @param {ListRow} row
+ */
+function fillOf({ fill = '' }) {
+    if (fill === '') return null;
+    const bytes = bytesOfCode(fill);
+    if (bytes === null) throw new Fault('list/no-fill', { cell: fill });
+    return bytes;
+}
+
+/**
+ * How many bytes of a row's old text are replaced. A row of a table may name less room than that text has, if it was read too far, into
+ * other data. The room of an entry in a PO file is that of its smallest place.
+ * @param {Pick<ListRow, 'unit' | 'room'>} row
+ * @param {number} known how many bytes the old text has
+ */
+export function replacedSize({ unit, room }, known) {
+    return unit === 'line' || room < 0 ? known : Math.min(known, room);
 }
 
 /**

@@ -2,25 +2,33 @@
 
 import { joinedBytes, sameBytes } from '../bytes.js';
 import { RECORD, RECORD_SIZE, SECTOR_KIND, SECTOR_SIZE, sectorCount } from '../module/index.js';
-import { FIELDS, addToRuns, addressIn, asWords, differingSectors, isFilled, isSound, runOf, sectorOf } from '../sectors/index.js';
-import { sectorsAt } from '../sectors/index.js';
+import { FIELDS, addToRuns, addressIn, asWords, differingSectors, edcOfMode2, isDamagedMode2, isFilled } from '../sectors/index.js';
+import { isSound, isSoundMode2, runOf, sectorOf, sectorsAt, testMode2 } from '../sectors/index.js';
 
 /** @typedef {import('../module/calls.js').Calls} Calls */
 /** @typedef {import('../disc/lost.js').OtherSectors} OtherSectors */
 /** @typedef {import('../sectors/runs.js').Run} Run */
 /** @typedef {Run & { other: number }} RunOf blocks of another image */
+/** @typedef {Run & { elsewhere: boolean }} DamagedRun `elsewhere` if an image has a sound sector with the address of a different block */
 /**
  * The findings of a repair, as runs of blocks. `taken`: blocks copied from one other image for each run. `doubtful`: those of them whose
- * damaged sector has a different EDC and different data. `damaged`: blocks that no image repairs, `elsewhere` if an image has a sound
- * sector there with the address of a different block. `alike`: those of them with the same bytes in all images that have the block.
- * `disputed`: taken blocks in which other images are also sound, but different. `differing`, for each other image: blocks in which both are
- * sound, but different. `different` is their number, and `same` the number of blocks with the same bytes. `others`: blocks that are Mode 1
- * in no image, with their kinds in the first one. `filled`: those of them that one byte fills there. `unlike`: those of them with different
- * bytes in some image.
- * @typedef {{ taken: RunOf[], doubtful: RunOf[], damaged: (Run & { elsewhere: boolean })[], alike: Run[], disputed: Run[],
- *     differing: Run[][], different: number[], same: number[], unlike: Run[] } & OtherSectors} Found
+ * damaged sector has a different EDC and different data. `damaged`: blocks that no image repairs. `alike`: those of them with the same
+ * bytes in all images that have the block. `disputed`: taken blocks in which other images are also sound, but different. `differing`, for
+ * each other image: blocks in which both are sound, but different. `different` is their number, and `same` the number of blocks with the
+ * same bytes. `others`: blocks that are neither Mode 1 in any image nor sound, with their kinds in the first one. `filled`: those of them
+ * that one byte fills there. `unlike`: those of them with different bytes in some image.
+ *
+ * `mode2`: blocks that are Mode 2 in the repaired image. `unsound`: those of `others` that count as damaged if any image has sound Mode 2.
+ * `sound`: how many blocks are sound Mode 2 in any image.
+ * @typedef {{ taken: RunOf[], doubtful: RunOf[], damaged: DamagedRun[], alike: Run[], disputed: Run[], differing: Run[][],
+ *     different: number[], same: number[], unlike: Run[], unsound: DamagedRun[], sound: number } & OtherSectors} Found
  */
 /** @typedef {Found & { sectors: Uint8Array, end: number }} Merged with the copied sectors, and the block after the range */
+/** @typedef {{ records: Uint8Array, mode2: Uint8Array }} Tested the records of sectors, and the findings in those of Mode 2 */
+
+/** The place of the mode byte, and the size of the EDC. */
+const MODE_OFFSET = 15;
+const EDC_SIZE = 4;
 
 /**
  * Selects the sectors of other images that repair a range of sectors. A job for a worker.
@@ -30,45 +38,115 @@ import { sectorsAt } from '../sectors/index.js';
  * @param {{ shift: number }} args how many blocks later the sectors are by their addresses
  * @returns {Merged}
  */
-export function mergeRange(calls, [old, ...others], first, { shift }) {
-    const records = calls.survey(old, first);
-    const places = others.map(other => differingSectors(old, other));
-    const otherRecords = others.map((other, i) => recordsAt(calls, other, places[i]));
-    const [numbers, words] = [others.map((_, other) => other), asWords(old)];
-    const found = nothingFound(others.length);
-    const [sectors, count] = [/** @type {Uint8Array[]} */ ([]), sectorCount(old.length)];
-    const unlike = new Uint8Array(count); // 1 where some image has different bytes
-    places.forEach(some => some.forEach(i => { unlike[i] = 1; }));
-    found.same = places.map(({ length }) => count - length);
-    for (let i = 0; i < count; i++) {
-        const [block, at] = [first + i, i * RECORD_SIZE];
-        const sound = numbers.filter(other => isSound(otherRecords[other], at));
-        if (isSound(records, at)) {
-            for (const other of sound) addDifferent(found, block, other);
-            continue;
-        }
-        const home = sound.filter(other => isHome(calls, addressIn(others[other], i), block + shift));
-        if (home.length > 0) {
-            const damaged = sectorOf(old, i);
-            const candidates = home.map(other => ({ other, sector: sectorOf(others[other], i) }));
-            const fits = candidates.map(({ sector }) => fitOf(damaged, sector));
-            const best = Math.max(...fits);
-            const { other, sector } = candidates[fits.indexOf(best)];
-            sectors.push(sector);
-            addToRuns(found.taken, { ...runOf(block), other });
-            if (best === 0 && !hasFilledUser(damaged)) addToRuns(found.doubtful, { ...runOf(block), other });
-            if (candidates.some(it => differingSectors(sector, it.sector).length > 0)) addToRuns(found.disputed, runOf(block));
-        } else if ([records, ...otherRecords].some(it => it[at + RECORD.KIND] === SECTOR_KIND.MODE1)) {
-            addToRuns(found.damaged, { ...runOf(block), elsewhere: sound.length > 0 });
-            if (others.length > 0 && unlike[i] === 0) addToRuns(found.alike, runOf(block));
-        } else {
-            const kind = records[at + RECORD.KIND];
-            addToRuns(found.others, { ...runOf(block), kind });
-            if (kind === SECTOR_KIND.NOSYNC && isFilled(words, i)) addToRuns(found.filled, { ...runOf(block), byte: old[i * SECTOR_SIZE] });
-            if (unlike[i] !== 0) addToRuns(found.unlike, runOf(block));
-        }
+export function mergeRange(calls, pieces, first, { shift }) {
+    const range = new RangeMerge(calls, pieces, first, shift);
+    const count = sectorCount(pieces[0].length);
+    for (let i = 0; i < count; i++) range.merge(i);
+    return { ...range.found, sectors: joinedBytes(range.sectors), end: first + count };
+}
+
+/** A range of an image and of other images, and what was found in the sectors so far. */
+class RangeMerge {
+    /**
+     * @param {Calls} calls
+     * @param {Uint8Array[]} images
+     * @param {number} first
+     * @param {number} shift
+     */
+    constructor(calls, images, first, shift) {
+        const [old, ...others] = images;
+        const count = sectorCount(old.length);
+        const places = others.map(other => differingSectors(old, other));
+        this.calls = calls;
+        this.images = images;
+        this.first = first;
+        this.shift = shift;
+        this.numbers = others.map((_, other) => other);
+        this.words = asWords(old);
+        this.tested = [testedSectors(calls, old), ...others.map((other, i) => testedAt(calls, other, places[i]))];
+        this.unlike = new Uint8Array(count); // 1 where some image has different bytes
+        places.forEach(some => some.forEach(i => { this.unlike[i] = 1; }));
+        this.found = { ...nothingFound(others.length), same: places.map(({ length }) => count - length) };
+        /** @type {Uint8Array[]} the copied sectors */
+        this.sectors = [];
     }
-    return { ...found, sectors: joinedBytes(sectors), end: first + count };
+
+    /** @param {number} i the index of a sector in the range */
+    merge(i) {
+        const { found, tested } = this;
+        const block = this.first + i;
+        const sound = this.numbers.filter(other => isSoundAt(tested[other + 1], i));
+        const isKept = isSoundAt(tested[0], i);
+        const home = sound.filter(other => this.isHome(other + 1, i));
+        const better = isKept ? home.filter(other => !this.isHome(0, i) && this.hasSameContents(other + 1, i)) : home;
+        if (tested.some(it => isSoundMode2(it.mode2[i]))) found.sound += 1;
+        const from = better.length > 0 ? this.take(i, better) + 1 : 0;
+        if (kindAt(tested[from], i) === SECTOR_KIND.MODE2) addToRuns(found.mode2, runOf(block));
+        if (from > 0) return;
+        if (!isKept) this.leave(i, sound.length > 0);
+        else for (const other of sound) if (!this.hasSameContents(other + 1, i)) addDifferent(found, block, other);
+    }
+
+    /**
+     * Whether the i-th sector of an image has the address of its block. False if the block has no address.
+     * @param {number} image
+     * @param {number} i
+     */
+    isHome(image, i) {
+        const own = this.calls.address(this.first + i + this.shift);
+        return own !== null && sameBytes(own, addressIn(this.images[image], i));
+    }
+
+    /**
+     * Whether two sound sectors differ only in their header, as only those of Mode 2 can: no code of theirs includes it.
+     * @param {number} image
+     * @param {number} i
+     */
+    hasSameContents(image, i) {
+        const [old, other] = [this.images[0], this.images[image]].map(it => sectorOf(it, i));
+        return hasSame(old, other, FIELDS.user, SECTOR_SIZE);
+    }
+
+    /**
+     * Copies the sector that fits the damaged one best. Returns its image.
+     * @param {number} i
+     * @param {number[]} home the other images in which it is sound and has the right address
+     */
+    take(i, home) {
+        const { found } = this;
+        const block = this.first + i;
+        const damaged = sectorOf(this.images[0], i);
+        const candidates = home.map(other => ({ other, sector: sectorOf(this.images[other + 1], i) }));
+        const fits = candidates.map(({ sector }) => fitOf(damaged, sector));
+        const best = Math.max(...fits);
+        const { other, sector } = candidates[fits.indexOf(best)];
+        this.sectors.push(sector);
+        addToRuns(found.taken, { ...runOf(block), other });
+        if (best === 0 && !hasFilledUser(damaged)) addToRuns(found.doubtful, { ...runOf(block), other });
+        if (candidates.some(it => differingSectors(sector, it.sector).length > 0)) addToRuns(found.disputed, runOf(block));
+        return other;
+    }
+
+    /**
+     * Notes a sector that no image repairs.
+     * @param {number} i
+     * @param {boolean} elsewhere whether it is sound in an image, with the address of a different block
+     */
+    leave(i, elsewhere) {
+        const { found, tested, images: [old], unlike } = this;
+        const block = this.first + i;
+        const isMode1 = tested.some(it => kindAt(it, i) === SECTOR_KIND.MODE1);
+        const isUnsound = elsewhere || tested.some(it => isDamagedMode2(it.mode2[i]));
+        if (isMode1) addToRuns(found.damaged, { ...runOf(block), elsewhere });
+        else if (isUnsound) addToRuns(found.unsound, { ...runOf(block), elsewhere });
+        if ((isMode1 || isUnsound) && tested.length > 1 && unlike[i] === 0) addToRuns(found.alike, runOf(block));
+        if (isMode1) return;
+        const kind = kindAt(tested[0], i);
+        addToRuns(found.others, { ...runOf(block), kind });
+        const isOneByte = kind === SECTOR_KIND.NOSYNC && isFilled(this.words, i);
+        if (isOneByte) addToRuns(found.filled, { ...runOf(block), byte: old[i * SECTOR_SIZE] });
+        if (unlike[i] !== 0) addToRuns(found.unlike, runOf(block));
+    }
 }
 
 /**
@@ -82,13 +160,15 @@ function addDifferent({ differing, different }, block, other) {
 }
 
 /**
- * How well a sound sector fits a damaged one: 2 if it has the same EDC, 1 if it has the same header and data, else 0.
+ * How well a sound sector fits a damaged one: 2 if it has the same EDC, 1 if it has the same data that the EDC includes, else 0.
  * @param {Uint8Array} damaged
  * @param {Uint8Array} sector
  */
 function fitOf(damaged, sector) {
-    if (hasSame(damaged, sector, FIELDS.edc, FIELDS.zeros)) return 2;
-    return Number(hasSame(damaged, sector, FIELDS.header, FIELDS.edc));
+    const isMode2 = sector[MODE_OFFSET] === 2;
+    const [from, edc] = isMode2 ? [FIELDS.user, edcOfMode2(sector)] : [FIELDS.header, FIELDS.edc];
+    if (hasSame(damaged, sector, edc, edc + EDC_SIZE)) return 2;
+    return Number(hasSame(damaged, sector, from, edc));
 }
 
 /**
@@ -110,14 +190,19 @@ function hasSame(a, b, from, end) {
 }
 
 /**
- * Whether an address is that of a block. False if the block has no address.
- * @param {Calls} calls
- * @param {Uint8Array} address
- * @param {number} block
+ * @param {Tested} tested
+ * @param {number} i
  */
-function isHome(calls, address, block) {
-    const own = calls.address(block);
-    return own !== null && sameBytes(own, address);
+function kindAt({ records }, i) {
+    return records[i * RECORD_SIZE + RECORD.KIND];
+}
+
+/**
+ * @param {Tested} tested
+ * @param {number} i
+ */
+function isSoundAt({ records, mode2 }, i) {
+    return isSound(records, i * RECORD_SIZE) || isSoundMode2(mode2[i]);
 }
 
 /**
@@ -128,18 +213,34 @@ export function nothingFound(others) {
     const differing = Array.from({ length: others }, () => []);
     const [different, same] = [0, 0].map(none => new Array(others).fill(none));
     const runs = { taken: [], doubtful: [], damaged: [], alike: [], disputed: [], others: [], filled: [], unlike: [] };
-    return { ...runs, differing, different, same };
+    return { ...runs, mode2: [], unsound: [], differing, different, same, sound: 0 };
 }
 
 /**
- * The records of another image, surveyed only where its sectors differ. The other records are those of a sector without a sync field.
+ * Tests sectors, except their addresses.
+ * @param {Calls} calls
+ * @param {Uint8Array} bytes
+ * @returns {Tested}
+ */
+function testedSectors(calls, bytes) {
+    const records = calls.survey(bytes, 0);
+    return { records, mode2: testMode2(calls, bytes, records, null) };
+}
+
+/**
+ * Tests another image only where its sectors differ. The other records are those of a sector without a sync field.
  * @param {Calls} calls
  * @param {Uint8Array} other
  * @param {number[]} places of those that differ
+ * @returns {Tested}
  */
-function recordsAt(calls, other, places) {
+function testedAt(calls, other, places) {
     const records = new Uint8Array(RECORD_SIZE * sectorCount(other.length));
-    const found = calls.survey(sectorsAt(other, places), 0);
-    places.forEach((place, i) => records.set(found.subarray(RECORD_SIZE * i, RECORD_SIZE * (i + 1)), RECORD_SIZE * place));
-    return records;
+    const mode2 = new Uint8Array(sectorCount(other.length));
+    const found = testedSectors(calls, sectorsAt(other, places));
+    places.forEach((place, i) => {
+        records.set(found.records.subarray(RECORD_SIZE * i, RECORD_SIZE * (i + 1)), RECORD_SIZE * place);
+        mode2[place] = found.mode2[i];
+    });
+    return { records, mode2 };
 }

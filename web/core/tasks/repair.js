@@ -1,9 +1,9 @@
 // Repairs the image of a track with other dumps of the same disc.
 
 import { PieceCutter, sliceOf } from '../bytes.js';
-import { lostSectors, mode1Tracks } from '../disc/index.js';
+import { lostSectors, sheetTracks } from '../disc/index.js';
 import { SECTOR_SIZE, sectorCount } from '../module/index.js';
-import { addToRuns, commonRuns, joinedRuns } from '../sectors/index.js';
+import { addToRuns, commonRuns, joinedRuns, runsWithout } from '../sectors/index.js';
 import { addressShift, commonPart, firstBlock, rangesOf, shiftOf } from './common_part.js';
 import { tailsDiffer } from './compare.js';
 import { nothingFound } from './merge.js';
@@ -15,6 +15,7 @@ import { trackBeside } from './opened.js';
 /** @typedef {import('../crew/crew.js').Sharing} Sharing */
 /** @typedef {import('../disc/disc.js').DiscImage} DiscImage */
 /** @typedef {import('../disc/lost.js').KindRun} KindRun */
+/** @typedef {import('../disc/lost.js').Lost['lost'][0]} LostRun */
 /** @typedef {import('../sectors/runs.js').Run} Run */
 /** @typedef {import('./common_part.js').CommonPart} CommonPart */
 /** @typedef {import('./common_part.js').Ranges} Ranges */
@@ -30,11 +31,11 @@ import { trackBeside } from './opened.js';
  * @typedef {{ why: 'apart', other: number, first: number[] } | { why: 'different', other: number, shift: Shift | null }} Refusal
  */
 /**
- * The findings of a repair. If it is `refused`, the repaired image must be discarded. Sectors that are Mode 1 in no dump are `lost` or
- * `untested`, and the `unlike` ones among the latter are different in some dump. For each other dump, `ranges` lists its blocks, and
- * `tails` tells whether the bytes after the last sector differ, if that is the same sector.
- * @typedef {Omit<Found, 'others' | 'filled'> & { refused: Refusal | null, sectors: number, lost: Run[], untested: KindRun[],
- *     ranges: Ranges[], tails: boolean[] }} Repair
+ * The findings of a repair. If it is `refused`, the repaired image must be discarded. Sectors that are neither Mode 1 nor tested Mode 2 in
+ * any dump are `lost` or `untested`, and the `unlike` ones among the latter are different in some dump. For each other dump, `ranges` lists
+ * its blocks, and `tails` tells whether the bytes after the last sector differ, if that is the same sector.
+ * @typedef {Omit<Found, 'others' | 'filled' | 'unsound' | 'sound' | 'unlike'> & { refused: Refusal | null, sectors: number,
+ *     lost: LostRun[], untested: KindRun[], unlike: KindRun[], ranges: Ranges[], tails: boolean[] }} Repair
  */
 
 /** An image is refused if more than one in this many of its sectors is sound and different. */
@@ -58,18 +59,30 @@ export async function repairTrack({ calls, crew }, opened, dumps, take, watch = 
     const parts = others.map(other => commonPart(image, other));
     const ranges = others.map(other => rangesOf(image, other));
     const apart = parts.findIndex(({ from, to }) => from === to);
-    const { others: notMode1, filled, ...found } = apart >= 0 ? nothingFound(others.length)
-        : await mergeImages(crew, image, others, parts, take, watch);
+    const { others: notTested, filled, ...found } = settled(apart >= 0 ? nothingFound(others.length)
+        : await mergeImages(crew, image, others, parts, take, watch));
     const refused = apart >= 0 ? /** @type {Refusal} */ ({ why: 'apart', other: apart, first: [image, others[apart]].map(firstBlock) })
         : await tooDifferent(calls, image, others, parts, found);
     const shared = { ...found, refused, sectors: sectorCount(image.reader.size), ranges };
     if (refused !== null) return { ...shared, unlike: [], lost: [], untested: [], tails: others.map(() => false) };
     const dumpsOfAll = [{ ...opened, later: 0 }, ...tracks.map((track, i) =>
         ({ ...track, later: parts[i].later + image.base - track.image.base }))];
-    const sheetTracks = mode1Tracks(opened.disc, opened.track.file, image.base);
-    const { lost, untested } = await lostSectors(image, { others: notMode1, filled }, sheetTracks, dumpsOfAll);
-    const unlike = commonRuns(found.unlike, joinedRuns(untested));
+    const tracksOfSheet = sheetTracks(opened.disc, opened.track.file, image.base);
+    const other = { others: notTested, filled, mode2: found.mode2 };
+    const { lost, untested } = await lostSectors(image, other, tracksOfSheet, dumpsOfAll);
+    const unlike = commonRuns(untested, joinedRuns(found.unlike));
     return { ...shared, unlike, lost, untested, tails: await tailsOf(image, others, parts) };
+}
+
+/**
+ * The findings after all ranges. If an image has a sound Mode 2 sector, the unsound ones are damaged. Otherwise nothing shows that the Mode
+ * 2 sectors have codes, and they were not tested.
+ * @param {Found} found
+ */
+function settled({ unsound, sound, ...found }) {
+    if (sound === 0) return { ...found, mode2: [], alike: commonRuns(found.alike, joinedRuns(found.damaged)) };
+    const damaged = [...found.damaged, ...unsound].sort((a, b) => a.first - b.first);
+    return { ...found, damaged, others: runsWithout(found.others, joinedRuns(unsound)) };
 }
 
 /**
@@ -144,11 +157,11 @@ function partReader({ reader }, from, to, later) {
  * @param {Merged} answer
  * @param {number[]} present the indices of the other images that have the range
  */
-function addAnswer(found, { taken, doubtful, differing, different, same, ...answer }, present) {
+function addAnswer(found, { taken, doubtful, differing, different, same, sound, ...answer }, present) {
     for (const run of taken) addToRuns(found.taken, { ...run, other: present[run.other] });
     for (const run of doubtful) addToRuns(found.doubtful, { ...run, other: present[run.other] });
-    for (const run of answer.damaged) addToRuns(found.damaged, run);
-    for (const name of /** @type {const} */ (['alike', 'disputed', 'others', 'filled', 'unlike'])) {
+    found.sound += sound;
+    for (const name of /** @type {const} */ (['damaged', 'unsound', 'alike', 'disputed', 'others', 'filled', 'unlike', 'mode2'])) {
         for (const run of answer[name]) addToRuns(/** @type {Run[]} */ (found[name]), run);
     }
     differing.forEach((runs, i) => runs.forEach(run => addToRuns(found.differing[present[i]], run)));

@@ -31,8 +31,8 @@ export function assertHasRoom({ name }, fresh, room) {
  * @param {OrderedImage} image
  * @param {T[]} texts
  * @param {Watch} watch
- * @param {(text: T, met: T | null) => Promise<{ lines: Lines, size: number }>} replace returns the lines, and how many bytes they replace.
- *     It throws a Fault if there are none, for example if the text overlaps `met`, the one before it
+ * @param {(text: T, before: T | null) => Promise<{ lines: Lines, size: number }>} replace returns the lines, and how many bytes they
+ *     replace. It throws a Fault if there are none, for example if the text overlaps `before`, the text before it
  */
 export async function replacedEach(image, texts, { signal, progress }, replace) {
     const parts = new ScriptParts();
@@ -66,9 +66,9 @@ export async function replacedEach(image, texts, { signal, progress }, replace) 
  * @param {Watch} [watch]
  */
 export async function replaceHits({ calls }, opened, { image, encoding, hits, freshFor, inside = false }, watch = {}) {
-    const { parts, left } = await replacedEach(image, hits, watch, async (hit, met) => {
+    const { parts, left } = await replacedEach(image, hits, watch, async (hit, before) => {
         const { bytes, doubt } = await contextOf(image, encoding, hit, 0);
-        if (met !== null) throw new Fault('replace/overlaps', {});
+        if (before !== null) throw new Fault('replace/overlaps', {});
         if (doubt !== null && !inside) throw new Fault(doubt.code, doubt.facts);
         return { lines: await replaceBytes(calls, image, hit, bytes, freshFor(hit.size)), size: hit.size };
     });

@@ -169,14 +169,14 @@ function setLines(lines, place, old, fresh) {
  * out.
  * @param {Calls} calls
  * @param {Uint8Array} sectors
- * @param {Uint8Array} wanted 2048 bytes for each sector
+ * @param {Uint8Array} contents 2048 bytes for each sector
  * @param {number} first
  * @param {{ end: number }} args the end of the file, as a number of user bytes from block 0 on
  * @returns {Lines}
  */
-export function replaceRange(calls, sectors, wanted, first, { end }) {
+export function replaceRange(calls, sectors, contents, first, { end }) {
     const user = joinedUser(sectors);
-    user.set(wanted.subarray(0, Math.max(end - first * USER_SIZE, 0)));
+    user.set(contents.subarray(0, Math.max(end - first * USER_SIZE, 0)));
     /** @type {Left[]} */
     const left = [];
     const userAt = (/** @type {number} */ i) => user.subarray(USER_SIZE * i, USER_SIZE * (i + 1));

@@ -4,6 +4,7 @@ import { firstAfter, sliceOf } from '../bytes.js';
 import { Fault } from '../faults.js';
 import { SIZE_FIELD, endOfExtent } from '../iso/index.js';
 import { SECTOR_SIZE, USER_SIZE } from '../module/index.js';
+import { USER_OFFSET } from '../sectors/index.js';
 import { ScriptParts, scriptForBase } from '../script/index.js';
 import { bytesAround } from '../texts/index.js';
 import { fileOfTrack } from './opened.js';
@@ -39,6 +40,34 @@ function extentKey({ block, size }) {
 }
 
 /**
+ * The range of an extent's length in its directory record.
+ * @param {FileEntry} extent
+ * @returns {UserRange}
+ */
+export function placeOfLength({ record: { block, offset } }) {
+    return { block, offset: offset + SIZE_FIELD.offset, size: SIZE_FIELD.length };
+}
+
+/**
+ * The extents of a file, in the order of its bytes, with the lengths that their records have on a patched disc.
+ * @param {FileEntry[]} entries
+ * @param {(block: number) => Promise<Uint8Array>} patchedSector returns a sector of that disc
+ * @returns {Promise<FileEntry[]>}
+ */
+export async function patchedExtents(entries, patchedSector) {
+    const found = [];
+    let before = 0;
+    for (const entry of [...entries].sort((a, b) => a.before - b.before)) {
+        const { block, offset } = placeOfLength(entry);
+        const { buffer, byteOffset, length } = await patchedSector(block);
+        const size = new DataView(buffer, byteOffset, length).getUint32(USER_OFFSET + offset, true);
+        found.push({ ...entry, size, before });
+        before += size;
+    }
+    return found;
+}
+
+/**
  * The ranges in which the lines that replace a file write: its sectors, and the lengths in its records.
  * @param {Pick<VolumeNames, 'entries'>} names
  * @param {FileEntry[]} extents of the file
@@ -47,7 +76,7 @@ function extentKey({ block, size }) {
 export function placesOfFile(names, extents) {
     const records = [...recordsByKey(names.entries, extents).values()].flat();
     return [...extents.map(extent => ({ block: extent.block, offset: 0, size: extentRoom(extent) })),
-        ...records.map(({ record: { block, offset } }) => ({ block, offset: offset + SIZE_FIELD.offset, size: SIZE_FIELD.length }))];
+        ...records.map(placeOfLength)];
 }
 
 /**
@@ -118,27 +147,27 @@ function recordsByKey(entries, extents) {
  * records get the new length, and the rest becomes 00. With `fill` the length does not change. Throws a Fault.
  * @param {Engine} engine
  * @param {Pick<OpenedTrack, 'image' | 'part' | 'contents'>} opened
- * @param {{ entries: FileEntry[], wanted: Reader, fill?: number }} options the entries of the file's path, the new file, and the byte of
+ * @param {{ entries: FileEntry[], newFile: Reader, fill?: number }} options the entries of the file's path, the new file, and the byte of
  *     the padding
  * @param {Sharing} [how]
  * @returns {Promise<Replacement>}
  */
-export async function replaceFile({ calls, crew }, opened, { entries, wanted, fill }, how = {}) {
+export async function replaceFile({ calls, crew }, opened, { entries, newFile, fill }, how = {}) {
     const { names, ...file } = await fileOfTrack(opened, entries);
     const { path, size, extents } = file;
     const { part: image } = opened;
-    const keeps = fill !== undefined || wanted.size === size;
+    const keeps = fill !== undefined || newFile.size === size;
     const lengths = extents.map(extent => keeps ? extent.size : extentRoom(extent));
     const room = lengths.reduce((sum, length) => sum + length, 0);
-    if (wanted.size > room) throw new Fault('replace/long-file', { path, size, room: keeps ? null : room, wanted: wanted.size });
+    if (newFile.size > room) throw new Fault('replace/long-file', { path, size, room: keeps ? null : room, wanted: newFile.size });
     const sharing = sharingWith(file, names, keeps);
     const records = recordsByKey(names.entries, extents);
     const parts = new ScriptParts();
-    const filled = filledReader(wanted, room + USER_SIZE, fill);
+    const filled = filledReader(newFile, room + USER_SIZE, fill);
     let before = 0;
     for (const [i, extent] of extents.entries()) {
         const count = extentRoom(extent) / USER_SIZE;
-        const fresh = Math.max(Math.min(wanted.size - before, lengths[i]), 0);
+        const fresh = Math.max(Math.min(newFile.size - before, lengths[i]), 0);
         if (!keeps && fresh !== extent.size) await pushSize(calls, image, parts, records.get(extentKey(extent)) || [], fresh);
         const first = extent.block - image.base;
         const old = sliceOf(image.reader, first * SECTOR_SIZE, (first + count) * SECTOR_SIZE);

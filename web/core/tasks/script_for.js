@@ -29,7 +29,7 @@ export async function validScript(calls, pieces, long) {
  * @param {number} base
  */
 export function assertBase({ bases }, base) {
-    const other = bases.find(said => said.base !== base);
+    const other = bases.find(it => it.base !== base);
     if (other) throw new Fault('script/other-base', { ...other, begins: base });
 }
 

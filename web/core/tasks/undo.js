@@ -100,7 +100,7 @@ export async function undoScript({ calls, crew }, { image }, script, options = {
     const both = readerForTwo(watchedSectors(image.reader, watch));
     const back = new TakenBack(both, base, (pieces, blocks) => crew.given('lines', pieces, { blocks, how: { carry, heal: true } }));
     const take = (/** @type {Piece} */ piece) => back.take(piece);
-    const { outcomes } = await applyScript({ calls }, { reader: both, base }, read, { carry, near: 0, take });
+    const { outcomes } = await applyScript({ calls }, { reader: both, base }, read, { carry, mostBetween: 0, take });
     const parts = await back.end();
     if (watch.signal?.aborted) throw cancelled();
     const refused = outcomes.filter(({ result }) => result !== RESULT.OK).length;

@@ -1,31 +1,38 @@
-// A table of all texts of a track, for translators.
+// All texts of a track.
 
 import { sliceOf } from '../bytes.js';
 import { cancelled } from '../faults.js';
 import { SECTOR_SIZE, USER_SIZE } from '../module/index.js';
-import { rowText } from './cells.js';
 import { bytesBefore } from './context.js';
-import { BEYOND, keptOf } from './told.js';
+import { BEYOND, keptOf } from './overlap.js';
 import { visible } from './visible.js';
 
 /** @typedef {import('../disc/disc.js').OrderedImage} OrderedImage */
+/** @typedef {import('../sectors/sector.js').Place} Place */
 /** @typedef {import('../iso/files.js').FileEntry} FileEntry */
 /** @typedef {import('../crew/crew.js').Sharer} Sharer */
-/** @typedef {import('./range.js').AskedTexts} AskedTexts */
-/** @typedef {import('./range.js').Told} Told */
+/** @typedef {import('./range.js').TextOptions} TextOptions */
+/** @typedef {import('./range.js').FoundText} FoundText */
 /**
  * A stretch of user bytes: a file, or the sectors between files. `first` is its first sector in the part, in the order of files; `before`
  * is how many bytes of the file come before it.
  * @typedef {{ path: string, before: number, first: number, size: number }} Stretch
  */
 /**
- * Options of a table: `asked` is the encoding, and whether each line has its own row; `least` is the fewest characters of a text; and
- * `mark`, a tab or a comma, separates cells. `signal` ends the job; `progress` is called with numbers of sectors.
- * @typedef {{ asked: AskedTexts, least?: number, mark?: string, signal?: { aborted: boolean },
- *     progress?: (done: number, all: number) => void }} TableHow
+ * Options of `allTexts`: `options` is the encoding, and whether each line is a separate text; `least` is the fewest characters of a text.
+ * `signal` ends the job; `progress` is called with numbers of sectors.
+ * @typedef {{ options: TextOptions, least?: number, signal?: { aborted: boolean },
+ *     progress?: (done: number, all: number) => void }} TextsHow
+ */
+/**
+ * A text of a disc, or of a plain file: its place, how many bytes it has, and how many its room, the name of its encoding, its file with
+ * the place in it, or `-`, and the text. `fill` is the code of the filler of a record of fixed width.
+ * @typedef {{ block: number | '-', offset: number, bytes: number, room: number, encoding: string, file: string, text: string,
+ *     fill?: string }} ListedText
  */
 
-const COLUMN_NAMES = ['block', 'offset', 'bytes', 'room', 'encoding', 'file', 'text', 'new'];
+/** The block of a text whose offset is a place in a plain file. */
+export const NO_BLOCK = '-';
 
 /** The fewest characters of a row. A row for one line may have a single one. */
 const LEAST_CHARACTERS = 2;
@@ -73,43 +80,56 @@ export function stretchesOf(part, files) {
  * @param {Sharer} crew
  * @param {OrderedImage} part
  * @param {Stretch} stretch
- * @param {AskedTexts} asked
+ * @param {TextOptions} options
  * @param {import('../crew/crew.js').Sharing} watch
  */
-async function textsOf(crew, { reader, order }, stretch, asked, watch) {
-    /** @type {Told[][]} one list for each range */
-    const told = [];
+async function textsOf(crew, { reader, order }, stretch, options, watch) {
+    /** @type {FoundText[][]} one list for each range */
+    const found = [];
     const { first, size } = stretch;
     const sectors = sliceOf(order ? order.reader : reader, first * SECTOR_SIZE, (first + sectorsOf(stretch)) * SECTOR_SIZE);
-    const take = (/** @type {Told[]} */ texts) => void told.push(texts);
-    await crew.share('texts', [sectors], { ...asked, size }, { ...watch, beyond: BEYOND }, take);
-    return keptOf(told.flat());
+    const take = (/** @type {FoundText[]} */ texts) => void found.push(texts);
+    await crew.share('texts', [sectors], { ...options, size }, { ...watch, beyond: BEYOND }, take);
+    return keptOf(found.flat());
 }
 
 /**
  * @param {OrderedImage} part
  * @param {Stretch} stretch
- * @param {Told} told
+ * @param {FoundText} found
+ * @returns {ListedText}
  */
-function cellsOf({ base, order }, { path, before, first }, { start, end, room, scores, text }) {
+function listedText(part, { path, before, first }, { start, end, room, scores, text }) {
+    const { base, order } = part;
     const index = first + Math.floor(start / USER_SIZE);
+    const block = order ? order.blockOf(index) : base + index;
     const file = path === '' ? '-' : `${visible(path)}+${before + start}`;
-    return [order ? order.blockOf(index) : base + index, start % USER_SIZE, end - start, room, scores, file, text, ''];
+    return { ...shownPlace(part, { block, offset: start % USER_SIZE }), bytes: end - start, room, encoding: scores, file, text };
 }
 
 /**
- * Generates the table of the texts of some stretches, in pieces, each with its number of texts. The first piece names the columns.
+ * The place of a text: block and offset, or in a plain file NO_BLOCK and the offset from its beginning.
+ * @param {Pick<OrderedImage, 'fileSize'>} image
+ * @param {Place} place
+ * @returns {{ block: number | '-', offset: number }}
+ */
+export function shownPlace({ fileSize }, { block, offset }) {
+    return fileSize === undefined ? { block, offset } : { block: NO_BLOCK, offset: block * USER_SIZE + offset };
+}
+
+/**
+ * Yields the texts of some stretches, in their order.
  * @param {Sharer} crew
  * @param {OrderedImage} part whose `order` is that of its files
  * @param {Stretch[]} stretches
- * @param {TableHow} how
- * @returns {AsyncGenerator<{ text: string, count: number }>}
+ * @param {TextsHow} how
+ * @returns {AsyncGenerator<ListedText[]>}
  */
-export async function* tableOfTexts(crew, part, stretches, how) {
-    const { asked, least = asked.lines ? LEAST_OF_LINES : LEAST_CHARACTERS, mark = '\t', signal, progress } = how;
+export async function* allTexts(crew, part, stretches, how) {
+    const { options, least = options.lines ? LEAST_OF_LINES : LEAST_CHARACTERS, signal, progress } = how;
     const all = stretches.reduce((sum, stretch) => sum + sectorsOf(stretch), 0);
     // A character has at most two UTF-16 units.
-    const isLong = (/** @type {Told} */ { text }) => text.length >= 2 * least || [...text].length >= least;
+    const isLong = (/** @type {FoundText} */ { text }) => text.length >= 2 * least || [...text].length >= least;
     let done = 0;
     const watchOne = () => {
         let own = 0;
@@ -118,12 +138,10 @@ export async function* tableOfTexts(crew, part, stretches, how) {
             if (progress) progress(done, all);
         } };
     };
-    yield { text: rowText(COLUMN_NAMES, mark), count: 0 };
     for (let i = 0; i < stretches.length; i += STRETCHES_AT_ONCE) {
         if (signal && signal.aborted) throw cancelled();
         const some = stretches.slice(i, i + STRETCHES_AT_ONCE);
-        const found = await Promise.all(some.map(stretch => textsOf(crew, part, stretch, asked, watchOne())));
-        const rows = found.flatMap((texts, k) => texts.filter(isLong).map(it => rowText(cellsOf(part, some[k], it), mark)));
-        yield { text: rows.join(''), count: rows.length };
+        const found = await Promise.all(some.map(stretch => textsOf(crew, part, stretch, options, watchOne())));
+        yield found.flatMap((texts, k) => texts.filter(isLong).map(it => listedText(part, some[k], it)));
     }
 }

@@ -3,14 +3,14 @@
 import { asWords } from '../sectors/index.js';
 import { PathFinder } from './best_path.js';
 import { ASCII, BAD, HALF_WIDTH, allScores, codeAt, seedBits, strengthOf } from './scores.js';
-import { SURE } from './told.js';
+import { SURE } from './overlap.js';
 
 /** @typedef {import('./scores.js').Scores} Scores */
 /**
  * A text from `start` to `end`, whose characters from `from` to `to` are scored: its score in bits, its encoding, on how many sides it has
  * a 00, whether it is accepted only because of its neighbours, and its characters, '' if they are not decoded yet. `limit` is where its
  * room ends at the latest, if it is in a table.
- * @typedef {{ start: number, end: number, from: number, to: number, score: number, scores: Scores, zeros: number, near: boolean,
+ * @typedef {{ start: number, end: number, from: number, to: number, score: number, scores: Scores, zeros: number, isBeside: boolean,
  *     text: string, limit?: number }} Candidate
  */
 /** @typedef {{ covered: number, end: number }} Known how far an encoding has been searched, and where its last text ended */
@@ -140,7 +140,7 @@ export class CandidateFinder {
         const bits = score / 4 + ZERO * zeros - (wide && reached.start % 2 === 1 ? ODD : 0);
         const isText = bits >= SURE - LESS && (zeros === 2 || own || !goesOneWay(text));
         if (!isText) return null;
-        return { start: reached.start, end: reached.end, from: start, to: end, score: bits, scores, zeros, near: false, text: whole };
+        return { start: reached.start, end: reached.end, from: start, to: end, score: bits, scores, zeros, isBeside: false, text: whole };
     }
 }
 

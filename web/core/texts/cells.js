@@ -137,12 +137,12 @@ export class Table {
 }
 
 /**
- * Formats a row of a table, with a line end.
+ * Formats a row of a table, with a line end. Cells are quoted if necessary.
  * @param {(string | number)[]} cells
- * @param {string} mark their separator; with a comma, cells are quoted if necessary
+ * @param {string} mark their separator, a tab or a comma
  */
 export function rowText(cells, mark) {
-    if (mark !== ',') return `${cells.join(mark)}\n`;
-    const shown = cells.map(cell => /[",\r\n]/.test(String(cell)) ? `"${String(cell).replace(/"/g, '""')}"` : cell);
-    return `${shown.join(mark)}\r\n`;
+    const quoted = mark === ',' ? /[",\r\n]/ : /^"|[\t\r\n]/;
+    const shown = cells.map(cell => quoted.test(String(cell)) ? `"${String(cell).replace(/"/g, '""')}"` : cell);
+    return `${shown.join(mark)}${mark === ',' ? '\r\n' : '\n'}`;
 }

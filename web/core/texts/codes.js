@@ -8,10 +8,13 @@ import { unitsAlike } from './alike.js';
 import { charactersFrom } from './boundaries.js';
 
 /** @typedef {import('../encodings/encoding.js').Encoding} Encoding */
-/** @typedef {{ number: number, encoding: string, text: string, fresh: string }} CodedRow a row with an old text and a new one */
 /**
- * A code that new texts leave out, as its digits; how often it is left out in all, in how many rows, and the numbers of the first of these.
- * @typedef {{ code: string, count: number, rows: number, first: number[] }} LeftCode
+ * A row with its texts. `fill` is the code of the filler if it is a record of fixed width.
+ * @typedef {import('../facts.js').RowName & { encoding: string, text: string, fresh: string, fill?: string }} CodedRow
+ */
+/**
+ * A code that new texts leave out, as its digits; how often it is left out in all, in how many rows, and the names of the first of these.
+ * @typedef {{ code: string, count: number, rows: number, first: import('../facts.js').RowName[] }} LeftCode
  */
 
 /** Characters that are written as codes: invisible ones, braces, and bytes without a character. */
@@ -50,6 +53,15 @@ const FIRST_ROWS = 5;
  */
 export function unitsOfCell(encoding, cell) {
     return cell.split(CODE).flatMap((part, i) => i % 2 === 1 ? [[bytesOfHex(part)]] : unitsAlike(encoding, part));
+}
+
+/**
+ * The bytes of a cell that is one code, or null.
+ * @param {string} cell
+ */
+export function bytesOfCode(cell) {
+    const [before, digits, after] = cell.split(CODE, 3);
+    return digits !== undefined && before === '' && after === '' ? bytesOfHex(digits) : null;
 }
 
 /**
@@ -105,10 +117,11 @@ function codesOf(encodings, cell) {
  * @param {Encoding[]} encodings
  * @param {CodedRow} row
  */
-function codesMissing(encodings, { text, fresh }) {
+function codesMissing(encodings, { text, fresh, fill = '' }) {
     /** @type {Map<string, number>} */
     const missing = new Map();
-    if (Math.max(text.length, fresh.length) > LONGEST_TEXT) return missing;
+    const isEmptyRecord = fill !== '' && bytesOfCode(text) !== null;
+    if (isEmptyRecord || Math.max(text.length, fresh.length) > LONGEST_TEXT) return missing;
     const old = codesOf(encodings, text);
     for (const code of old) missing.set(code, (missing.get(code) || 0) + 1);
     for (const code of old.length === 0 ? [] : codesOf(encodings, fresh)) missing.set(code, (missing.get(code) || 0) - 1);
@@ -133,7 +146,7 @@ export async function codesLeftOut(rows, encodingsFor, signal) {
             left.set(code, known);
             known.count += count;
             known.rows += 1;
-            if (known.rows <= FIRST_ROWS) known.first.push(row.number);
+            if (known.rows <= FIRST_ROWS) known.first.push({ list: row.list, unit: row.unit, number: row.number, place: row.place });
         }
     }
     return [...left.values()];

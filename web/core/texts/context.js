@@ -46,14 +46,15 @@ export function bytesBefore({ base, order }, { block, offset }) {
  * @param {number} after
  */
 export async function bytesAround(image, place, before, after) {
-    const { reader, sectors, order } = image;
+    const { reader, sectors, order, fileSize = sectors * USER_SIZE } = image;
     const end = bytesBefore(image, place);
     const at = Math.min(before, end);
     const first = Math.floor((end - at) / USER_SIZE);
-    const count = Math.min(Math.ceil((end + after) / USER_SIZE), sectors) - first;
+    const last = Math.min(end + after, fileSize);
+    const count = Math.ceil(last / USER_SIZE) - first;
     const bytes = await readBytes(order ? order.reader : reader, first * SECTOR_SIZE, count * SECTOR_SIZE);
     const from = end - at - first * USER_SIZE;
-    return { at, bytes: joinedUser(bytes).subarray(from, from + at + after) };
+    return { at, bytes: joinedUser(bytes).subarray(from, last - first * USER_SIZE) };
 }
 
 /**

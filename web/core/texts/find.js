@@ -20,7 +20,10 @@ const FEW_SPELLINGS = 16;
  */
 /** @typedef {{ block: number, offset: number, size: number }} Hit the user byte at which it begins, and its size in bytes */
 /** @typedef {{ count: number, hits: Hit[] }} Found how many hits there are, and the first of them */
-/** @typedef {{ count: number, limit: number }} Limits in how many sectors hits may begin, and how many are kept */
+/**
+ * In how many sectors hits may begin, and how many are kept; and the bytes of a plain file, whose last sector may be in part after its end.
+ * @typedef {{ count: number, limit: number, fileSize?: number }} Limits
+ */
 
 /**
  * The most bytes of a hit.
@@ -52,16 +55,17 @@ export function findIn(bytes, firstBlock, { texts, ...limits }) {
 }
 
 /**
- * @param {Uint8Array} user
+ * @param {Uint8Array} user of whole sectors
  * @param {number} firstBlock
  * @param {Wanted} parts
  * @param {Limits} limits
  * @returns {Found}
  */
-function findInUser(user, firstBlock, parts, { count, limit }) {
-    const end = parts.length > 0 ? Math.min(user.length, count * USER_SIZE) : 0;
+function findInUser(user, firstBlock, parts, { count, limit, fileSize = Infinity }) {
+    const own = user.subarray(0, Math.max(fileSize - firstBlock * USER_SIZE, 0));
+    const end = parts.length > 0 ? Math.min(own.length, count * USER_SIZE) : 0;
     const anchor = anchorOf(parts, user);
-    const matching = new Matching(parts, user);
+    const matching = new Matching(parts, own);
     /** @type {Found} */
     const found = { count: 0, hits: [] };
     for (let at = nextStart(anchor, user, 0); at < end; at = nextStart(anchor, user, at + 1)) {

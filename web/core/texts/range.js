@@ -5,63 +5,63 @@ import { USER_SIZE } from '../module/index.js';
 import { userOfRange } from '../sectors/index.js';
 import { cellOf } from './codes.js';
 import { allScores, tableScores } from './scores.js';
-import { TextTeller } from './telling.js';
-import { BESIDE } from './told.js';
+import { TextRecogniser } from './recognising.js';
+import { BESIDE } from './overlap.js';
 
 /** @typedef {import('../encodings/encoding.js').Encoding} Encoding */
 /** @typedef {import('../encodings/encoding.js').TableEncoding} TableEncoding */
 /** @typedef {import('./scores.js').Scores} Scores */
 /**
  * The name of an encoding, or the text of a `.tbl` file, or neither for the usual encodings; and whether each line is a separate text.
- * @typedef {{ encoding?: string, table?: string, lines?: boolean }} AskedTexts
+ * @typedef {{ encoding?: string, table?: string, lines?: boolean }} TextOptions
  */
 /**
  * A recognised text, in a form that can be posted to a thread: its bounds in its file, how many bytes its room has, the name of its
  * encoding, its score in bits, whether it is accepted only because of its neighbours, and the text itself.
- * @typedef {{ start: number, end: number, room: number, scores: string, score: number, near: boolean, text: string }} Told
+ * @typedef {{ start: number, end: number, room: number, scores: string, score: number, isBeside: boolean, text: string }} FoundText
  */
 
 /** The last `TextTeller` is kept, since creating one takes a while. */
-let held = { key: '', teller: /** @type {TextTeller | null} */ (null) };
+let held = { key: '', recogniser: /** @type {TextRecogniser | null} */ (null) };
 
 /**
  * The `TextTeller` for an encoding, a table, or the usual encodings.
- * @param {AskedTexts} asked
+ * @param {TextOptions} asked
  */
-function tellerOf({ encoding, table }) {
+function recogniserOf({ encoding, table }) {
     const key = `${encoding} ${table}`;
-    if (held.teller !== null && held.key === key) return held.teller;
+    if (held.recogniser !== null && held.key === key) return held.recogniser;
     const named = encoding === undefined ? null : encodingOf(encoding);
     const other = table === undefined ? named : tableEncoding(table);
     const usual = other === null ? allScores() : allScores().filter(it => it.encoding === other);
-    const teller = new TextTeller(usual.length > 0 ? usual : [tableScores(/** @type {TableEncoding} */ (other))]);
-    held = { key, teller };
-    return teller;
+    const recogniser = new TextRecogniser(usual.length > 0 ? usual : [tableScores(/** @type {TableEncoding} */ (other))]);
+    held = { key, recogniser };
+    return recogniser;
 }
 
 /**
  * Recognises the texts that begin in a range. A job for a worker.
  * @param {Uint8Array} sectors of the range, and BEYOND more, or as many as the file has
  * @param {number} first the index in the file of the first of these sectors
- * @param {{ count: number, size: number } & AskedTexts} args how many sectors the range has, and how many bytes the file has
- * @returns {Told[]}
+ * @param {{ count: number, size: number } & TextOptions} args how many sectors the range has, and how many bytes the file has
+ * @returns {FoundText[]}
  */
-export function textsOfRange(sectors, first, { count, size, lines, ...asked }) {
+export function textsOfRange(sectors, first, { count, size, lines, ...options }) {
     const shift = first * USER_SIZE;
     const bytes = userOfRange(sectors).subarray(0, size - shift);
     const [from, to] = [first === 0 ? 0 : BESIDE * USER_SIZE, (count + BESIDE) * USER_SIZE];
-    const texts = tellerOf(asked).tell(bytes, shift, lines);
-    /** @type {Told[]} */
-    const told = [];
+    const texts = recogniserOf(options).recognise(bytes, shift, lines);
+    /** @type {FoundText[]} */
+    const found = [];
     /** @type {Map<Scores, number>} for each encoding, where the next text begins */
     const next = new Map();
-    for (const { start, end, scores, score, near, text: known, limit = bytes.length } of texts.reverse()) {
+    for (const { start, end, scores, score, isBeside, text: known, limit = bytes.length } of texts.reverse()) {
         const { encoding } = scores;
         const room = end - start + fillingAfter(encoding, bytes, end, Math.min(next.get(scores) || bytes.length, limit));
         next.set(scores, start);
         if (start < from || start >= to) continue;
         const text = cellOf(encoding, bytes.subarray(start, end), known);
-        told.push({ start: start + shift, end: end + shift, room, scores: encoding.name, score, near, text });
+        found.push({ start: start + shift, end: end + shift, room, scores: encoding.name, score, isBeside, text });
     }
-    return told.reverse();
+    return found.reverse();
 }

@@ -38,7 +38,7 @@ export function joinedTexts(bytes, texts, shift) {
             // A text between them in a different encoding is a misread part of them.
             if (before !== last) joined.pop();
             const score = Math.max(before.score, it.score);
-            joined[joined.length - 1] = { ...before, end: it.end, to: it.to, text: '', score, near: before.near && it.near };
+            joined[joined.length - 1] = { ...before, end: it.end, to: it.to, text: '', score, isBeside: before.isBeside && it.isBeside };
         } else joined.push(it);
     }
     return joined;
@@ -73,7 +73,7 @@ function allText(bytes, texts, shift) {
     const bounds = plainBounds(scores, bytes, shift === 0 ? [0, longest.from] : [longest.from], count, shift === 0);
     if (bounds === null) return null;
     const score = own.reduce((best, it) => Math.max(best, it.score), 0);
-    return { ...longest, ...bounds, from: bounds.start, to: bounds.end, score, near: false, text: '' };
+    return { ...longest, ...bounds, from: bounds.start, to: bounds.end, score, isBeside: false, text: '' };
 }
 
 /**

@@ -52,8 +52,8 @@ export async function searchText(crew, image, { text, encodings, limit, loose },
     /** @type {Found[][]} for each encoding */
     const parts = texts.map(() => []);
     const how = { base: image.base, beyond: Math.max(...texts.map(sectorsBeyond)), ...watch };
-    const { order } = image;
-    await crew.share('find', [order ? order.reader : image.reader], { texts, limit }, how, (/** @type {Found[]} */ answer) => {
+    const { order, fileSize } = image;
+    await crew.share('find', [order ? order.reader : image.reader], { texts, limit, fileSize }, how, (/** @type {Found[]} */ answer) => {
         answer.forEach((found, i) => addFound(parts[i], found, limit));
         if (order) answer.forEach(({ hits }) => hits.forEach(hit => { hit.block = order.blockOf(hit.block - image.base); }));
     });

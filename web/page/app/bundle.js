@@ -1,4 +1,4 @@
-// Unpacks the parts of the joined page: its module, and its one script, which its workers run too.
+// Unpacks the parts of the joined page: its module, and its script, which its workers run too.
 
 /** @typedef {import('./state.js').Parts} Parts */
 
@@ -34,9 +34,9 @@ export async function inflatedText(text) {
 }
 
 /**
- * The parts from which the joined page rebuilds its own text: `html` before, between, and after its policy, style, and script; `policy`
- * before and after the hash of the script; size and SHA-1 of `style`. `made` lists the names and versions of the tools that built the
- * page; `licensed` says whether its sources have a licence.
+ * The parts from which the joined page rebuilds its own text: `html` before, between, and after its policy, style, and loader; `policy`
+ * before and after the hashes of loader and script; size and SHA-1 of `style`. `made` lists the names and versions of the tools that built
+ * the page; `licensed` says whether its sources have a licence.
  * @type {{ html: string[], policy: string[], style: { size: number, sha1: string }, made: string[], licensed: boolean }}
  */
 export const OWN = { html: [], policy: [], style: { size: 0, sha1: '' }, made: [], licensed: false };

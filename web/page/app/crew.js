@@ -3,8 +3,7 @@
 import { Crew } from '../../core/crew/index.js';
 import { ownFault } from '../../sentences/index.js';
 import { cancelled } from '../../core/faults.js';
-import * as texts from '../texts/index.js';
-import { told } from '../texts/index.js';
+import { format, playerTexts } from '../texts/index.js';
 
 /** @typedef {import('../../core/crew/jobs.js').JobName} JobName */
 /** @typedef {import('../../core/crew/jobs.js').Message} Message */
@@ -15,8 +14,8 @@ const MOST_WORKERS = 8;
 /** Milliseconds after Cancel until a worker that is still busy is terminated. */
 const MOMENT = 1000;
 
-/** A worker thread as a `Hand` of the core's crew. */
-class WorkerHand {
+/** A worker thread as a `CrewWorker` of the core's crew. */
+class PageWorker {
     /** @param {Parts} parts */
     constructor(parts) {
         this.parts = parts;
@@ -68,18 +67,18 @@ export function startedWorker({ module, newWorker }, heard, failed) {
     const worker = newWorker();
     worker.onmessage = heard;
     worker.onerror = ({ message }) =>
-        failed(ownFault(message ? told(texts.workerStoppedFor, { why: message }) : texts.workerStopped));
-    worker.onmessageerror = () => failed(ownFault(texts.workerStopped));
+        failed(ownFault(message ? format(playerTexts.workerStoppedFor, { why: message }) : playerTexts.workerStopped));
+    worker.onmessageerror = () => failed(ownFault(playerTexts.workerStopped));
     worker.postMessage({ module });
     return worker;
 }
 
 /** A crew whose workers read files themselves, if the browser permits it: WebKit does not on a page opened from a file. */
 class ReadingCrew extends Crew {
-    /** @param {WorkerHand[]} hands */
-    constructor(hands) {
-        super(hands, true);
-        this.hands = hands;
+    /** @param {PageWorker[]} workers */
+    constructor(workers) {
+        super(workers, true);
+        this.hands = workers;
         this.shared = 0;
     }
 
@@ -108,24 +107,24 @@ class ReadingCrew extends Crew {
      * @param {number} own the job's number
      */
     endShared(own) {
-        for (const hand of this.hands) {
-            if (![...hand.held.values()].some(message => message.own === own)) continue;
-            for (const message of hand.end()) {
-                if (message.own === own) this.settle(hand, { number: message.number, fault: cancelled() });
-                else this.postAgain(hand, message);
+        for (const worker of this.hands) {
+            if (![...worker.held.values()].some(message => message.own === own)) continue;
+            for (const message of worker.end()) {
+                if (message.own === own) this.settle(worker, { number: message.number, fault: cancelled() });
+                else this.postAgain(worker, message);
             }
         }
     }
 
     /**
-     * @param {WorkerHand} hand
+     * @param {PageWorker} worker
      * @param {Message} message whose bytes may already have been transferred
      */
-    postAgain(hand, message) {
+    postAgain(worker, message) {
         try {
-            hand.post(message, []);
+            worker.post(message, []);
         } catch (error) {
-            this.settle(hand, { number: message.number, fault: /** @type {Error} */ (error) });
+            this.settle(worker, { number: message.number, fault: /** @type {Error} */ (error) });
         }
     }
 
@@ -133,9 +132,9 @@ class ReadingCrew extends Crew {
     fail(error) {
         super.fail(error);
         this.fault = null;
-        for (const hand of this.hands) {
-            hand.end();
-            this.loads.set(hand, 0);
+        for (const worker of this.hands) {
+            worker.end();
+            this.loads.set(worker, 0);
         }
     }
 }
@@ -146,5 +145,5 @@ class ReadingCrew extends Crew {
  */
 export function crewOf(parts) {
     const count = Math.min(navigator.hardwareConcurrency || 2, MOST_WORKERS);
-    return new ReadingCrew(Array.from({ length: count }, () => new WorkerHand(parts)));
+    return new ReadingCrew(Array.from({ length: count }, () => new PageWorker(parts)));
 }

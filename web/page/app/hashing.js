@@ -1,4 +1,4 @@
-// Computes the SHA-1 and the CRC-32 of images. Each image is read once, from start to end.
+// Computes the SHA-1 and the CRC-32 of images, and the MD5 if it is needed. Each image is read once, from start to end.
 
 import { forwardOf, readBytes } from '../../core/bytes.js';
 import { crc32, joinedCrc } from '../../core/crc32.js';
@@ -11,7 +11,7 @@ import { startedWorker } from './crew.js';
 /** @typedef {import('./state.js').App} App */
 /** @typedef {import('./state.js').Parts} Parts */
 /** @typedef {{ sha1: string, crc32: string }} Sums in lower-case hexadecimal digits, as other tools print them */
-/** @typedef {{ digest?: Uint8Array }} Hashed the reply of a worker that hashes; only the last one has the digest */
+/** @typedef {{ digest?: Uint8Array, md5?: Uint8Array }} Hashed the reply of a worker that hashes; only the last one has the digests */
 /** @typedef {import('../../core/sectors/survey.js').RangeSurvey} RangeSurvey */
 
 const HASH_STEP = 1 << 22;
@@ -23,9 +23,13 @@ export class RunningHash {
     /**
      * @param {Parts} parts
      * @param {number} [most] how many additions may be pending: with two, the worker finds the next one when it finishes one
+     * @param {boolean} [needsMd5] whether the MD5 is computed too
      */
-    constructor(parts, most = 2) {
+    constructor(parts, most = 2, needsMd5 = false) {
         this.most = most;
+        this.needsMd5 = needsMd5;
+        /** The MD5 of all added bytes after `end`, if it is needed. */
+        this.md5 = '';
         /** @type {{ resolve: (reply: Hashed) => void, reject: (error: Error) => void }[]} */
         this.waiting = [];
         this.fault = /** @type {Error | null} */ (null);
@@ -59,14 +63,15 @@ export class RunningHash {
         return new Promise((resolve, reject) => {
             if (this.fault) throw this.fault;
             this.waiting.push({ resolve, reject });
-            this.worker.postMessage({ sum: bytes }, /** @type {ArrayBuffer[]} */ (transfer));
+            this.worker.postMessage({ sum: bytes, needsMd5: this.needsMd5 }, /** @type {ArrayBuffer[]} */ (transfer));
         });
     }
 
     /** Returns the SHA-1 of all added bytes. */
     async end() {
         for (const added of this.coming) await added;
-        const { digest } = await this.post(null, []);
+        const { digest, md5 } = await this.post(null, []);
+        if (this.needsMd5) this.md5 = hexOf(/** @type {Uint8Array} */ (md5)).toLowerCase();
         return hexOf(/** @type {Uint8Array} */ (digest)).toLowerCase();
     }
 
@@ -108,13 +113,14 @@ export class Summing {
      * @param {App} app
      * @param {Reader} reader
      * @param {(done: number) => void} progress receives the number of bytes hashed
+     * @param {boolean} [needsMd5]
      */
-    constructor({ crew, parts }, reader, progress) {
+    constructor({ crew, parts }, reader, progress, needsMd5 = false) {
         this.crew = crew;
         this.reader = reader;
         this.ahead = forwardOf(reader);
         this.progress = progress;
-        this.sha1 = new RunningHash(parts, MOST_WAITING);
+        this.sha1 = new RunningHash(parts, MOST_WAITING, needsMd5);
         this.crc = 0;
         this.done = 0;
     }
@@ -126,7 +132,8 @@ export class Summing {
      * @param {number} [shift] how many blocks the address of a sector is ahead of its block, below 0 if behind
      */
     async read(how, surveyed = null, shift = 0) {
-        await this.crew.share('sums', [this.ahead], { surveys: surveyed !== null, shift }, how, async ({ bytes, crc, survey }) => {
+        const args = { surveys: surveyed !== null, shift, mode2: true };
+        await this.crew.share('sums', [this.ahead], args, how, async ({ bytes, crc, survey }) => {
             if (surveyed !== null && survey !== null) surveyed(survey);
             await this.add(bytes, crc);
         });
@@ -143,14 +150,15 @@ export class Summing {
         this.progress(this.done);
     }
 
-    /** @returns {Promise<Sums>} the sums of the sectors read, and of any bytes after the last whole sector */
+    /** @returns {Promise<Sums & { md5: string }>} the sums of the sectors read, and of any bytes after the last whole sector */
     async end() {
         const rest = this.reader.size % SECTOR_SIZE;
         if (rest > 0) {
             const bytes = await readBytes(this.ahead, this.reader.size - rest, rest);
             await this.add(bytes, crc32(0, bytes));
         }
-        return { sha1: await this.sha1.end(), crc32: this.crc.toString(16).padStart(8, '0') };
+        const sha1 = await this.sha1.end();
+        return { sha1, crc32: this.crc.toString(16).padStart(8, '0'), md5: this.sha1.md5 };
     }
 
     close() {

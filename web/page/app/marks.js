@@ -1,6 +1,7 @@
 // The mark of each sector on the map: its kind, or the finding in it.
 
-import { RECORD, RECORD_SIZE, SECTOR_KIND } from '../../core/module/index.js';
+import { RECORD, RECORD_SIZE, SECTOR_KIND, USER_SIZE } from '../../core/module/index.js';
+import { MODE2, isDamagedMode2, isTestedMode2 } from '../../core/sectors/index.js';
 import * as texts from '../texts/index.js';
 
 /** The marks of sectors on the map. If sectors share a pixel, the greatest mark is shown. */
@@ -68,6 +69,16 @@ function markOf(records, at) {
     return MARK_OF_KIND[records[at + RECORD.KIND]];
 }
 
+/**
+ * The mark of a Mode 2 sector with these findings.
+ * @param {number} found a sum of MODE2
+ */
+function markOfMode2(found) {
+    if ((found & (MODE2.EDC | MODE2.SUBHEADER)) !== 0) return MARK.EDC;
+    if ((found & MODE2.PARITY) !== 0) return MARK.PARITY;
+    return (found & MODE2.ADDRESS) !== 0 ? MARK.ADDRESS : MARK.MODE2;
+}
+
 /** The marks of a survey, to which its records are added as they are read. */
 export class SurveyMarks {
     /**
@@ -79,8 +90,12 @@ export class SurveyMarks {
         this.marks = new Uint8Array(count);
         this.counts = new Uint32Array(SURVEY_LOOKS.length + 1);
         this.known = 0;
-        /** How many sectors of Mode 1 have a wrong address, whatever else was found in them. */
+        /** How many Mode 1 and Mode 2 sectors have a wrong address, whatever else was found in them. */
         this.elsewhere = 0;
+        /** The numbers of Mode 1 sectors, of Mode 2 sectors, and of tested Mode 2 sectors. Mode 2 is counted when all is read. */
+        this.modeOne = 0;
+        this.modeTwo = 0;
+        this.testedModeTwo = 0;
         this.looks = SURVEY_LOOKS;
         /** @type {Run[]} the blocks that have lost their sync field or mode, known when all is read */
         this.lost = [];
@@ -97,31 +112,53 @@ export class SurveyMarks {
             this.marks[i] = mark;
             this.counts[mark] += 1;
             this.elsewhere += records[i * RECORD_SIZE + RECORD.ADDRESS];
+            this.modeOne += Number(records[i * RECORD_SIZE + RECORD.KIND] === SECTOR_KIND.MODE1);
         }
         this.known = known;
+    }
+
+    /** @param {Uint8Array} found the settled findings in the Mode 2 sectors, known when all is read */
+    addMode2(found) {
+        this.modeTwo = this.counts[MARK.MODE2];
+        for (let i = 0; i < this.known; i++) {
+            this.testedModeTwo += Number(isTestedMode2(found[i]));
+            this.elsewhere += Number((found[i] & MODE2.ADDRESS) !== 0);
+            if (isDamagedMode2(found[i]) || (found[i] & MODE2.ADDRESS) !== 0) this.mark(i, markOfMode2(found[i]));
+        }
+    }
+
+    /**
+     * @param {number} i
+     * @param {number} mark
+     */
+    mark(i, mark) {
+        this.counts[this.marks[i]] -= 1;
+        this.counts[mark] += 1;
+        this.marks[i] = mark;
     }
 
     /** @param {Run[]} lost blocks that have lost their sync field or mode */
     lose(lost) {
         this.lost = lost;
         for (const { first, last } of lost) {
-            for (let i = first - this.base; i <= last - this.base; i++) {
-                this.counts[this.marks[i]] -= 1;
-                this.counts[MARK.LOST] += 1;
-                this.marks[i] = MARK.LOST;
-            }
+            for (let i = first - this.base; i <= last - this.base; i++) this.mark(i, MARK.LOST);
         }
     }
 
     /** How many sectors of Mode 1 there are so far, whatever was found in them. */
     mode1() {
-        const { counts } = this;
-        return counts[MARK.MODE1] + counts[MARK.ADDRESS] + counts[MARK.PARITY] + counts[MARK.EDC];
+        return this.modeOne;
     }
 
-    /** Whether there are sectors of Mode 1, and none has the address of its block. */
+    /** How many sectors have codes that were tested so far: those of Mode 1, and those of Mode 2 when all is read. */
+    tested() {
+        return this.modeOne + this.testedModeTwo;
+    }
+
+    /** Whether there are Mode 1 or Mode 2 sectors, and none has the address of its block. */
     isElsewhere() {
-        return this.mode1() > 0 && this.elsewhere === this.mode1();
+        const all = this.modeOne + this.modeTwo;
+        return all > 0 && this.elsewhere === all;
     }
 
     damaged() {
@@ -132,6 +169,20 @@ export class SurveyMarks {
     findings() {
         return this.damaged() + this.counts[MARK.ADDRESS] + this.counts[MARK.LOST];
     }
+}
+
+/**
+ * The shade of each Mode 1 sector on the map, 0 or 1, which changes where a file begins or ends.
+ * @param {{ block: number, size: number }[]} files
+ * @param {{ base: number, marks: Uint8Array }} model
+ */
+export function shadesOf(files, { base, marks }) {
+    const edges = new Set(files.flatMap(({ block, size }) => size > 0 ? [block, block + Math.ceil(size / USER_SIZE)] : []));
+    let shade = 0;
+    return marks.map((_, i) => {
+        shade ^= Number(edges.has(base + i));
+        return shade;
+    });
 }
 
 /**

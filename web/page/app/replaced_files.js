@@ -1,5 +1,6 @@
 // The lines of a script that replace files of the disc. If a file is replaced again, its earlier lines are removed.
 
+import { firstAfter } from '../../core/bytes.js';
 import { RESULT, VERB } from '../../core/module/index.js';
 import { NEWEST_VERSION, headLine, linesOfText, patchesOf, userPlace } from '../../core/script/index.js';
 import { applyScript, validScript } from '../../core/tasks/index.js';
@@ -29,6 +30,23 @@ export function linesIn({ calls, lines, long }, places) {
 }
 
 /**
+ * Returns a function that tells whether a script writes at least one byte of a range.
+ * @param {ScriptLines} script
+ * @returns {(range: UserRange) => boolean}
+ */
+export function writesOf({ calls, lines, long }) {
+    const patches = (long ? patchesOf(calls, long.text) : lines.flatMap(({ patch }) => patch || [])).filter(({ size }) => size > 0)
+        .sort((a, b) => userPlace(a) - userPlace(b));
+    const begins = patches.map(userPlace);
+    let end = 0;
+    const ends = patches.map(patch => { end = Math.max(end, userPlace(patch) + patch.size); return end; });
+    return range => {
+        const before = firstAfter(begins, userPlace(range) + range.size - 1);
+        return before > 0 && ends[before - 1] > userPlace(range);
+    };
+}
+
+/**
  * Whether a line only writes bytes of one of the places, and names the old bytes, like each line that replaces a file.
  * @param {Line} line
  * @param {UserRange[]} places of the file
@@ -39,6 +57,16 @@ function mayReplace({ patch }, places) {
 }
 
 /**
+ * The script of some lines of a script.
+ * @param {ScriptLines} script
+ * @param {Line[]} lines
+ */
+export function scriptOfLines(script, lines) {
+    const text = [headLine(script.versionName() || NEWEST_VERSION.name), ...lines.map(line => line.text), ''].join('\n');
+    return validScript(script.calls, [new TextEncoder().encode(text)], true);
+}
+
+/**
  * The lines whose old bytes match an image.
  * @param {ScriptLines} script
  * @param {{ reader: Reader, base: number }} image
@@ -46,8 +74,7 @@ function mayReplace({ patch }, places) {
  * @param {Signal} [signal]
  */
 async function fittingLines(script, image, lines, signal) {
-    const text = [headLine(script.versionName() || NEWEST_VERSION.name), ...lines.map(line => line.text), ''].join('\n');
-    const read = await validScript(script.calls, [new TextEncoder().encode(text)], true);
+    const read = await scriptOfLines(script, lines);
     const { outcomes } = await applyScript(script, image, read, { carry: true }, { signal });
     return outcomes.flatMap(({ number, result }) => result === RESULT.OK ? lines[number - 2] : []);
 }

@@ -2,16 +2,16 @@
 
 import { RESULT, isFault } from '../../core/module/index.js';
 import { ScriptModel, afterColon, baseComment, countOld, headLine, linesOfText, oldBytesOf, wordsOn } from '../../core/script/index.js';
-import { lineDoesNotFit, lineFits, told } from '../texts/index.js';
+import { format, lineDoesNotFit, lineFits } from '../texts/index.js';
 import { MOST_LINES, MOST_SHOWN, isLong } from './script_long.js';
 
 /** @typedef {import('../../core/module/calls.js').Calls} Calls */
 /** @typedef {import('../../core/script/patches.js').Outcome} Outcome */
 /**
- * An edit: from line `at` on, the lines that were removed (`gone`) and added (`come`), and the script's names before and after it. A typed
+ * An edit: from line `at` on, the `removed` and the `inserted` lines, and the script's names before and after it. A typed
  * edit is joined to the previous one if that was typed in the same line and in the same way. `saved` says that the text after the edit is
  * in a file.
- * @typedef {{ at: number, gone: string[], come: string[], names: string[], typed: Typed, saved: boolean }} Edit
+ * @typedef {{ at: number, removed: string[], inserted: string[], names: string[], typed: Typed, saved: boolean }} Edit
  * How an edit was typed: in the line, as bytes of a sector, or not at all.
  * @typedef {'line' | 'bytes' | ''} Typed
  */
@@ -115,12 +115,12 @@ export class ScriptLines extends ScriptModel {
      */
     replace(text, name, known = null) {
         this.leaveLong();
-        const [{ lines }, come] = [this, linesOfText(text)];
-        const most = Math.min(lines.length, come.length);
+        const [{ lines }, inserted] = [this, linesOfText(text)];
+        const most = Math.min(lines.length, inserted.length);
         let [same, end] = [0, 0];
-        while (same < most && lines[same].text === come[same]) same++;
-        while (end < most - same && lines[lines.length - 1 - end].text === come[come.length - 1 - end]) end++;
-        this.edit(same, lines.length - same - end, come.slice(same, come.length - end), '', name, known);
+        while (same < most && lines[same].text === inserted[same]) same++;
+        while (end < most - same && lines[lines.length - 1 - end].text === inserted[inserted.length - 1 - end]) end++;
+        this.edit(same, lines.length - same - end, inserted.slice(same, inserted.length - end), '', name, known);
         this.joined = text;
     }
 
@@ -132,18 +132,18 @@ export class ScriptLines extends ScriptModel {
      * @param {number} [before] the number of the line before which they are inserted, or 0 for the end
      */
     add(texts, typed, before = 0) {
-        const come = [...this.head < 0 ? [HEAD] : [], ...this.comments(), ...texts];
+        const inserted = [...this.head < 0 ? [HEAD] : [], ...this.comments(), ...texts];
         if (typed === '') for (const text of texts) this.made.add(text);
-        const size = come.reduce((sum, text) => sum + text.length + 1, 1);
+        const size = inserted.reduce((sum, text) => sum + text.length + 1, 1);
         const last = this.lines.length - Number(this.lines[this.lines.length - 1].text === '');
-        if (this.long || this.size + size > MOST_SHOWN || last + come.length >= MOST_LINES) {
+        if (this.long || this.size + size > MOST_SHOWN || last + inserted.length >= MOST_LINES) {
             const text = this.text();
-            this.setLong(`${text}${text.endsWith('\n') ? '' : '\n'}${come.join('\n')}\n`, this.name);
+            this.setLong(`${text}${text.endsWith('\n') ? '' : '\n'}${inserted.join('\n')}\n`, this.name);
             return 0;
         }
         const at = before > 0 ? before - 1 : last;
-        this.edit(at, 0, at < this.lines.length ? come : [...come, ''], typed);
-        return at + come.length;
+        this.edit(at, 0, at < this.lines.length ? inserted : [...inserted, ''], typed);
+        return at + inserted.length;
     }
 
     /**
@@ -175,20 +175,20 @@ export class ScriptLines extends ScriptModel {
      * Replaces lines.
      * @param {number} at
      * @param {number} count
-     * @param {string[]} come
+     * @param {string[]} inserted
      * @param {Typed} [typed]
      * @param {string} [name] of the script after the edit
      * @param {ScriptModel | null} [known] the script after the edit, if it was read already
      */
-    edit(at, count, come, typed = '', name = this.name, known = null) {
-        const gone = this.lines.slice(at, at + count).map(({ text }) => text);
+    edit(at, count, inserted, typed = '', name = this.name, known = null) {
+        const removed = this.lines.slice(at, at + count).map(({ text }) => text);
         const last = this.done[this.done.length - 1];
-        const goesOn = last && last.typed === typed && last.at === at && last.come.length === 1 && count === 1 && come.length === 1;
-        if (typed && goesOn) last.come = come;
-        else this.done.push({ at, gone, come, names: [this.name, name], typed, saved: false });
+        const goesOn = last && last.typed === typed && last.at === at && last.inserted.length === 1 && count === 1 && inserted.length === 1;
+        if (typed && goesOn) last.inserted = inserted;
+        else this.done.push({ at, removed, inserted, names: [this.name, name], typed, saved: false });
         this.undone = [];
         this.name = name;
-        this.put(at, count, come, known);
+        this.put(at, count, inserted, known);
     }
 
     /** Undoes the last edit, and returns the line to show, or -1. */
@@ -197,7 +197,7 @@ export class ScriptLines extends ScriptModel {
         if (edit === undefined) return -1;
         this.undone.push(edit);
         [this.name] = edit.names;
-        this.put(edit.at, edit.come.length, edit.gone);
+        this.put(edit.at, edit.inserted.length, edit.removed);
         return edit.at;
     }
 
@@ -207,18 +207,18 @@ export class ScriptLines extends ScriptModel {
         if (edit === undefined) return -1;
         this.done.push(edit);
         [, this.name] = edit.names;
-        this.put(edit.at, edit.gone.length, edit.come);
-        return edit.at + edit.come.length - 1;
+        this.put(edit.at, edit.removed.length, edit.inserted);
+        return edit.at + edit.inserted.length - 1;
     }
 
     /**
      * @param {number} at
      * @param {number} count
-     * @param {string[]} come
+     * @param {string[]} inserted
      * @param {ScriptModel | null} [known] the script after it, if it was read already
      */
-    put(at, count, come, known = null) {
-        if (known === null) super.put(at, count, come);
+    put(at, count, inserted, known = null) {
+        if (known === null) super.put(at, count, inserted);
         else this.adopt(known);
         this.outcomes = new Map();
     }
@@ -268,7 +268,7 @@ export class ScriptLines extends ScriptModel {
         }
         if (!outcome || outcome.result === RESULT.OK) return outcome ? lineFits : '';
         const words = wordsOn(this.calls.outcomeLine(number, outcome.result, outcome.block, outcome.offset), number);
-        return told(lineDoesNotFit, { why: afterColon(words) });
+        return format(lineDoesNotFit, { why: afterColon(words) });
     }
 
     /**

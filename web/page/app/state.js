@@ -22,11 +22,12 @@ import { Store } from './store.js';
  */
 
 /**
- * The survey of an image: `records` of RECORD_SIZE bytes for its sectors, of which the first `known` are read so far; the runs of sectors
- * `filled` with one byte; the `marks` for the map; and the `lack` of its volume, known when all is read. Reading `began` and `ended` at
- * these times in milliseconds; `ended` is 0 if not all was read. `over` says that reading has stopped.
- * @typedef {{ block: number, records: Uint8Array, filled: FilledRun[], known: number, marks: SurveyMarks, lack: Lack | null, began: number,
- *     ended: number, over: boolean }} Surveyed
+ * The survey of an image: `records` of RECORD_SIZE bytes for its sectors, of which the first `known` are read so far; what was found in
+ * its Mode 2 sectors (`mode2`), settled when all is read; the runs of sectors `filled` with one byte; the `marks` for the map; and the
+ * `lack` of its volume, known when all is read. Reading `began` and `ended` at these times in milliseconds; `ended` is 0 if not all was
+ * read. `over` says that reading has stopped.
+ * @typedef {{ block: number, records: Uint8Array, mode2: Uint8Array, filled: FilledRun[], known: number, marks: SurveyMarks,
+ *     lack: Lack | null, began: number, ended: number, over: boolean }} Surveyed
  */
 
 /**
@@ -50,9 +51,9 @@ import { Store } from './store.js';
 /**
  * Services of parts of the page for all others: `open` opens files, as if they were dropped; `choose` lets the user choose them;
  * `dropSays` returns the text on what happens to files that are dropped; `takeBackBytes` undoes the bytes typed last in a sector, if
- * possible; `saveScript` saves the script in a file.
+ * possible; `saveScript` saves the script in a file; `list` lists what is found in files with different names.
  * @typedef {{ open: (files: File[], aim: Aim) => Promise<void>, choose: (aim: Aim) => void, dropSays: () => Child[],
- *     takeBackBytes: () => boolean, saveScript: () => void }} Services
+ *     takeBackBytes: () => boolean, saveScript: () => void, list: (files: File[]) => void }} Services
  */
 
 /**
@@ -93,7 +94,7 @@ export class App extends Store {
      * @template Result
      * @param {(signal: AbortSignal, cancel: () => void) => Promise<Result>} job
      */
-    async run(job) {
+    async runJob(job) {
         const controller = new AbortController();
         return job(controller.signal, () => controller.abort());
     }
@@ -106,10 +107,10 @@ export class App extends Store {
     async runSave(job) {
         this.saves += 1;
         try {
-            return await this.run(job);
+            return await this.runJob(job);
         } finally {
             this.saves -= 1;
-            if (this.saves === 0) this.tell('saved');
+            if (this.saves === 0) this.notify('saved');
         }
     }
 
@@ -120,7 +121,7 @@ export class App extends Store {
      * @param {(signal: AbortSignal, cancel: () => void) => Promise<Result>} job
      */
     runUntil(end, job) {
-        return this.run((own, cancel) => {
+        return this.runJob((own, cancel) => {
             end.addEventListener('abort', cancel);
             return job(own, cancel);
         });
@@ -155,8 +156,8 @@ export class App extends Store {
     close() {
         this.setImage(null);
         this.script.clear();
-        this.tell('script', { back: null });
-        this.tell('closed');
+        this.notify('script', { back: null });
+        this.notify('closed');
         this.showPanel('disc');
     }
 
@@ -167,14 +168,14 @@ export class App extends Store {
      */
     changeScript(change) {
         const result = change(this.script);
-        this.tell('script', { back: null });
+        this.notify('script', { back: null });
         return result;
     }
 
     /** Shows the script, and checks it on the open image. */
     checkScript() {
         if (this.panel !== 'script') this.showPanel('script');
-        this.tell('check');
+        this.notify('check');
     }
 
     /** Ends the jobs with the second image. */

@@ -63,10 +63,9 @@ export class Store {
         /** Ends the jobs with the second image. */
         this.pairing = new AbortController();
         /** @type {Services} */
-        this.services = { open: async () => {}, choose: () => {}, dropSays: () => [], takeBackBytes: () => false,
-            saveScript: () => {} };
-        /** @type {Taker[]} */
-        this.takers = [];
+        this.services = { open: async () => {}, choose: () => {}, dropSays: () => [], takeBackBytes: () => false, saveScript: () => {},
+            list: () => {} };
+        this.takers = /** @type {Taker[]} */ ([]);
         /** The time of the last `survey` event, in milliseconds. */
         this.told = 0;
     }
@@ -83,7 +82,7 @@ export class Store {
      * @param {Happening} name
      * @param {unknown} [detail]
      */
-    tell(name, detail) {
+    notify(name, detail) {
         for (const listener of this.listeners.get(name) || []) listener(detail);
     }
 
@@ -113,8 +112,8 @@ export class Store {
         [this.image, this.second, this.repair, this.survey, this.files] = [image, null, null, null, null];
         this.script.base = image === null ? 0 : image.base;
         this.place = { block: -1, offset: -1 };
-        this.tell('image');
-        this.tell('second');
+        this.notify('image');
+        this.notify('second');
         return this.reading.signal;
     }
 
@@ -124,13 +123,13 @@ export class Store {
      */
     setSecond(second, job = 'compare') {
         [this.second, this.repair] = [second, null];
-        this.tell('second', job);
+        this.notify('second', job);
     }
 
     /** @param {Repair} repair from the second image */
     setRepair(repair) {
         this.repair = repair;
-        this.tell('repair');
+        this.notify('repair');
     }
 
     /**
@@ -140,18 +139,19 @@ export class Store {
      */
     beginSurvey(base, sectors) {
         const [records, marks, began] = [newBytes(sectors * RECORD_SIZE), new SurveyMarks(base, sectors), performance.now()];
-        const read = { block: base, records, filled: [], known: 0, marks, lack: null };
-        const survey = /** @type {Surveyed} */ ({ ...read, began, ended: 0, over: false });
+        const read = { block: base, records, mode2: newBytes(sectors), filled: [], known: 0, marks, lack: null, began };
+        const survey = /** @type {Surveyed} */ ({ ...read, ended: 0, over: false });
         [this.survey, this.told] = [survey, began];
-        this.tell('survey');
+        this.notify('survey');
         return survey;
     }
 
     /**
      * @param {Surveyed} survey
-     * @param {{ block: number, records: Uint8Array, filled?: FilledRun[] }} more the records of the next sectors
+     * @param {{ block: number, records: Uint8Array, filled?: FilledRun[], mode2?: Uint8Array }} more of the next sectors
      */
-    addToSurvey(survey, { block, records, filled = [] }) {
+    addToSurvey(survey, { block, records, filled = [], mode2 = newBytes(0) }) {
+        survey.mode2.set(mode2, block - survey.block);
         survey.records.set(records, (block - survey.block) * RECORD_SIZE);
         for (const run of filled) addToRuns(survey.filled, run);
         survey.known += records.length / RECORD_SIZE;
@@ -159,7 +159,7 @@ export class Store {
         const now = performance.now();
         if (now - this.told < TOLD_EVERY) return;
         this.told = now;
-        this.tell('survey');
+        this.notify('survey');
     }
 
     /**
@@ -169,19 +169,19 @@ export class Store {
     endSurvey(survey, isWhole) {
         if (isWhole) survey.ended = performance.now();
         survey.over = true;
-        this.tell('survey');
-        if (isWhole) this.tell('surveyed');
+        this.notify('survey');
+        if (isWhole) this.notify('surveyed');
     }
 
     /** @param {VolumeFiles | null} files */
     setFiles(files) {
         this.files = files;
-        this.tell('files');
+        this.notify('files');
     }
 
     /** @param {number} done how many bytes of the image were hashed, or -1 if hashing has stopped */
     noteHashed(done) {
-        this.tell('hash', done);
+        this.notify('hash', done);
     }
 
     /**
@@ -205,7 +205,7 @@ export class Store {
     /** @param {string} name of an encoding or of a table */
     chooseEncoding(name) {
         this.encoding = name;
-        this.tell('encoding');
+        this.notify('encoding');
     }
 
     /**
@@ -221,17 +221,17 @@ export class Store {
     /** @param {KnownDumps} dumps a list of them, kept as long as the page is open */
     addDumps(dumps) {
         this.dumps.push(dumps);
-        this.tell('dumps');
+        this.notify('dumps');
     }
 
     /** @param {unknown} data of a patcher, to be edited */
     workOn(data) {
-        this.tell('patcher', data);
+        this.notify('patcher', data);
     }
 
     /** Notes that a line was typed in the panel Script. */
     noteTyped() {
-        this.tell('script', null);
+        this.notify('script', null);
     }
 
     /**
@@ -244,7 +244,7 @@ export class Store {
     setScript(text, name, saved, known = null) {
         const back = this.script.take(text, name, known);
         if (saved) this.script.noteSaved();
-        this.tell('script', { back });
+        this.notify('script', { back });
     }
 
     /**
@@ -256,7 +256,7 @@ export class Store {
      */
     addLines(lines, typed = '', before = 0) {
         const number = this.script.add(lines, typed, before);
-        this.tell('script', { back: null });
+        this.notify('script', { back: null });
         return number;
     }
 
@@ -269,7 +269,7 @@ export class Store {
     replaceLine(number, line, typed = '') {
         this.script.edit(number - 1, 1, [line], typed);
         if (typed === '') this.script.made.add(line);
-        this.tell('script', { back: null });
+        this.notify('script', { back: null });
     }
 
     /**
@@ -282,18 +282,18 @@ export class Store {
         const comes = show && this.panel !== 'disc';
         this.place = { block, offset };
         if (show) this.showPanel('disc');
-        this.tell('place', { show, comes });
+        this.notify('place', { show, comes });
     }
 
     /** @param {number} line of the script, from 0, to be shown in its panel */
     goToLine(line) {
         this.showPanel('script');
-        this.tell('line', line);
+        this.notify('line', line);
     }
 
     /** @param {PanelName} name */
     showPanel(name) {
         this.panel = name;
-        this.tell('panel');
+        this.notify('panel');
     }
 }

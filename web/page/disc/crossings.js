@@ -2,7 +2,7 @@
 // each byte of a sound sector is changed, and the module says which column and which diagonal that breaks.
 
 import { SECTOR_SIZE, USER_SIZE } from '../../core/module/index.js';
-import { HEADER_OFFSET } from '../../core/sectors/index.js';
+import { HEADER_OFFSET, isSound } from '../../core/sectors/index.js';
 
 /** @typedef {import('../../core/module/calls.js').Calls} Calls */
 
@@ -49,4 +49,24 @@ export function crossingsOf(calls, sector) {
         columns: count(broken.columns), ofColumns: broken.columns.length,
         diagonals: count(broken.diagonals), ofDiagonals: broken.diagonals.length,
     };
+}
+
+/**
+ * The byte that P and Q give for a sector with a single broken column and a single broken diagonal: its place, and the value with which
+ * the module finds the sector sound. Null if there is none. The module judges at most 255 values for each byte at which the two cross.
+ * @param {Calls} calls
+ * @param {Uint8Array} sector
+ * @param {ReturnType<typeof crossingsOf>} found in it
+ */
+export function byteOfCodes(calls, sector, { crossings, columns, diagonals }) {
+    if (columns !== 1 || diagonals !== 1) return null;
+    const tried = sector.slice();
+    for (const at of crossings) {
+        for (let change = 1; change < 256; change++) {
+            tried[at] = sector[at] ^ change;
+            if (isSound(calls.survey(tried, 0), 0)) return { at, fresh: tried[at] };
+        }
+        tried[at] = sector[at];
+    }
+    return null;
 }

@@ -5,8 +5,8 @@ import { surveyedTrack } from '../../core/tasks/index.js';
 import { MARK, lookOf, lookOfKind } from '../app/index.js';
 import { downloadText } from '../save/index.js';
 import * as texts from '../texts/index.js';
-import { counted, say, told } from '../texts/index.js';
-import { button, copyButton, element, fill, keyed, oneStop, setAttribute, term } from '../ui/index.js';
+import { counted, format, say } from '../texts/index.js';
+import { button, copyButton, element, fill, keyed, oneTabStop, setAttribute, term } from '../ui/index.js';
 import { FilesList } from './files_list.js';
 import { placeGuess, placeWords, placesOf } from './places.js';
 import { addressOf, findingAt } from './sector_text.js';
@@ -32,7 +32,6 @@ export class Findings {
         this.app = app;
         this.tab = /** @type {FindingsTab} */ ('findings');
         this.text = /** @type {'audit' | 'list'} */ ('audit');
-        this.hidden = false;
         /** @type {Set<number>} the first sectors of the places that are open */
         this.opened = new Set();
         this.tabs = element('div', { class: 'seg', role: 'tablist', 'aria-label': texts.discFindingsTabs });
@@ -44,9 +43,20 @@ export class Findings {
                 texts.discSaveReport));
         this.part = element('section', { class: 'card', id: 'findings', 'aria-label': texts.discFindingsCard },
             element('header', {}, this.tabs, tools), this.files.tools, this.body, this.foot);
-        oneStop(this.tabs, '[role=tab]', tab => this.choose(/** @type {FindingsTab} */ (tab.dataset.tab)));
-        oneStop(this.body, 'tbody button');
+        oneTabStop(this.tabs, '[role=tab]', tab => this.choose(/** @type {FindingsTab} */ (tab.dataset.tab)));
+        oneTabStop(this.body, 'tbody button');
         this.body.addEventListener('click', event => this.clicked(/** @type {HTMLElement} */ (event.target)));
+        this.isOld = false;
+        for (const name of /** @type {const} */ (['script', 'panel'])) app.on(name, () => this.noteScript(name === 'script'));
+    }
+
+    /** @param {boolean} changed whether the script has changed. What it does with the files is drawn again only when it is visible. */
+    noteScript(changed) {
+        this.isOld = this.isOld || changed;
+        if (!this.isOld || this.app.panel !== 'disc') return;
+        this.isOld = false;
+        this.files.noteScript();
+        if (this.shown() === 'files') this.draw();
     }
 
     /** @param {FindingsTab} tab */
@@ -76,16 +86,9 @@ export class Findings {
         return new TextDecoder().decode(report(calls, survey, image.tail).text);
     }
 
-    /** @param {boolean} hidden whether something else is shown in its place */
-    hide(hidden) {
-        if (this.hidden === hidden) return;
-        this.hidden = hidden;
-        this.draw();
-    }
-
     draw() {
         const { survey } = this.app;
-        this.part.hidden = this.hidden || survey === null || survey.ended === 0 || survey.known === 0;
+        this.part.hidden = survey === null || survey.ended === 0 || survey.known === 0;
         if (survey === null || this.part.hidden) return;
         const runs = [...kindRuns(survey)];
         this.drawTabs(survey.marks.findings(), counted(runs.length));
@@ -165,13 +168,13 @@ export class Findings {
             const range = from === sectors[i] ? String(block) : `${block}–${survey.block + sectors[i]}`;
             const here = this.app.place.block >= block && this.app.place.block <= survey.block + sectors[i];
             const open = element('button', { type: 'button', class: 'fold', 'data-block': block }, range);
-            const words = lost ? texts.discLostInModeOne : findingAt(this.app.calls, survey, from);
+            const words = lost ? texts.discLostInTrack : findingAt(this.app.calls, survey, from);
             rows.push(element('tr', { class: 'sub', 'aria-selected': here ? 'true' : null }, element('td', { class: 'nowrap' }, open),
                 element('td'), element('td', { colspan: 2 }, words)));
         }
         const left = sectors.length - rows.length;
         if (rows.length === MOST_ROWS && left > 0) {
-            rows.push(element('tr', { class: 'sub' }, element('td', { colspan: 4 }, told(texts.discMoreFindings, { n: left }))));
+            rows.push(element('tr', { class: 'sub' }, element('td', { colspan: 4 }, format(texts.discMoreFindings, { n: left }))));
         }
         return rows;
     }
@@ -185,7 +188,7 @@ export class Findings {
     drawFiles() {
         this.files.draw();
         fill(this.body, this.files.part);
-        fill(this.foot, this.files.all.length > 0 && element('span', {}, texts.discFilesByBlocks));
+        fill(this.foot, this.files.all.length > 0 && element('span', {}, texts.discFilesOfVolume));
     }
 
     /** @param {{ first: number, last: number, kind: number }[]} runs */
@@ -201,7 +204,7 @@ export class Findings {
             element('td', { class: 'num', 'data-l': texts.discBeginsAtLabel }, addressOf(this.app, first))));
         this.fillTable('runs', head, rows);
         const left = runs.length - rows.length;
-        fill(this.foot, element('span', {}, left > 0 && `${told(texts.discMoreRuns, { n: left })} `, texts.discRunIsNeighbours));
+        fill(this.foot, element('span', {}, left > 0 && `${format(texts.discMoreRuns, { n: left })} `, texts.discRunIsNeighbours));
     }
 
     /**
@@ -226,9 +229,9 @@ export class Findings {
         const lines = this.report().split('\n');
         const shown = lines.slice(0, MOST_TEXT_LINES).join('\n');
         const more = lines.length - 1 - MOST_TEXT_LINES;
-        const label = told(texts.discWhatProgramPrints, { verb: this.text });
+        const label = format(texts.discWhatProgramPrints, { verb: this.text });
         fill(this.body, element('pre', { class: 'report', tabindex: 0, 'aria-label': label }, shown,
-            more > 0 && `\n${told(texts.discMoreLinesPrinted, { n: more })}`));
+            more > 0 && `\n${format(texts.discMoreLinesPrinted, { n: more })}`));
         const { image } = this.app;
         const isExact = this.text === 'list' || image === null || surveyedTrack(image.opened).shift === 0;
         fill(this.foot, choice, element('span', {}, isExact ? texts.discPrintedToTheByte : texts.discPrintedButForAddresses));

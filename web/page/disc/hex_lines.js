@@ -5,7 +5,7 @@ import { USER_OFFSET } from '../../core/sectors/index.js';
 import { charactersFrom } from '../../core/texts/index.js';
 import { columnLabel, signOf } from '../text/index.js';
 import * as texts from '../texts/index.js';
-import { told } from '../texts/index.js';
+import { format } from '../texts/index.js';
 import { element } from '../ui/index.js';
 
 /** @typedef {import('../../core/encodings/encoding.js').Encoding} Encoding */
@@ -25,7 +25,7 @@ export const USER_END = USER_OFFSET + USER_SIZE;
 /** @type {Record<number, string>} the titles of the parts of a Mode 1 sector, by the offset where each begins */
 const CUTS = {
     0: texts.sectorSyncAndHeader,
-    [USER_OFFSET]: told(texts.sectorUserDataOffsets, { last: String(USER_SIZE - 1), first: String(USER_OFFSET),
+    [USER_OFFSET]: format(texts.sectorUserDataOffsets, { last: String(USER_SIZE - 1), first: String(USER_OFFSET),
         end: String(USER_END - 1) }),
     [USER_END]: texts.sectorEdcZerosParity,
 };
@@ -84,14 +84,14 @@ function hexLine(shown, from, to, letters, { hexadecimal }) {
  * @param {number} at
  */
 export function placeName({ mode1 }, at) {
-    return mode1 && at >= USER_OFFSET && at < USER_END ? told(texts.sectorOffsetIs, { offset: texts.sectorOffsetWord,
+    return mode1 && at >= USER_OFFSET && at < USER_END ? format(texts.sectorOffsetIs, { offset: texts.sectorOffsetWord,
         at: String(at - USER_OFFSET) })
         : byteWords(at);
 }
 
 /** @param {number} at */
 export function byteWords(at) {
-    return told(texts.sectorByteOfSector, { at: String(at) });
+    return format(texts.sectorByteOfSector, { at: String(at) });
 }
 
 /**

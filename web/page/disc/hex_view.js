@@ -3,7 +3,7 @@
 import { SECTOR_SIZE } from '../../core/module/index.js';
 import { USER_OFFSET } from '../../core/sectors/index.js';
 import * as texts from '../texts/index.js';
-import { told } from '../texts/index.js';
+import { format } from '../texts/index.js';
 import { element, fill, styleValue } from '../ui/index.js';
 import { USER_END, headLine, hexLines, placeName } from './hex_lines.js';
 
@@ -117,7 +117,7 @@ export class HexView {
         this.hex.classList.toggle('texts', this.column === 'text');
         for (const it of this.hex.querySelectorAll(`[data-at="${this.at}"]`)) it.classList.add('at');
         const place = placeName(this.shown, this.at);
-        cell.setAttribute('aria-label', told(texts.sectorPlaceHolds, { place, digits: String(cell.textContent) }));
+        cell.setAttribute('aria-label', format(texts.sectorPlaceHolds, { place, digits: String(cell.textContent) }));
         this.hex.setAttribute('aria-activedescendant', cell.id);
     }
 

@@ -3,4 +3,3 @@
 export { dumpWords } from './known_dumps.js';
 export { mountDisc } from './panel.js';
 export { isAllOver, otherBase, placesOf } from './places.js';
-export { modeOneSectors } from './sector_text.js';

@@ -3,11 +3,10 @@
 import { KnownDumps, beginsLikeDat } from '../../core/disc/index.js';
 import { fileReader } from '../open/index.js';
 import * as texts from '../texts/index.js';
-import { say, told } from '../texts/index.js';
-import { element, messageOf, nameOf, seen, showNotice } from '../ui/index.js';
+import { format, say } from '../texts/index.js';
+import { byId, element, messageOf, nameOf, seen, showNotice } from '../ui/index.js';
 
 /** @typedef {import('../app/state.js').App} App */
-/** @typedef {import('../app/state.js').Image} Image */
 
 /** Bytes of a list that are read at a time. */
 const READ_STEP = 1 << 20;
@@ -36,9 +35,10 @@ async function takeList(app, file) {
         await known.add(piecesOf(file));
         app.addDumps(known);
         const use = () => {
-            const next = app.image === null ? texts.discOpenToLookUp : texts.discImageIsLookedUp;
+            const next = app.image !== null ? texts.discImageIsLookedUp
+                : byId('list').hidden ? texts.discOpenToLookUp : texts.discListIsLookedUp;
             showNotice('good', say(texts.discFileLoaded, { name: nameOf(file.name) }),
-                `${told(texts.discDumpsListed, { n: known.dumps.size })} ${next}`);
+                `${format(texts.discDumpsListed, { n: known.dumps.size })} ${next}`);
         };
         return { needsImage: false, use };
     } catch (error) {
@@ -48,18 +48,20 @@ async function takeList(app, file) {
 }
 
 /**
- * The result of looking up the open image in the lists; null if there is no list, or as long as its SHA-1 is not known.
+ * The result of looking up an image in the lists; null if there is no list, or as long as its SHA-1 is not known.
  * @param {App} app
- * @param {Image} image
+ * @param {{ name: string, reader: { size: number }, sha1: string, crc32: string, md5?: string }} image
  */
-export function dumpWords({ dumps }, { name: own, reader, sha1, crc32 }) {
+export function dumpWords({ dumps }, { name: own, reader, sha1, crc32, md5 = '' }) {
     if (dumps.length === 0 || sha1 === '') return null;
-    const found = dumps.flatMap(known => known.find(reader.size, { sha1, crc32 }, own) || []);
+    const found = dumps.flatMap(known => known.find(reader.size, { sha1, crc32, md5 }, own) || []);
     if (found.length === 0) {
-        const hasSize = dumps.some(known => known.hasSize(reader.size));
-        return element('span', { class: 'tag warn' }, hasSize ? texts.discSizeInListOfDumps : texts.discInNoListOfDumps);
+        const names = dumps.flatMap(known => known.namesOfSize(reader.size));
+        const name = seen(names.includes(own) ? own : names[0] || '');
+        const words = names.length > 0 ? format(texts.discSizeOfDump, { name }) : texts.discInNoListOfDumps;
+        return element('span', { class: 'tag warn' }, words);
     }
     const [{ name, isBad }] = found;
     const words = isBad ? texts.discKnownBadDump : texts.discVerifiedDump;
-    return element('span', { class: `tag ${isBad ? 'bad' : 'good'} dump` }, told(words, { name: seen(name) }));
+    return element('span', { class: `tag ${isBad ? 'bad' : 'good'} dump` }, format(words, { name: seen(name) }));
 }

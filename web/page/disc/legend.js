@@ -1,8 +1,8 @@
 // The legend of the map. A pressed entry shows only its mark on the map.
 
 import * as texts from '../texts/index.js';
-import { counted } from '../texts/index.js';
-import { element, fill, oneStop } from '../ui/index.js';
+import { counted, format } from '../texts/index.js';
+import { button, element, fill, oneTabStop } from '../ui/index.js';
 
 /** @typedef {import('../app/marks.js').MapModel} MapModel */
 /** @typedef {import('../app/marks.js').Look} Look */
@@ -15,7 +15,9 @@ export class Legend {
         this.alone = '';
         this.shown = '';
         this.part = element('div', { class: 'legend', role: 'group', 'aria-label': texts.discPressLegendEntry });
-        oneStop(this.part, 'button');
+        /** A button that names the pressed entry, and releases it. */
+        this.only = element('span');
+        oneTabStop(this.part, 'button');
     }
 
     /** Releases the pressed entry. */
@@ -40,6 +42,12 @@ export class Legend {
             fill(/** @type {Element} */ (entries[i].querySelector('.n')), counted(counts[look.mark]));
             entries[i].setAttribute('aria-pressed', String(look === pressed));
         });
+        this.only.hidden = !pressed;
+        if (!pressed) fill(this.only);
+        else {
+            const show = format(texts.discOnlyShown, { name: pressed.name });
+            fill(this.only, button('slim', () => this.release(pressed.name), show));
+        }
         return pressed ? pressed.mark : -1;
     }
 
@@ -55,6 +63,13 @@ export class Legend {
         const loud = looks.findIndex(look => look.loud);
         const before = loud < 0 ? entries.length : loud;
         fill(this.part, ...entries.slice(0, before), element('span', { class: 'break' }), ...entries.slice(before));
+    }
+
+    /** @param {string} name of the pressed entry, which gets the focus */
+    release(name) {
+        const entry = /** @type {HTMLElement | null} */ (this.part.querySelector('[aria-pressed=true]'));
+        this.press(name);
+        if (entry) entry.focus();
     }
 
     /** @param {string} name of an entry */

@@ -1,10 +1,10 @@
 // The map of a disc: the canvas with its ruler, the tip at the pointer, the loupe under it, and the keys.
 
-import { nextFinding, nextRun } from '../app/index.js';
+import { MARK, nextFinding, nextRun } from '../app/index.js';
 import * as texts from '../texts/index.js';
-import { told } from '../texts/index.js';
+import { format } from '../texts/index.js';
 import { element, fill } from '../ui/index.js';
-import { cellAt, layoutOf, paintMap, sectorAt } from './map_paint.js';
+import { SHADE, cellAt, layoutOf, paintMap, sectorAt } from './map_paint.js';
 
 /** @typedef {import('../app/marks.js').MapModel} MapModel */
 /** @typedef {import('./map_paint.js').MapLayout} MapLayout */
@@ -27,6 +27,8 @@ export class DiscMap {
         this.model = /** @type {MapModel | null} */ (null);
         this.at = -1;
         this.alone = -1;
+        /** The shade of each Mode 1 sector, none until the files are known. */
+        this.shades = new Uint8Array(0);
         this.layout = layoutOf(1, 1, 1);
         this.waiting = 0;
         this.canvas = element('canvas', { id: 'map', tabindex: 0, role: 'slider', 'aria-label': texts.discMapOfDisc });
@@ -86,9 +88,10 @@ export class DiscMap {
         this.layout = layout;
         canvas.style.width = `${layout.width}px`;
         canvas.style.height = `${layout.height}px`;
-        paintMap(canvas, model, layout, this.alone);
-        const shared = layout.per > 1 ? told(texts.discPixelIsSectors, { n: layout.per }) : texts.discPixelIsSector;
-        this.per.textContent = layout.cell > 1 ? texts.discSquareIsSector : shared;
+        paintMap(canvas, model, layout, this.alone, this.shades);
+        const shared = layout.per > 1 ? format(texts.discPixelIsSectors, { n: layout.per }) : texts.discPixelIsSector;
+        const per = layout.cell > 1 ? texts.discSquareIsSector : shared;
+        this.per.textContent = this.shades.includes(1) ? format(texts.discFilesInShades, { per }) : per;
         this.drawRuler(model, layout);
         this.drawPlace();
     }
@@ -104,7 +107,7 @@ export class DiscMap {
         for (let minute = Math.ceil(base / SECTORS_A_MINUTE / step) * step; layout.height > 60; minute += step) {
             const sector = minute * SECTORS_A_MINUTE - base;
             if (sector >= marks.length) break;
-            const label = element('span', {}, told(texts.discMinutesOnRuler, { minute: String(minute) }));
+            const label = element('span', {}, format(texts.discMinutesOnRuler, { minute: String(minute) }));
             label.style.top = `${Math.min(layout.height - 4, Math.max(6, rowsOf(sector / SECTORS_A_MINUTE)))}px`;
             labels.push(label);
         }
@@ -139,7 +142,8 @@ export class DiscMap {
         const cells = Array.from({ length: count }, (_, i) => {
             const look = looks.find(it => it.mark === marks[from + i]);
             const cell = element('li', { class: from + i === this.at ? 'here' : null, 'data-sector': from + i }, look ? look.letter : '');
-            cell.style.background = look ? `var(${look.colour})` : 'var(--sunk)';
+            const isShaded = marks[from + i] === MARK.MODE1 && this.shades[from + i] === 1;
+            cell.style.background = `var(${isShaded ? SHADE : look ? look.colour : '--sunk'})`;
             return cell;
         });
         fill(this.loupe, ...cells);

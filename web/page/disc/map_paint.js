@@ -9,6 +9,10 @@ import { styleValue } from '../ui/index.js';
  * @typedef {{ per: number, cell: number, columns: number, rows: number, width: number, height: number }} MapLayout
  */
 
+/** The colour of Mode 1 sectors in the second shade, and its place among those of the marks. */
+export const SHADE = '--k-shade';
+const SHADED = 15;
+
 const LARGEST_CELL = 22;
 const HIGHEST_OF_CELLS = 280;
 const HIGHEST = 520;
@@ -89,8 +93,9 @@ function pixelOf(colour) {
  * @param {MapModel} model
  * @param {MapLayout} layout
  * @param {number} alone the mark that is shown alone, or -1
+ * @param {Uint8Array} shades of Mode 1 sectors
  */
-export function paintMap(canvas, model, layout, alone) {
+export function paintMap(canvas, model, layout, alone, shades) {
     Object.assign(canvas, { width: layout.width, height: layout.height });
     const context = canvas.getContext('2d');
     if (context === null) return;
@@ -98,7 +103,9 @@ export function paintMap(canvas, model, layout, alone) {
     const pixels = new Uint32Array(image.data.buffer);
     const colours = coloursOf(model, alone);
     const worst = cellMarks(model, layout);
-    for (let place = 0; place < worst.length; place++) paintCell(pixels, layout, place, worst[place], colours);
+    for (let place = 0; place < worst.length; place++) {
+        paintCell(pixels, layout, place, worst[place] === MARK.MODE1 && shades[place * layout.per] ? SHADED : worst[place], colours);
+    }
     if (layout.cell === 1) widenFindings(pixels, layout, worst, model, colours, alone);
     context.putImageData(image, 0, 0);
 }
@@ -114,6 +121,7 @@ function coloursOf({ looks }, alone) {
     for (const { mark, colour } of looks) {
         if (alone < 0 || alone === mark) colours[mark] = pixelOf(styleValue(colour));
     }
+    colours[SHADED] = colours[MARK.MODE1] === sunk ? sunk : pixelOf(styleValue(SHADE));
     return { colours, sunk, line: pixelOf(styleValue('--line')) };
 }
 

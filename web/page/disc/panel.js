@@ -1,9 +1,10 @@
 // The panel Disc: the map and the findings on the left, a sector on the right.
 
 import { filesAt } from '../../core/iso/index.js';
+import { shadesOf } from '../app/index.js';
 import { SecondCard } from '../second/index.js';
 import * as texts from '../texts/index.js';
-import { told } from '../texts/index.js';
+import { format } from '../texts/index.js';
 import { button, element, fill, shownName } from '../ui/index.js';
 import { Findings } from './findings.js';
 import { mountDumps } from './known_dumps.js';
@@ -21,9 +22,9 @@ import { addressOf, sectorWords } from './sector_text.js';
 export function mountDisc(app, panel) {
     const disc = new DiscPanel(app);
     panel.append(element('h1', { class: 'hide' }, texts.discHeading), disc.part);
-    for (const name of /** @type {const} */ (['survey', 'panel', 'files'])) app.on(name, () => disc.drawMap());
+    for (const name of /** @type {const} */ (['survey', 'panel'])) app.on(name, () => disc.drawMap());
     app.on('surveyed', () => disc.findings.draw());
-    app.on('files', () => disc.findings.takeFiles(true));
+    app.on('files', () => disc.takeFiles());
     app.on('image', () => disc.begin());
     app.on('place', ({ show, comes }) => disc.drawPlace(show, comes));
     app.on('second', job => disc.second.begin(job));
@@ -46,9 +47,10 @@ class DiscPanel {
         this.words = element('span', { class: 'row' });
         this.steps = element('span', { class: 'row' }, button('slim', () => this.map.chooseFinding(-1), texts.discToPreviousFinding),
             button('slim', () => this.map.chooseFinding(1), texts.discToNextFinding));
-        const header = element('header', {}, element('h2', { id: 'map-title' }, texts.discMapOfDisc), this.map.per);
+        this.below = button('slim below', () => this.sector.scrollTo(), texts.discOpenSector);
+        const header = element('header', {}, element('h2', { id: 'map-title' }, texts.discMapOfDisc), this.map.per, this.legend.only);
         this.card = element('section', { class: 'card', 'aria-labelledby': 'map-title' }, header, this.legend.part, this.map.part,
-            element('div', { class: 'readout' }, this.words, this.steps));
+            element('div', { class: 'readout' }, this.words, this.steps, this.below));
         this.left = element('div', { class: 'side' }, this.card, this.findings.part);
         this.second = new SecondCard(app, () => this.drawMap());
         this.right = element('div', { class: 'side' }, this.second.part, this.sector.part);
@@ -58,19 +60,31 @@ class DiscPanel {
     /** Resets the panel after a different image was opened, or none. */
     begin() {
         this.map.show(null);
+        this.map.shades = new Uint8Array(0);
         this.legend.forget();
         this.sector.close();
         this.findings.opened.clear();
         this.findings.takeFiles(false);
     }
 
+    /** Shows where files begin on the map, and opens the first file's sector of a disc without findings, if no other one is open. */
+    takeFiles() {
+        const { files, survey, second, place } = this.app;
+        this.findings.takeFiles(true);
+        if (files === null || survey === null) return;
+        this.map.shades = shadesOf(files.files, survey.marks);
+        this.drawMap();
+        const first = files.files.find(({ block, size }) => size > 0 && block >= survey.block && block < survey.block + survey.known);
+        if (first && place.block < 0 && second === null && survey.marks.findings() === 0) this.app.goTo(first.block);
+    }
+
     drawMap() {
         const { survey } = this.app;
         if (survey === null) return;
-        const pair = this.second.model();
-        const model = pair || survey.marks;
-        this.findings.hide(pair !== null);
-        this.map.show(model, this.legend.show(model));
+        const model = this.second.model() || survey.marks;
+        const alone = this.legend.show(model);
+        this.map.show(model, alone);
+        this.map.per.hidden = alone >= 0;
         const isAsked = this.sector.part.contains(document.activeElement); // the user may type a block while a second image is read
         this.sector.part.hidden = this.app.second !== null && this.app.place.block < 0 && !isAsked;
         this.drawReadout();
@@ -96,7 +110,7 @@ class DiscPanel {
         const { app } = this;
         const { survey, place } = app;
         this.steps.hidden = survey === null || survey.marks.findings() === 0;
-        this.words.hidden = survey === null || place.block < 0;
+        this.words.hidden = this.below.hidden = survey === null || place.block < 0;
         if (survey === null || place.block < 0) return fill(this.words);
         const { kind, finding, bad } = sectorWords(app, survey, place.block - survey.block);
         const file = fileWords(app, place.block);
@@ -128,12 +142,12 @@ function spokenOf(app, sector) {
     if (app.survey === null) return '';
     const { kind, finding } = sectorWords(app, app.survey, sector);
     const block = String(app.survey.block + sector);
-    return finding === '' ? told(texts.discSpokenSector, { block, kind }) : told(texts.discSpokenFinding, { block, kind, finding });
+    return finding === '' ? format(texts.discSpokenSector, { block, kind }) : format(texts.discSpokenFinding, { block, kind, finding });
 }
 
 /** @param {number} block */
 function blockWords(block) {
-    return told(texts.discBlockNumber, { block: String(block) });
+    return format(texts.discBlockNumber, { block: String(block) });
 }
 
 /**
@@ -143,7 +157,7 @@ function blockWords(block) {
  */
 function fileWords({ files }, block) {
     const [file] = files === null ? [] : filesAt(files.files, block, 0);
-    return file ? told(texts.discFileIs, { name: shownName(file.path) }) : '';
+    return file ? format(texts.discFileIs, { name: shownName(file.path) }) : '';
 }
 
 /**
@@ -157,6 +171,6 @@ function tipOf(app, sector) {
     const { kind, finding, codes, damaged } = sectorWords(app, survey, sector);
     const file = fileWords(app, block);
     return [`${blockWords(block)} · ${finding === '' ? kind : damaged ? texts.discIsDamaged : finding}`,
-        [...damaged ? [codes] : [], told(texts.discAddressOfSector, { address: addressOf(app, block) })].join(' · '),
+        [...damaged ? [codes] : [], format(texts.discAddressOfSector, { address: addressOf(app, block) })].join(' · '),
         ...file === '' ? [] : [file]];
 }

@@ -2,7 +2,7 @@
 
 import { MARK } from '../app/index.js';
 import * as texts from '../texts/index.js';
-import { told } from '../texts/index.js';
+import { format } from '../texts/index.js';
 
 /** @typedef {import('../app/marks.js').SurveyMarks} SurveyMarks */
 /** @typedef {{ first: number, last: number, sectors: number[], counts: Uint32Array }} Place sectors by their number in the image */
@@ -50,9 +50,9 @@ export function placeWords({ counts }) {
     const words = [];
     if (counts[MARK.EDC] > 0) words.push(counts[MARK.PARITY] > 0 ? texts.discDataAndParityFound : texts.discDataFound);
     else if (counts[MARK.PARITY] > 0) words.push(texts.discOnlyParityFound);
-    if (counts[MARK.LOST] > 0) words.push(told(texts.discLostFound, { count: String(counts[MARK.LOST]) }));
+    if (counts[MARK.LOST] > 0) words.push(format(texts.discLostFound, { count: String(counts[MARK.LOST]) }));
     const count = String(counts[MARK.ADDRESS]);
-    if (counts[MARK.ADDRESS] > 0) words.push(damage + counts[MARK.LOST] > 0 ? told(texts.discAddressesFound, { count })
+    if (counts[MARK.ADDRESS] > 0) words.push(damage + counts[MARK.LOST] > 0 ? format(texts.discAddressesFound, { count })
         : texts.discAddressFound);
     const mark = [MARK.EDC, MARK.PARITY, MARK.LOST, MARK.ADDRESS].find(it => counts[it] > 0) || MARK.ADDRESS;
     return { mark, words: words.join(texts.discFoundJoint) };
@@ -88,12 +88,12 @@ export function placeGuess(place, isElsewhere, known) {
     const inRow = count === last - first + 1;
     const row = { count: String(count) };
     if (isElsewhere) return texts.discAnotherBase;
-    if (counts[MARK.ADDRESS] === count) return inRow && count > 1 ? told(texts.discRowSpliced, row) : texts.discNotDamage;
+    if (counts[MARK.ADDRESS] === count) return inRow && count > 1 ? format(texts.discRowSpliced, row) : texts.discNotDamage;
     if (count === 1) return counts[MARK.PARITY] === 1 ? texts.discSingleSectorUserDataFit : texts.discSingleSector;
-    if (inRow && count >= 8) return told(texts.discRowOnPurpose, row);
+    if (inRow && count >= 8) return format(texts.discRowOnPurpose, row);
     const allOver = isAllOver(place, known);
-    const what = inRow ? told(texts.discSectorsInRow, row) : allOver ? texts.discSingleSectorsAllOver : texts.discSingleSectors;
-    return distanceGuess(place, allOver) || (counts[MARK.PARITY] === count ? told(texts.discUserDataFit, { what }) : what);
+    const what = inRow ? format(texts.discSectorsInRow, row) : allOver ? texts.discSingleSectorsAllOver : texts.discSingleSectors;
+    return distanceGuess(place, allOver) || (counts[MARK.PARITY] === count ? format(texts.discUserDataFit, { what }) : what);
 }
 
 /**
@@ -110,8 +110,8 @@ function distanceGuess({ sectors, first }, allOver) {
     const alike = distances.filter(it => Math.abs(it - median) <= 1).length;
     if (median > 3 && 2 * alike > distances.length) {
         const isTurn = median > 0.75 * turn && median < 1.5 * turn;
-        const what = told(allOver ? texts.discEverySectorAllOver : texts.discEverySector, { ordinal: ordinal(median) });
-        return isTurn ? told(texts.discLooksScratched, { what }) : what;
+        const what = format(allOver ? texts.discEverySectorAllOver : texts.discEverySector, { ordinal: ordinal(median) });
+        return isTurn ? format(texts.discLooksScratched, { what }) : what;
     }
     const turns = (sectors[sectors.length - 1] - first) / turn;
     const perTurn = sectors.length / turns;
@@ -128,5 +128,5 @@ function sectorsATurn(sector) {
 function ordinal(number) {
     const forms = texts.discOrdinals.split('|');
     const form = ['one', 'two', 'few', 'other'].indexOf(ordinals.select(number));
-    return told(/** @type {'{n}'} */ (forms[Math.min(form, forms.length - 1)]), { n: String(number) });
+    return format(/** @type {'{n}'} */ (forms[Math.min(form, forms.length - 1)]), { n: String(number) });
 }

@@ -6,8 +6,8 @@ import { USER_OFFSET, isSound } from '../../core/sectors/index.js';
 import { sectorOfSecond } from '../second/index.js';
 import { bindEncodings, chosenEncoding, encodingLabel } from '../text/index.js';
 import * as texts from '../texts/index.js';
-import { say, told } from '../texts/index.js';
-import { button, copyButton, element, fill, keysIn, nameOf, oneStop, showFailure, term } from '../ui/index.js';
+import { format, say } from '../texts/index.js';
+import { button, copyButton, element, fill, keysIn, nameOf, oneTabStop, showFailure, term } from '../ui/index.js';
 import { crossingsOf } from './crossings.js';
 import { USER_END, byteWords, digitsOf, placeName } from './hex_lines.js';
 import { HexView } from './hex_view.js';
@@ -36,7 +36,7 @@ export class SectorCard {
         this.edit.bind(this.view);
         this.view.hex.addEventListener('copy', () => this.sayCopied());
         this.title = element('h2', { id: 'sector-title' });
-        this.said = element('div');
+        this.message = element('div');
         this.fields = element('div', { class: 'fields', role: 'group', 'aria-label': texts.sectorPressFieldToGo });
         this.keys = element('p', { class: 'small quiet keys-line if-mouse' });
         this.foot = element('p', { class: 'foot', 'aria-live': 'polite' });
@@ -47,12 +47,12 @@ export class SectorCard {
         this.noBlock = element('div');
         this.choice = element('select', { class: 'slim' });
         bindEncodings(app, this.choice, ({ hasCharacters }) => hasCharacters);
-        this.body = element('div', {}, this.said, this.fields, this.keys, this.view.part, copies, this.foot);
+        this.body = element('div', {}, this.message, this.fields, this.keys, this.view.part, copies, this.foot);
         this.empty = element('p', { class: 'pad quiet' }, ...say(texts.sectorHowToOpenSector,
             { tab: element('kbd', {}, texts.sectorTabKey), enter: element('kbd', {}, texts.sectorEnterKey) }));
         this.part = element('section', { class: 'card', 'aria-labelledby': 'sector-title' },
             element('header', {}, this.title, this.tools()), this.noBlock, this.empty, this.body);
-        oneStop(this.fields, 'button');
+        oneTabStop(this.fields, 'button');
         for (const name of /** @type {const} */ (['encoding', 'script', 'second', 'repair', 'panel'])) {
             app.on(name, () => this.redraw(name !== 'panel'));
         }
@@ -76,6 +76,12 @@ export class SectorCard {
     focus() {
         this.wantsFocus = true;
         if (!this.body.hidden && this.number === this.drawn) this.takeFocus();
+    }
+
+    /** Scrolls to this card, and moves the focus to the bytes. */
+    scrollTo() {
+        this.view.hex.focus({ preventScroll: true });
+        this.part.scrollIntoView();
     }
 
     /** Moves the focus to the field for a block. */
@@ -148,7 +154,7 @@ export class SectorCard {
             this.goTo.value = String(block);
             this.sayBlock('');
         }
-        fill(this.said, sectorFault(app, block, old, found));
+        fill(this.message, sectorFault(app, block, old, found));
         const fields = fieldsOf(kind);
         if (moved) this.drawFields(fields);
         this.view.show({ block, old, bytes: fresh, other, mode1, fields, crossings: new Set(found ? found.crossings : []),
@@ -185,10 +191,10 @@ export class SectorCard {
             isUser && element('span', {}, byteWords(at)), element('span', { class: 'mono' }, typed),
             isUser && this.fileAt(at - USER_OFFSET), ...this.selectionWords()];
         if (shown.bytes[at] !== shown.old[at]) {
-            parts.push(element('span', { class: 'good-ink' }, told(texts.sectorChangedByScript, { digits: digitsOf(shown.old[at]) })));
+            parts.push(element('span', { class: 'good-ink' }, format(texts.sectorChangedByScript, { digits: digitsOf(shown.old[at]) })));
         }
         if (shown.other !== null && shown.other[at] !== shown.old[at]) {
-            parts.push(element('b', {}, told(texts.sectorInSecondImage, { digits: digitsOf(shown.other[at]) })));
+            parts.push(element('b', {}, format(texts.sectorInSecondImage, { digits: digitsOf(shown.other[at]) })));
         }
         this.drawKeys(isUser);
         const hint = isUser ? `${texts.sectorChangeIsLine}${this.damageHint()}`
@@ -206,7 +212,7 @@ export class SectorCard {
     /** Shows over the bytes that they were copied by a key. */
     sayCopied() {
         const { first, end } = this.view.selection();
-        this.copied = told(texts.sectorBytesCopied, { n: end - first });
+        this.copied = format(texts.sectorBytesCopied, { n: end - first });
         this.drawFoot();
     }
 
@@ -215,7 +221,7 @@ export class SectorCard {
         const { view } = this;
         const { first, end } = view.selection();
         if (view.shown === null || end - first === 1) return [];
-        return [element('span', {}, told(texts.sectorBytesSelected, { n: end - first, place: placeName(view.shown, first) }))];
+        return [element('span', {}, format(texts.sectorBytesSelected, { n: end - first, place: placeName(view.shown, first) }))];
     }
 
     /** A warning that changes in a damaged sector will be refused, or ''. */
@@ -242,7 +248,7 @@ export class SectorCard {
         const block = Number(this.goTo.value.trim().replace(/,/g, '') || NaN);
         const isIn = image !== null && Number.isInteger(block) && block >= image.base && block < image.base + image.sectors;
         this.sayBlock(isIn || image === null ? ''
-            : told(texts.sectorBlocksOfImage, { first: String(image.base), last: String(image.base + image.sectors - 1) }));
+            : format(texts.sectorBlocksOfImage, { first: String(image.base), last: String(image.base + image.sectors - 1) }));
         if (isIn) this.app.goTo(block);
     }
 

@@ -8,7 +8,7 @@ import { charactersFrom } from '../../core/texts/index.js';
 import { ownFault } from '../../sentences/index.js';
 import { chosenEncoding, signOf } from '../text/index.js';
 import * as texts from '../texts/index.js';
-import { told } from '../texts/index.js';
+import { format } from '../texts/index.js';
 import { announce, byId, hexOf, messageOf } from '../ui/index.js';
 import { USER_END } from './hex_lines.js';
 import { Typing } from './typing.js';
@@ -41,7 +41,7 @@ export class SectorEdit {
             event.clipboardData.setData('text/plain', view.column === 'text' ? this.selectedText() : this.selectedHex());
             event.preventDefault();
             const { first, end } = view.selection();
-            announce(told(texts.sectorBytesCopied, { n: end - first }));
+            announce(format(texts.sectorBytesCopied, { n: end - first }));
         });
         view.hex.addEventListener('paste', event => {
             const text = event.clipboardData ? event.clipboardData.getData('text/plain') : '';
@@ -160,7 +160,7 @@ export class SectorEdit {
             this.fault = this.faultOf(bytes.length);
             if (this.fault === '' && bytes.length > 0) {
                 const old = shown.bytes.slice(first, first + bytes.length);
-                announce(told(texts.sectorInTheScript, { line: this.typing.type(shown.block, first - USER_OFFSET, bytes, old) }));
+                announce(format(texts.sectorInTheScript, { line: this.typing.type(shown.block, first - USER_OFFSET, bytes, old) }));
                 shown.bytes = shown.bytes.slice();
                 shown.bytes.set(bytes, first);
                 return view.moveTo(Math.min(first + bytes.length, USER_END - 1));
@@ -182,7 +182,7 @@ export class SectorEdit {
         const { first } = view.selection();
         if (!view.shown.mode1 || first < USER_OFFSET || first >= USER_END) return texts.sectorOnlyUserDataTyped;
         const room = USER_END - first;
-        return count > room ? told(texts.sectorTooManyBytes, { n: count, room: String(room) }) : '';
+        return count > room ? format(texts.sectorTooManyBytes, { n: count, room: String(room) }) : '';
     }
 }
 

@@ -2,12 +2,13 @@
 
 import { RECORD, SECTOR_KIND, SECTOR_SIZE, USER_SIZE } from '../../core/module/index.js';
 import { firstLinesOf, lineText } from '../../core/script/index.js';
-import { USER_OFFSET, addressIn, addressText } from '../../core/sectors/index.js';
-import { MARK } from '../app/index.js';
+import { USER_OFFSET, addressIn, addressText, isDamagedMode2, isSoundMode2 } from '../../core/sectors/index.js';
+import { MARK, mode2Verdict } from '../app/index.js';
 import { repairOf } from '../second/index.js';
 import * as texts from '../texts/index.js';
-import { say, told } from '../texts/index.js';
-import { announce, button, element, keyed, nameOf, setDisabled, term } from '../ui/index.js';
+import { format, say } from '../texts/index.js';
+import { announce, button, element, hexOf, keyed, nameOf, setDisabled, term } from '../ui/index.js';
+import { byteOfCodes } from './crossings.js';
 import { addressOf } from './sector_text.js';
 
 /** @typedef {import('../app/state.js').App} App */
@@ -27,10 +28,13 @@ export function sectorFault(app, block, sector, found) {
     const line = new TextDecoder().decode(app.calls.auditLine(block, record)).trimEnd();
     const [edc, zeros, parity] = [record[RECORD.EDC] > 0, record[RECORD.ZEROS] > 0, record[RECORD.P] + record[RECORD.Q] > 0];
     if (!edc && !zeros && !parity) return line === '' ? soundSector() : elsewhere(app, block, sector, line);
+    const hint = byteOfCodes(app.calls, sector, found);
     const sentences = [
         edc && say(texts.sectorEdcDoesNotFit, { edc: term('edc', texts.sectorEdcField) }),
         zeros && [texts.sectorZerosDoNotFit],
         parity && crossingWords(found, edc),
+        edc && hint !== null && say(texts.sectorByteOfCodes, { place: placeWords(hint.at), fresh: hexOf(Uint8Array.of(hint.fresh)),
+            old: hexOf(sector.subarray(hint.at, hint.at + 1)) }),
         record[RECORD.ADDRESS] > 0 && say(texts.sectorHeaderHasOtherAddress, { address: addressText(addressIn(sector, 0)) }),
     ].flatMap(it => it ? [...it, ' '] : []);
     return keyed(`damage of ${block}`, element('div', { class: `say ${edc ? 'bad' : 'warn'} thin` },
@@ -44,19 +48,29 @@ function mono(text) {
 }
 
 /**
+ * Where bytes of a sector are, in words.
+ * @param {number} first
+ * @param {number} [last]
+ * @returns {Child[]}
+ */
+function placeWords(first, last = first) {
+    const isUser = first >= USER_OFFSET && last < USER_OFFSET + USER_SIZE;
+    const [from, to] = [first, last].map(at => String(isUser ? at - USER_OFFSET : at));
+    const at = last > first ? format(texts.sectorBytesFromTo, { first: from, last: to }) : from;
+    return isUser ? say(texts.sectorOffsetIs, { offset: term('offset', texts.sectorOffsetWord), at })
+        : [format(texts.sectorByteOfSector, { at })];
+}
+
+/**
  * @param {Crossings} found
  * @param {boolean} either whether the EDC does not match, too
  * @returns {Child[]}
  */
 function crossingWords({ crossings, ...counts }, either) {
-    const codes = told(either ? texts.sectorCodesDoNotFitEither : texts.sectorCodesDoNotFit, counts);
+    const codes = format(either ? texts.sectorCodesDoNotFitEither : texts.sectorCodesDoNotFit, counts);
     const [count, first, last] = [crossings.length, crossings[0], crossings[crossings.length - 1]];
     if (count === 0) return say(texts.sectorTheyCrossNowhere, { codes });
-    const isUser = first >= USER_OFFSET && last < USER_OFFSET + USER_SIZE;
-    const [from, to] = [first, last].map(at => String(isUser ? at - USER_OFFSET : at));
-    const at = count > 1 ? told(texts.sectorBytesFromTo, { first: from, last: to }) : from;
-    const place = isUser ? say(texts.sectorOffsetIs, { offset: term('offset', texts.sectorOffsetWord), at })
-        : told(texts.sectorByteOfSector, { at });
+    const place = placeWords(first, last);
     return count > 1 ? say(texts.sectorTheyCross, { codes, count: String(count), place }) : say(texts.sectorTheyCrossOnce, { codes,
         place });
 }
@@ -69,12 +83,12 @@ function crossingWords({ crossings, ...counts }, either) {
 function remedies(app, block) {
     const copies = repairOf(app, block);
     if (copies === 'taken' || copies === 'doubtful') return [soundCopy(app, copies)];
-    const said = rebuildWords(app, block);
+    const message = rebuildWords(app, block);
     const verb = () => ({ verb: mono('rebuild') });
     const rebuild = button('slim', () => addRebuild(app, block),
-        element('span', {}, ...say(said === '' ? texts.sectorAddToScript : texts.sectorIsInScript, verb())));
-    setDisabled(rebuild, said !== '');
-    return [noCopy(app, copies), element('div', { class: 'row' }, repairButton(app), rebuild), said !== '' && element('p', {}, said),
+        element('span', {}, ...say(message === '' ? texts.sectorAddToScript : texts.sectorIsInScript, verb())));
+    setDisabled(rebuild, message !== '');
+    return [noCopy(app, copies), element('div', { class: 'row' }, repairButton(app), rebuild), message !== '' && element('p', {}, message),
         element('p', { class: 'small quiet' }, ...say(texts.sectorRebuildHidesDamage, verb()))];
 }
 
@@ -117,7 +131,7 @@ function repairButton(app) {
 function rebuildWords({ script }, block) {
     const { rebuilds, writes } = firstLinesOf(script, block);
     if (rebuilds === 0 || (writes > 0 && writes < rebuilds)) return '';
-    return told(writes > 0 ? texts.sectorRebuildsBeforeChange : texts.sectorRebuildsNow, { line: String(rebuilds),
+    return format(writes > 0 ? texts.sectorPatchComesFirst : texts.sectorRebuildsNow, { line: String(rebuilds),
         patch: rebuildLine(block) });
 }
 
@@ -134,7 +148,7 @@ function rebuildLine(block) {
 function addRebuild(app, block) {
     if (rebuildWords(app, block) !== '') return;
     app.addLines([rebuildLine(block)], '', firstLinesOf(app.script, block).writes);
-    announce(rebuildWords(app, block) || told(texts.sectorInTheScript, { line: rebuildLine(block) }));
+    announce(rebuildWords(app, block) || format(texts.sectorInTheScript, { line: rebuildLine(block) }));
 }
 
 function soundSector() {
@@ -163,13 +177,30 @@ function otherKind(app, block, sector) {
     const { survey } = app;
     const lost = survey !== null && survey.marks.marks[block - survey.block] === MARK.LOST;
     const noSync = app.calls.kind(sector.subarray(0, SECTOR_SIZE)) === SECTOR_KIND.NOSYNC;
+    const copies = repairOf(app, block);
+    const found = survey === null ? 0 : survey.mode2[block - survey.block];
+    const isMode2 = app.calls.kind(sector.subarray(0, SECTOR_SIZE)) === SECTOR_KIND.MODE2;
+    if (!lost && isMode2) return mode2Sector(app, block, found, copies);
     if (!lost) {
         return element('div', { class: 'say thin' }, element('b', {}, noSync ? texts.sectorHasNoSync : texts.sectorIsNotModeOne),
             noSync && `${texts.sectorIsAudioOrUnknown} `, texts.sectorOnlyLookedAt);
     }
-    const copies = repairOf(app, block);
     return element('div', { class: 'say bad thin' }, element('b', {}, noSync ? texts.sectorHasLostSync : texts.sectorHasLostMode),
         texts.sectorNoPatchRepairsThat,
         ...copies === 'taken' || copies === 'doubtful' ? [soundCopy(app, copies)]
             : [noCopy(app, copies), element('div', { class: 'row' }, repairButton(app))]);
+}
+
+/**
+ * @param {App} app
+ * @param {number} block
+ * @param {number} found a sum of MODE2
+ * @param {ReturnType<typeof repairOf>} copies
+ */
+function mode2Sector(app, block, found, copies) {
+    const isTaken = copies === 'taken' || copies === 'doubtful';
+    const isBad = isDamagedMode2(found);
+    return element('div', { class: `say ${isBad ? 'bad' : isSoundMode2(found) ? 'good' : ''} thin` }, element('b', {}, mode2Verdict(found)),
+        ` ${texts.sectorOnlyLookedAt}`, isTaken && soundCopy(app, copies),
+        isBad && !isTaken && noCopy(app, copies), isBad && !isTaken && element('div', { class: 'row' }, repairButton(app)));
 }

@@ -2,22 +2,23 @@
 
 import { RECORD, RECORD_SIZE } from '../../core/module/index.js';
 import { addressText, findingOf } from '../../core/sectors/index.js';
-import { MARK, lookOfKind } from '../app/index.js';
+import { MARK, lookOfKind, mode2Finding } from '../app/index.js';
 import * as texts from '../texts/index.js';
-import { told } from '../texts/index.js';
+import { format } from '../texts/index.js';
 
 /** @typedef {import('../../core/module/calls.js').Calls} Calls */
 /** @typedef {import('../app/state.js').App} App */
 /** @typedef {import('../app/state.js').Surveyed} Surveyed */
 
 /**
- * The text that `cdpatch audit` prints for a sector after its block, or ''.
+ * The finding in a sector, or '': for Mode 1 the text that `cdpatch audit` prints after its block.
  * @param {Calls} calls
  * @param {Surveyed} survey
  * @param {number} sector
  */
-export function findingAt(calls, { block, records }, sector) {
-    return findingOf(calls, block + sector, records.subarray(sector * RECORD_SIZE, (sector + 1) * RECORD_SIZE));
+export function findingAt(calls, { block, records, mode2 }, sector) {
+    const record = records.subarray(sector * RECORD_SIZE, (sector + 1) * RECORD_SIZE);
+    return findingOf(calls, block + sector, record) || mode2Finding(mode2[sector]);
 }
 
 /**
@@ -30,9 +31,9 @@ export function sectorWords(app, survey, sector) {
     if (sector >= survey.known) return { kind: texts.discSectorNotRead, finding: '', codes: '', bad: false, damaged: false };
     const { name, words: kind = name } = lookOfKind(survey.records[sector * RECORD_SIZE + RECORD.KIND]);
     const mark = survey.marks.marks[sector];
-    const codes = mark === MARK.LOST ? texts.discLostInModeOne : findingAt(app.calls, survey, sector);
+    const codes = mark === MARK.LOST ? texts.discLostInTrack : findingAt(app.calls, survey, sector);
     const damaged = mark === MARK.EDC || mark === MARK.PARITY;
-    const finding = damaged ? told(texts.discIsDamagedBy, { codes }) : codes;
+    const finding = damaged ? format(texts.discIsDamagedBy, { codes }) : codes;
     return { kind, finding, codes, bad: codes !== '', damaged: damaged || mark === MARK.LOST };
 }
 
@@ -44,12 +45,4 @@ export function sectorWords(app, survey, sector) {
 export function addressOf({ calls }, block) {
     const address = calls.address(block);
     return address === null ? '' : addressText(address);
-}
-
-/**
- * All Mode 1 sectors in words, with their number.
- * @param {number} count
- */
-export function modeOneSectors(count) {
-    return told(texts.discModeOneSectors, { n: count });
 }

@@ -1,8 +1,7 @@
 // Reads the files that were opened.
 
 import { cancelled } from '../../core/faults.js';
-import * as texts from '../texts/index.js';
-import { told } from '../texts/index.js';
+import { format, playerTexts } from '../texts/index.js';
 import { isCancelled, shownName } from '../ui/index.js';
 import { ownFault } from '../../sentences/index.js';
 
@@ -21,7 +20,7 @@ const PASSED_OVER = 1 << 20;
  * @param {string} name
  */
 function fileGone(name) {
-    return ownFault(told(texts.openFileIsGone, { name: shownName(name) }));
+    return ownFault(format(playerTexts.openFileIsGone, { name: shownName(name) }));
 }
 
 /**
@@ -43,7 +42,7 @@ export function fileReader(file) {
  * @param {{ aborted: boolean }} signal which ends a read even if no worker answers
  * @returns {Reader}
  */
-export function readByHands(reader, crew, signal) {
+export function readByWorkers(reader, crew, signal) {
     const { lent } = reader;
     const file = fileOf(reader);
     if (file === null || lent === undefined) return reader;
@@ -116,7 +115,7 @@ class SlicesAhead {
     async read(at, length) {
         while (this.slices.length > 0 && (at < this.slices[0].from || at >= this.slices[0].to)) this.slices.shift();
         if (this.slices.length === 0) this.begin(at, length);
-        while (this.row > 1 && this.slices.length <= SLICES_AHEAD && this.last().to < this.size) this.ask(this.last().to, SLICE_SIZE);
+        while (this.row > 1 && this.slices.length <= SLICES_AHEAD && this.last().to < this.size) this.request(this.last().to, SLICE_SIZE);
         const [{ from, bytes }] = this.slices;
         const part = (await bytes).subarray(at - from, at - from + length);
         this.end = at + part.length;
@@ -130,14 +129,14 @@ class SlicesAhead {
     begin(at, length) {
         const isOn = at >= this.end && at - this.end <= PASSED_OVER;
         this.row = isOn ? this.row + 1 : 0;
-        this.ask(at, isOn ? Math.max(length, SLICE_SIZE) : length);
+        this.request(at, isOn ? Math.max(length, SLICE_SIZE) : length);
     }
 
     /**
      * @param {number} from
      * @param {number} length
      */
-    ask(from, length) {
+    request(from, length) {
         const bytes = this.cut(from, length);
         bytes.catch(() => {}); // the error is thrown when the slice is used
         this.slices.push({ from, to: Math.min(from + length, this.size), bytes });

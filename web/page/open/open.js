@@ -10,13 +10,14 @@ import { imageTooLong } from '../../core/sectors/index.js';
 import { OpenedTrack, openTrack } from '../../core/tasks/index.js';
 import { isLong } from '../app/index.js';
 import * as texts from '../texts/index.js';
-import { say, told } from '../texts/index.js';
+import { format, playerTexts, say } from '../texts/index.js';
 import { button, byId, copyable, element, endMessages, fill, messageParts, nameOf, namesOf, nextTurn } from '../ui/index.js';
 import { refuseWhileSaving, showFailure, showNotice } from '../ui/index.js';
 import { mountChoosing } from './choosing.js';
 import { exampleFile } from './example.js';
 import { fileReader } from './file_reader.js';
 import { takeSecond } from './second_sheet.js';
+import { discsAmong } from './several.js';
 import { readImage } from './survey_image.js';
 
 /** @typedef {import('../../core/disc/disc.js').Disc} Disc */
@@ -90,7 +91,7 @@ async function useWaiting(app, waiting) {
  */
 function sayWaiting(app, waiting) {
     const [names, n] = [waiting.map(({ name }) => name), waiting.length];
-    showNotice('plain', say(texts.openWaitForImage, { names: namesOf(names), n }), told(texts.openThenTheyAreUsed, { n }),
+    showNotice('plain', say(texts.openWaitForImage, { names: namesOf(names), n }), format(texts.openThenTheyAreUsed, { n }),
         element('div', { class: 'row' }, button('slim', () => app.choose(''), texts.scriptOpenTheImage)));
 }
 
@@ -171,10 +172,14 @@ async function openImages(app, files) {
     if (refuseWhileSaving(app, names)) return NOTHING;
     const different = new Set(names.map(name => name.toLowerCase())).size;
     if (different < names.length) throw new Fault('disc/own', { sentence: texts.openSameName });
-    const two = files.length === 2 && (await Promise.all(files.map(file => isRawImage(app, file)))).every(it => it);
+    const { areMany, areTwo: two } = await discsAmong(app, files);
+    if (areMany) {
+        app.services.list(files);
+        return NOTHING;
+    }
     if (two && app.image !== null) {
         const [one, other] = names;
-        throw new Fault('disc/own', { sentence: told(texts.openIsOpenAlready, { name: app.image.name, one, other }) });
+        throw new Fault('disc/own', { sentence: format(texts.openIsOpenAlready, { name: app.image.name, one, other }) });
     }
     const images = [];
     for (const group of two ? [[files[0]], [files[1]]] : [files]) images.push(await openedImage(app, group));
@@ -193,16 +198,8 @@ function sayLeftOut(files, image) {
     const taken = [image.from, ...image.disc.files.map(({ name }) => name)];
     const names = files.map(file => file.name).filter(name => !taken.includes(name));
     if (names.length === 0) return;
-    showNotice('warn', say(texts.notOpened, { names: namesOf(names) }),
+    showNotice('warn', say(playerTexts.notOpened, { names: namesOf(names) }),
         ...say(texts.openSheetLacks, { n: names.length, sheet: nameOf(image.from) }));
-}
-
-/**
- * @param {App} app
- * @param {File} file
- */
-async function isRawImage({ calls }, file) {
-    return await kindOfFile(calls, fileReader(file)) === 'raw';
 }
 
 /**
@@ -229,7 +226,7 @@ export function imageOfTrack(disc, sheet, number, renamed = new Map()) {
     const opened = audio === null ? openTrack(disc, { track: number }) : new OpenedTrack(disc, audio);
     const { image, part, track } = opened;
     if (imageTooLong(image.reader.size)) {
-        throw new Fault('disc/own', { sentence: told(texts.openTooManySectors, { most: MOST_SECTORS, name: image.name }) });
+        throw new Fault('disc/own', { sentence: format(texts.openTooManySectors, { most: MOST_SECTORS, name: image.name }) });
     }
     return { ...image, opened, part, from: disc.sheet || '', sheet, disc, number: track.number, sha1: '', crc32: '', renamed };
 }
@@ -261,7 +258,7 @@ async function showOpeningFailure(app, files, error) {
     }
     if (failedBy(error, 'disc/missing-files')) return showFailure(error);
     const names = [...files.map(file => file.name), app.image ? app.image.name : ''];
-    return showNotice('bad', texts.openNotOpenedYet, ...messageParts(error, names));
+    return showNotice('bad', playerTexts.openNotOpenedYet, ...messageParts(error, names));
 }
 
 /**

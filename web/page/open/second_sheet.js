@@ -3,7 +3,7 @@
 import { commonPart, isSameRange, trackBeside } from '../../core/tasks/index.js';
 import * as texts from '../texts/index.js';
 import { say } from '../texts/index.js';
-import { asked, nameOf, refuseWhileSaving } from '../ui/index.js';
+import { askUser, nameOf, refuseWhileSaving } from '../ui/index.js';
 import { fileOf, isSameFile } from './file_reader.js';
 import { countedAs, readImage } from './survey_image.js';
 
@@ -60,7 +60,7 @@ function askFor({ survey }, image, second, words) {
     const isPossible = { repair: canRepair, swap: canRepair, compare: isSameRange(image, second), instead: true };
     const possible = jobs.filter(([job]) => isPossible[job]);
     const main = isPossible.repair && isDamaged ? 'repair' : isPossible.compare ? 'compare' : 'instead';
-    return asked(say(texts.openWhatToDoWith, { name: nameOf(second.name) }), words, possible, main);
+    return askUser(say(texts.openWhatToDoWith, { name: nameOf(second.name) }), words, possible, main);
 }
 
 /**

@@ -39,6 +39,8 @@ async function surveyBy(app, image, signal, read) {
     try {
         await read(answer => app.addToSurvey(survey, answer), track.shift);
         const found = await foundInSurvey(track, survey);
+        survey.mode2 = found.mode2Found;
+        survey.marks.addMode2(found.mode2Found);
         survey.marks.lose(found.lost);
         survey.lack = found.lack;
         if (signal.aborted) throw cancelled();
@@ -56,7 +58,7 @@ async function surveyBy(app, image, signal, read) {
  */
 async function surveyOnly(app, image, signal) {
     const how = { base: image.base, signal };
-    await surveyBy(app, image, signal, (take, shift) => app.crew.share('survey', [image.reader], { shift }, how, take));
+    await surveyBy(app, image, signal, (take, shift) => app.crew.share('survey', [image.reader], { shift, mode2: true }, how, take));
     await listFiles(app, image, signal);
 }
 

@@ -4,8 +4,7 @@ import { readBytes } from '../../core/bytes.js';
 import { kindOfFile, openDisc } from '../../core/disc/index.js';
 import { textOfFile } from '../../core/encodings/index.js';
 import { fileReader } from '../open/index.js';
-import * as texts from '../texts/index.js';
-import { say } from '../texts/index.js';
+import { playerTexts as texts, say } from '../texts/index.js';
 import { messageParts, nameOf, notice } from '../ui/index.js';
 
 /** @typedef {import('../app/state.js').App} App */
@@ -60,7 +59,7 @@ export class ChosenDisc {
     }
 
     /**
-     * The notice on why files are not an image to patch.
+     * Returns a function that writes the notice on why files are not an image to patch, in the current language.
      * @param {unknown} error
      * @param {File[]} files
      */
@@ -68,7 +67,7 @@ export class ChosenDisc {
         const names = files.map(file => file.name);
         const kinds = await this.kinds(files);
         const iso = names[kinds.indexOf('iso')];
-        return iso === undefined ? notice('bad', texts.openNotOpenedYet, ...messageParts(error, names))
+        return () => iso === undefined ? notice('bad', texts.openNotOpenedYet, ...messageParts(error, names))
             : notice('bad', say(texts.playerIsoOfPartSectors, { name: nameOf(iso) }), texts.playerNeedsFullDump);
     }
 }

@@ -4,8 +4,7 @@ import { kindOfFile } from '../../core/disc/index.js';
 import { isScript } from '../../core/script/index.js';
 import { releaseOf } from '../app/index.js';
 import { fileReader } from '../open/index.js';
-import * as texts from '../texts/index.js';
-import { say, told } from '../texts/index.js';
+import { format, knownLanguage, playerTexts as texts, say, setLanguage } from '../texts/index.js';
 import { byId, clearNotices, element, nameOf, notice, refuseWhileSaving, sentence, showNotice } from '../ui/index.js';
 import { pageSource } from './own_text.js';
 import { comparedWithPage, readPatcherText } from './patcher.js';
@@ -28,10 +27,12 @@ export async function mountPatchers(app) {
     await wholeDocument();
     const text = byId('data').textContent || '';
     if (text.trim() === '') return;
+    setLanguage(knownLanguage(navigator.languages));
     try {
-        showPlayer(app, await readPatcherText(app.calls, text), { note: null, back: null });
+        showPlayer(app, await readPatcherText(app.calls, text), { note: () => null, back: null });
     } catch (error) {
-        showNotice('bad', texts.playerPatcherUnusable, told(texts.playerGetPatcherAgain, { fault: sentence(error) }));
+        showNotice('bad', texts.playerPatcherUnusable, format(texts.playerGetPatcherAgain, { fault: sentence(error) }));
+        setLanguage('en');
     }
 }
 
@@ -97,13 +98,13 @@ async function showCompared(app, { same, text }, release, file) {
     const name = nameOf(file.name);
     try {
         const data = await readPatcherText(app.calls, text);
-        const note = same ? notice('good', say(texts.playerThisCdpatch, { name }),
+        const note = () => same ? notice('good', say(texts.playerThisCdpatch, { name }),
             `${texts.playerOnlyPatchRead} ${texts.playerComparisonSaysNothing}`)
             : release !== '' ? notice('good', say(texts.playerReleaseOfCdpatch, { release, name }),
                 `${texts.playerEarlierRelease} ${texts.playerOnlyPatchReadHere} ${texts.playerComparisonSaysNothing}`)
             : notice('warn', say(texts.playerNotThisCdpatch, { name }),
                 `${texts.playerOtherVersionOrChanged} ${texts.playerOnlyPatchReadHere}`);
-        showPlayer(app, data, { note: element('div', { id: 'compared' }, note), back: null });
+        showPlayer(app, data, { note: () => element('div', { id: 'compared' }, note()), back: null });
     } catch (error) {
         showNotice('bad', say(texts.playerPatcherFileUnusable, { name }), `${sentence(error)}.`);
     }

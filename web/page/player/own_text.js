@@ -1,13 +1,14 @@
 // Rebuilds the page's own text from the parts of its document. Each part is recognised by its content, wherever it is.
 
 import { OWN } from '../app/index.js';
-import * as texts from '../texts/index.js';
+import { playerTexts as texts } from '../texts/index.js';
 import { checksum } from './patcher.js';
 import { ownFault } from '../../sentences/index.js';
 
 /** @typedef {import('../../core/module/calls.js').Calls} Calls */
 
-const SCRIPT_HASH = /^sha256-[A-Za-z0-9+/]{43}=$/;
+/** The hashes of the loader and of the script, between two quotes of the policy. */
+const HASHES = /^sha256-[A-Za-z0-9+/]{43}=' 'sha256-[A-Za-z0-9+/]{43}=$/;
 
 /**
  * @param {Calls} calls
@@ -21,7 +22,7 @@ function isOwnStyle(calls, text) {
 /** @param {string} text of a policy */
 function isOwnPolicy(text) {
     const [before, after] = OWN.policy;
-    return text.startsWith(before) && text.endsWith(after) && SCRIPT_HASH.test(text.slice(before.length, text.length - after.length));
+    return text.startsWith(before) && text.endsWith(after) && HASHES.test(text.slice(before.length, text.length - after.length));
 }
 
 /**
@@ -43,7 +44,7 @@ function ownParts(calls) {
 export function pageSource(calls) {
     const { style, policy } = ownParts(calls);
     const [before, toStyle, toScript, after] = OWN.html;
-    return [before, policy, toStyle, style, toScript, JOINED.script, after].join('');
+    return [before, policy, toStyle, style, toScript, JOINED.loader, after].join('');
 }
 
 /**

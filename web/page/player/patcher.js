@@ -5,17 +5,19 @@ import { ByteList } from '../../core/bytes.js';
 import { Fault, failedBy } from '../../core/faults.js';
 import { MOST_SCRIPT_BYTES } from '../../core/module/index.js';
 import { Sha1, bytesOfBase64 } from '../app/index.js';
-import * as texts from '../texts/index.js';
+import { playerTexts as texts } from '../texts/index.js';
 import { hexOf } from '../ui/index.js';
 import { headFault, isImageName, takenHead } from './patcher_head.js';
 
 /** @typedef {import('../../core/module/calls.js').Calls} Calls */
+/** @typedef {import('../texts/language.js').Language} Language */
 
 /**
  * The data of a patcher. `cue` is the text of a cue sheet that names the patched image, or ''. `carry` says whether damaged sectors are
- * patched too. `image` identifies the image that it was made for, and `result` is the SHA-1 of the author's patched image.
+ * patched too. `image` identifies the image that it was made for, and `result` is the SHA-1 of the author's patched image. `language` is
+ * the one that the author chose for the page; without it the player's browser decides.
  * @typedef {{ title: string, author: string, note: string, name: string, cue: string, carry: boolean, base: number,
- *     image: { size: number, sha1: string }, result: string, script: string }} PatcherData
+ *     image: { size: number, sha1: string }, result: string, script: string, language?: Language }} PatcherData
  */
 
 const LARGEST_HEAD = 1 << 20;

@@ -3,8 +3,7 @@
 import { sheetOf } from '../../core/disc/index.js';
 import { LAST_BASE, MOST_SECTORS, SECTOR_SIZE } from '../../core/module/index.js';
 import { sheetNaming } from '../save/index.js';
-import * as texts from '../texts/index.js';
-import { told } from '../texts/index.js';
+import { format, isLanguage, playerTexts as texts } from '../texts/index.js';
 
 /** @typedef {import('./patcher.js').PatcherData} PatcherData */
 
@@ -29,7 +28,11 @@ const HEAD_FORM = {
     base: value => isCount(value, LAST_BASE),
     image: value => hasMembers(value, ['size', 'sha1']) && isCount(value.size, MOST_SECTORS * SECTOR_SIZE) && isSha1(value.sha1),
     result: isSha1,
+    language: isLanguage,
 };
+
+/** The member that a head may lack. */
+const OPTIONAL = 'language';
 
 /**
  * @param {unknown} value
@@ -73,9 +76,10 @@ function hasMembers(value, names) {
  * @param {any} head
  */
 export function headFault(head) {
-    if (!hasMembers(head, Object.keys(HEAD_FORM))) return texts.playerHeadWithOtherMembers;
-    const wrong = Object.keys(HEAD_FORM).find(name => !HEAD_FORM[name](head[name]));
-    return wrong ? told(texts.playerHeadWithWrongMember, { member: wrong }) : '';
+    const names = Object.keys(HEAD_FORM).filter(name => name !== OPTIONAL || Object.keys(Object(head)).includes(name));
+    if (!hasMembers(head, names)) return texts.playerHeadWithOtherMembers;
+    const wrong = names.find(name => !HEAD_FORM[name](head[name]));
+    return wrong ? format(texts.playerHeadWithWrongMember, { member: wrong }) : '';
 }
 
 /**

@@ -1,9 +1,8 @@
 // Explains to players how to play the image that was saved.
 
-import { copyWords, downloadText, otherFiles, sheetNaming } from '../save/index.js';
-import * as texts from '../texts/index.js';
-import { say } from '../texts/index.js';
-import { button, element, fill, icon, nameOf, notice } from '../ui/index.js';
+import { copyWords, otherFiles, savingSheet, sheetNaming } from '../save/index.js';
+import { playerTexts as texts, say } from '../texts/index.js';
+import { button, element, fill, nameOf, notice } from '../ui/index.js';
 
 /** @typedef {import('../ui/fill.js').Child} Child */
 
@@ -50,15 +49,15 @@ export function wordsWithoutSheet(name, sheet, take) {
  * @returns {Child[]}
  */
 function sheetChooser(take) {
-    const said = element('div', { role: 'status' });
+    const message = element('div', { role: 'status' });
     /** @type {HTMLInputElement} */
     const input = element('input', { type: 'file', id: 'player-sheet', class: 'hide', tabindex: -1, 'aria-label': texts.playerYourCueSheet,
         change: async () => {
             const [file] = [...input.files || []];
             input.value = '';
-            if (file && !await take(file)) fill(said, notice('bad', say(texts.playerIsNoSheetOfImage, { name: nameOf(file.name) })));
+            if (file && !await take(file)) fill(message, notice('bad', say(texts.playerOtherSheet, { name: nameOf(file.name) })));
         } });
-    return [button('slim', () => input.click(), texts.playerChooseYourSheet), input, said];
+    return [button('slim', () => input.click(), texts.playerChooseYourSheet), input, message];
 }
 
 /**
@@ -69,11 +68,6 @@ function sheetChooser(take) {
  * @returns {Child[]}
  */
 function sheetSaver(name, sheet, label) {
-    const sheetName = name.replace(/(\.[^.]*)?$/, '.cue');
-    const saved = element('div', { role: 'status' });
-    return [button('main big', () => {
-        downloadText(sheet, sheetName);
-        fill(saved, element('p', { class: 'verdict good-ink' }, icon('tick'),
-            element('span', {}, ...say(texts.playerSheetSaved, { name: nameOf(sheetName) }))));
-    }, label), saved];
+    const { save, saved } = savingSheet(sheet, name.replace(/(\.[^.]*)?$/, '.cue'));
+    return [button('main big', save, label), saved];
 }

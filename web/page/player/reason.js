@@ -1,30 +1,39 @@
 // The verdict on a player's image in words, with its reasons.
 
 import { RESULT } from '../../core/module/index.js';
-import * as texts from '../texts/index.js';
-import { told } from '../texts/index.js';
-import { element } from '../ui/index.js';
+import { format, playerTexts as texts } from '../texts/index.js';
+import { element, verdictLine } from '../ui/index.js';
 
 /** @typedef {import('./verdict.js').Judged} Judged */
 
-/** @type {Record<import('./verdict.js').Verdict, ['good' | 'warn' | 'bad', string]>} */
-export const VERDICTS = {
-    right: ['good', texts.playerRightDisc],
-    fits: ['warn', texts.playerOtherDumpFits],
-    unknown: ['warn', texts.playerNotAuthorsDisc],
-    other: ['bad', texts.playerOtherDumpFitsNot],
-    damaged: ['bad', texts.playerDumpDamaged],
-    patched: ['good', texts.playerImageIsPatched],
-    changed: ['warn', texts.playerPlacesHoldNewBytes],
-};
+/** For each verdict, its tone, and the key of its text. */
+const VERDICTS = /** @type {const} */ ({
+    right: ['good', 'playerRightDisc'],
+    fits: ['warn', 'playerOtherDumpFits'],
+    unknown: ['warn', 'playerNotAuthorsDisc'],
+    other: ['bad', 'playerOtherDumpFitsNot'],
+    damaged: ['bad', 'playerDumpDamaged'],
+    patched: ['good', 'playerImageIsPatched'],
+    changed: ['warn', 'playerPlacesHoldNewBytes'],
+});
 
-/** For each result, why places refuse their patch, and what that suggests. */
+/** For each result, the keys of why places refuse their patch, and of what that suggests. */
 const VERDICT_REASONS = /** @type {const} */ ([
-    [RESULT.DIFFERS, texts.playerHoldOtherBytes, texts.playerOtherReleaseProbably],
-    [RESULT.DAMAGED, texts.playerAreDamaged, texts.playerTryAnotherDump],
-    [RESULT.NOT_MODE1, texts.playerHoldNoData, texts.playerOtherTrackOrDisc],
-    [RESULT.NO_BLOCK, texts.playerNotInThisImage, texts.playerOtherTrackOrCut],
+    [RESULT.DIFFERS, 'playerHoldOtherBytes', 'playerOtherReleaseProbably'],
+    [RESULT.DAMAGED, 'playerAreDamaged', 'playerTryAnotherDump'],
+    [RESULT.NOT_MODE1, 'playerHoldNoData', 'playerOtherTrackOrDisc'],
+    [RESULT.NO_BLOCK, 'playerNotInThisImage', 'playerOtherTrackOrCut'],
 ]);
+
+/**
+ * A verdict as a paragraph, and its tone.
+ * @param {import('./verdict.js').Verdict} verdict
+ * @param {string | null} [id] if it is a status for screen readers
+ */
+export function verdictWords(verdict, id = null) {
+    const [tone, key] = VERDICTS[verdict];
+    return { tone, words: verdictLine(tone, texts[key], id) };
+}
 
 /**
  * Why a patch does not match.
@@ -33,10 +42,10 @@ const VERDICT_REASONS = /** @type {const} */ ([
  * @param {Record<number, string>} [advices] the advice for each result, in place of the one for players
  */
 export function reasonsOf(patches, refused, advices = {}) {
-    const places = told(texts.playerPlacesOfPatch, { n: patches });
+    const places = format(texts.playerPlacesOfPatch, { n: patches });
     return VERDICT_REASONS.flatMap(([result, words, advice]) => {
         const count = refused.filter(it => it === result).length;
-        return count === 0 ? [] : [`${told(words, { n: count, places })} ${advices[result] ?? advice}`.trimEnd()];
+        return count === 0 ? [] : [`${format(texts[words], { n: count, places })} ${advices[result] ?? texts[advice]}`.trimEnd()];
     });
 }
 
@@ -58,13 +67,13 @@ export function refusalForPlayer({ patches, refused }, size, wanted) {
  * @param {number} wanted the size of the author's
  */
 export function reasonForPlayer({ verdict, patches, without, damaged }, size, wanted) {
-    const sizes = size === wanted ? '' : told(texts.playerSizesDiffer, { n: size, wanted });
-    const hurt = damaged === 0 ? '' : told(texts.playerSectorsOfImageDamaged, { n: damaged });
-    const named = without === 0 ? told(texts.playerPlacesMatchRestUnknown, { n: patches })
-        : told(texts.playerNamesNoOldBytes, { n: without, changes: told(texts.playerChangesOfPatch, { n: patches }) });
+    const sizes = size === wanted ? '' : format(texts.playerSizesDiffer, { n: size, wanted });
+    const hurt = damaged === 0 ? '' : format(texts.playerSectorsOfImageDamaged, { n: damaged });
+    const named = without === 0 ? format(texts.playerPlacesMatchRestUnknown, { n: patches })
+        : format(texts.playerNamesNoOldBytes, { n: without, changes: format(texts.playerPatchCount, { n: patches }) });
     /** @type {Record<string, string[]>} */
     const reasons = {
-        fits: [told(texts.playerPlacesMatch, { n: patches }), hurt === '' ? texts.playerMusicShiftedPerhaps : texts.playerRestDiffers,
+        fits: [format(texts.playerPlacesMatch, { n: patches }), hurt === '' ? texts.playerMusicShiftedPerhaps : texts.playerRestDiffers,
             hurt],
         unknown: [named, sizes, hurt],
         changed: [texts.playerNotAuthorsResult, sizes],

@@ -8,8 +8,7 @@ import { surveyCounts } from '../../core/sectors/index.js';
 import { openTrack } from '../../core/tasks/index.js';
 import { sha1Of } from '../app/index.js';
 import { isPatched, tryWork } from '../save/index.js';
-import * as texts from '../texts/index.js';
-import { told } from '../texts/index.js';
+import { format, playerTexts as texts } from '../texts/index.js';
 
 /** @typedef {import('../app/state.js').App} App */
 /** @typedef {import('../../core/disc/disc.js').Disc} Disc */
@@ -40,7 +39,7 @@ import { told } from '../texts/index.js';
 export function imageOfSize(disc, size) {
     const [file] = disc.files;
     if (disc.sheet === null && disc.tracks[0].image === null) {
-        throw new Fault('disc/own', { sentence: told(texts.playerIsMusicTrack, { name: file.name }) });
+        throw new Fault('disc/own', { sentence: format(texts.playerIsMusicTrack, { name: file.name }) });
     }
     const track = disc.tracks.find(it => it.image !== null && it.image.reader.size === size);
     return (track || openTrack(disc)).image;

@@ -6,10 +6,11 @@ import { isImageName, isPlainSheet, isSeen, patcherText, publishedSource, showPl
 import { download, sheetNaming } from '../save/index.js';
 import { fitWords } from '../script/index.js';
 import * as texts from '../texts/index.js';
-import { say, told } from '../texts/index.js';
-import { askBeforeLeaving, button, element, fill, hashParts, isCancelled, isDisabled, jobBar, nameOf, notice, said } from '../ui/index.js';
-import { sayAt, sentence, setDisabled, stemOf, term } from '../ui/index.js';
-import { proposedName, triedOn } from './trial.js';
+import { LANGUAGES, format, say } from '../texts/index.js';
+import { askBeforeLeaving, button, counted, element, fill, hashParts, isCancelled, isDisabled, jobBar } from '../ui/index.js';
+import { messageArea, nameOf, notice, sentence, setDisabled, showMessageAt, stemOf, term } from '../ui/index.js';
+import { KeptEntries } from './kept.js';
+import { proposedName, triedOn, withStandIns } from './trial.js';
 
 /** @typedef {import('../app/state.js').App} App */
 /** @typedef {import('../app/state.js').Image} Image */
@@ -36,6 +37,8 @@ class PublishPanel {
         this.number = 0;
         this.trying = false;
         this.busy = false;
+        /** The size of the patcher in bytes, but for what is typed; 0 if it is not known. */
+        this.size = 0;
         /** Whether something was typed that is not in a patcher yet. */
         this.edited = false;
         const text = (/** @type {string} */ id) => element('input', { type: 'text', id, maxlength: 200, ...PRIVATE,
@@ -43,12 +46,17 @@ class PublishPanel {
         this.title = text('patcher-title');
         this.author = text('patcher-author');
         this.note = element('textarea', { id: 'patcher-note', rows: 5, maxlength: 20000, ...PRIVATE, input: () => this.typed() });
+        this.kept = new KeptEntries(app, [this.title, this.author, this.note], () => { this.edited = false; });
         this.name = text('patcher-name');
+        this.language = element('select', { id: 'patcher-language', change: () => this.typed() },
+            ...[['', texts.publishBrowserDecides], ...LANGUAGES].map(([value, label]) => element('option', { value, lang: value || null },
+                label)));
         this.sheet = element('input', { type: 'checkbox', id: 'patcher-cue', checked: true });
         this.carry = element('input', { type: 'checkbox', id: 'patcher-carry', change: () => this.forget() });
         this.list = element('div', { class: 'stack tight', role: 'status' });
         this.state = element('div', { class: 'stack' });
-        this.said = said();
+        this.message = messageArea();
+        this.about = element('p', { class: 'small quiet' });
         this.save = button('main', () => this.publish(true), texts.publishSaveAsPatcher);
         this.see = button('', () => this.publish(false), texts.publishSeeAsPlayer);
         panel.append(element('div', { class: 'two even' }, this.form(), element('div', { class: 'side' }, this.savingCard())));
@@ -69,14 +77,18 @@ class PublishPanel {
         return element('section', { class: 'card', 'aria-label': texts.publishPatcherForPlayers },
             element('header', {}, element('h2', {}, texts.publishPatcherForPlayers)),
             element('div', { class: 'pad stack' }, row(texts.publishPatcherTitle, this.title), row(texts.publishPatcherAuthor, this.author),
-                row(texts.publishNoteForPlayers, this.note), row(texts.publishPatchedImageName, this.name), this.cueRow, this.carryRow));
+                row(texts.publishNoteForPlayers, this.note),
+                ...this.kept.parts,
+                row(texts.publishPatchedImageName, this.name),
+                row(texts.publishPatcherLanguage, this.language), this.cueRow, this.carryRow));
     }
 
     savingCard() {
         return element('section', { class: 'card', 'aria-label': texts.publishBeforeYouSave },
             element('header', {}, element('h2', {}, texts.publishBeforeYouSave)),
-            element('div', { class: 'pad stack' }, this.list, this.state, element('div', { class: 'row' }, this.save, this.see), this.said,
-                element('p', { class: 'small quiet' }, texts.publishPatcherIsOneFile),
+            element('div', { class: 'pad stack' },
+                this.list, this.state, element('div', { class: 'row' }, this.save, this.see), this.message,
+                this.about,
                 !OWN.licensed && element('p', { class: 'say warn thin', id: 'no-licence' }, texts.publishNoLicenceYet),
                 element('p', { class: 'small quiet' }, texts.publishScriptSavedElsewhere)));
     }
@@ -93,10 +105,11 @@ class PublishPanel {
 
     /**
      * Fills in the form from the data of a patcher, so that the next one can be made from it.
-     * @param {Pick<PatcherData, 'title' | 'author' | 'note' | 'name' | 'cue' | 'carry'>} data
+     * @param {Pick<PatcherData, 'title' | 'author' | 'note' | 'name' | 'cue' | 'carry' | 'language'>} data
      */
-    take({ title, author, note, name, cue, carry }) {
+    take({ title, author, note, name, cue, carry, language = undefined }) {
         [this.title.value, this.author.value, this.note.value, this.name.value] = [title, author, note, name];
+        this.language.value = language || '';
         this.sheet.checked = cue !== '';
         this.carry.checked = carry;
         if (this.carryRow) this.carryRow.hidden = !carry;
@@ -126,7 +139,8 @@ class PublishPanel {
         this.trying = true;
         try {
             const tried = await triedOn(this.app, image, this.carry.checked);
-            if (number === this.number) this.tried = tried;
+            const { size } = await this.patcher(withStandIns(this.data(image, tried.script, ''))).catch(() => ({ size: 0 }));
+            if (number === this.number) Object.assign(this, { tried, size });
         } catch (error) {
             if (number === this.number) this.fault = sentence(error);
         }
@@ -140,6 +154,8 @@ class PublishPanel {
             element('b', { class: `${tone}-ink` }, SIGNS[tone]), ' ', ...words)));
         const ready = rows.every(([tone]) => tone === 'good' || tone === 'warn');
         for (const it of [this.save, this.see]) setDisabled(it, !ready);
+        fill(this.about, this.tried !== null && this.size > 0
+            && `${format(texts.publishPatcherSize, { size: counted(Math.round(this.size / 1000)) })} `, texts.publishPatcherIsOneFile);
         if (this.cueRow) this.cueRow.hidden = this.app.image === null || this.cueOf(this.app.image) === '';
     }
 
@@ -174,9 +190,9 @@ class PublishPanel {
         const fit = { all: patches, named: patches, refused: new Array(refused).fill(RESULT.DIFFERS), namedRefused: refused };
         const { head } = fitWords(this.app.script.name, name, fit);
         const go = first > 0 && button('slim bare tiny', () => this.app.goToLine(first - 1),
-            told(texts.scriptGoToLine, { line: String(first) }));
+            format(texts.scriptGoToLine, { line: String(first) }));
         return [patches > 0 && refused === 0 ? 'good' : 'bad', ...head, ' ', go,
-            damaged > 0 && ` ${told(texts.publishChangesForDamage, { n: damaged })}`];
+            damaged > 0 && ` ${format(texts.publishChangesForDamage, { n: damaged })}`];
     }
 
     /**
@@ -187,10 +203,10 @@ class PublishPanel {
     warnings(image, tried) {
         /** @type {[boolean, 'bad' | 'warn', string][]} */
         const all = [
-            [!isImageName(this.name.value.trim()), 'bad', told(texts.publishPatchedNameRule, { signs: SIGNS_OF_PATHS })],
+            [!isImageName(this.name.value.trim()), 'bad', format(texts.publishPatchedNameRule, { signs: SIGNS_OF_PATHS })],
             [image.sheet !== '' && this.cueOf(image) === '', 'warn', texts.publishCueSheetNotOffered],
             [this.carry.checked, 'warn', texts.publishDamagedPatchedToo],
-            [tried.old > 0, 'warn', told(texts.publishOldBytesFromGame, { n: tried.old })],
+            [tried.old > 0, 'warn', format(texts.publishOldBytesFromGame, { n: tried.old })],
         ];
         return all.flatMap(([is, tone, words]) => is ? [[tone, words]] : []);
     }
@@ -201,20 +217,20 @@ class PublishPanel {
         const { image } = app;
         if (image === null || tried === null || this.busy || isDisabled(this.save)) return;
         this.busy = true;
-        fill(this.said);
+        fill(this.message);
         try {
-            await app.run(async (signal, cancel) => {
+            await app.runJob(async (signal, cancel) => {
                 const bar = jobBar(texts.publishCalculatingResultSha1, cancel);
                 this.say(element('p', {}, texts.publishCalculatingForPlayers), ...bar.parts);
                 const result = await sha1Of(app.parts, tried.result, signal, done => bar.at(done, tried.result.size));
                 const data = this.data(image, tried.script, result);
                 this.say();
                 if (saving) await this.saveAs(data);
-                else showPlayer(app, data, { note: '', back: () => app.showPanel('publish') });
+                else showPlayer(app, data, { note: () => null, back: () => app.showPanel('publish') });
             });
         } catch (error) {
             this.say();
-            sayAt(this.said, isCancelled(error) ? notice('plain', texts.discJobCancelled, texts.publishNoPatcherSaved)
+            showMessageAt(this.message, isCancelled(error) ? notice('plain', texts.discJobCancelled, texts.publishNoPatcherSaved)
                 : notice('bad', sentence(error), texts.publishNoPatcherSaved));
         } finally {
             this.busy = false;
@@ -229,8 +245,9 @@ class PublishPanel {
      */
     data(image, script, result) {
         const name = this.name.value.trim();
-        return { title: this.title.value.trim(), author: this.author.value.trim(), note: this.note.value, name,
-            carry: this.carry.checked, base: image.base,
+        const language = /** @type {PatcherData['language']} */ (this.language.value || undefined);
+        return { ...this.kept.entries(), name,
+            carry: this.carry.checked, base: image.base, ...language && { language },
             cue: this.sheet.checked ? this.cueOf(image) : '',
             image: { size: image.reader.size, sha1: image.sha1 }, result, script };
     }
@@ -245,11 +262,16 @@ class PublishPanel {
     }
 
     /** @param {PatcherData} data */
+    async patcher(data) {
+        return new Blob([publishedSource(this.app.calls), await patcherText(this.app.calls, data)], { type: 'text/html' });
+    }
+
+    /** @param {PatcherData} data */
     async saveAs(data) {
         const name = `${stemOf(data.title) || 'patcher'}.html`;
-        download(new Blob([publishedSource(this.app.calls), await patcherText(this.app.calls, data)], { type: 'text/html' }), name);
+        download(await this.patcher(data), name);
         this.edited = false;
-        sayAt(this.said, notice('good', say(texts.discFileSaved, { name: nameOf(name) }), texts.publishPlayersOpenIt));
+        showMessageAt(this.message, notice('good', say(texts.discFileSaved, { name: nameOf(name) }), texts.publishPlayersOpenIt));
     }
 }
 
@@ -261,7 +283,7 @@ function soundRow(survey) {
     if (survey === null || !survey.over) return ['quiet', texts.publishReadingYourImage];
     if (survey.ended === 0) return ['bad', texts.publishNotReadToEnd];
     const findings = survey.marks.findings();
-    return findings === 0 ? ['good', texts.publishYourImageSound] : ['warn', told(texts.publishYourImageHasFindings, { n: findings })];
+    return findings === 0 ? ['good', texts.publishYourImageSound] : ['warn', format(texts.publishYourImageHasFindings, { n: findings })];
 }
 
 /** @type {Record<string, string>} */

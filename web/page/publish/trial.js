@@ -27,6 +27,17 @@ export function proposedName(name) {
 /** How many characters of an image's name are kept in the proposed name if it would be too long. */
 const LONGEST_PROPOSED = 100;
 
+/** Stands for a hash that is not known yet. */
+const NO_HASH = '0'.repeat(40);
+
+/**
+ * The data of a patcher with stand-ins for those that are not known or not typed yet, so that its size can be calculated.
+ * @param {import('../player/patcher.js').PatcherData} data
+ */
+export function withStandIns(data) {
+    return { ...data, title: 'x', name: 'x.bin', image: { ...data.image, sha1: NO_HASH }, result: NO_HASH };
+}
+
 /**
  * Tries the script on the image.
  * @param {App} app

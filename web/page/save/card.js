@@ -6,15 +6,14 @@ import { RESULT } from '../../core/module/index.js';
 import { sha1Of, sumsOf } from '../app/index.js';
 import { fileReader, readImage } from '../open/index.js';
 import * as texts from '../texts/index.js';
-import { counted, say, told } from '../texts/index.js';
+import { counted, format, playerTexts, say } from '../texts/index.js';
 import { askBeforeLeaving, button, element, fill, hashParts, isCancelled, jobBar, messageOf, nameOf, namesOf } from '../ui/index.js';
 import { notice } from '../ui/index.js';
 import { otherFiles, sheetNaming } from './cue_rewrite.js';
-import { downloadText } from './files_out.js';
 import { saveWork } from './patch_job.js';
 import { adviceOf } from './refused.js';
 import { patchedName } from './save.js';
-import { copyWords } from './sheet_words.js';
+import { copyWords, savingSheet } from './sheet_words.js';
 
 /** @typedef {import('../app/state.js').App} App */
 /** @typedef {import('../app/state.js').Image} Image */
@@ -43,7 +42,7 @@ export class SaveCard {
         /** The SHA-1 of the image that was saved last. */
         this.sum = Promise.resolve('');
         this.checked = element('div', { role: 'status' });
-        this.said = element('div');
+        this.message = element('div');
         /** Shows that the file was written to its end. */
         this.sayWhole = () => {};
     }
@@ -94,8 +93,8 @@ export class SaveCard {
         const oneTrack = image.sheet === '' ? isOneTrack(this.app.calls, image.part).catch(() => false) : Promise.resolve(false);
         try {
             const saved = await this.app.runSave((signal, cancel) => {
-                const bar = jobBar(texts.saveSavingImage, cancel, { saves: true });
-                this.show(say(texts.saveSavingFile, { name: nameOf(name) }), ...bar.parts,
+                const bar = jobBar(playerTexts.saveSavingImage, cancel, { saves: true });
+                this.show(say(playerTexts.saveSavingFile, { name: nameOf(name) }), ...bar.parts,
                     element('p', { class: 'small quiet' }, texts.saveAfterCancel));
                 this.leaving = true;
                 const watch = { signal, progress: bar.at, accept: async () => void await oneTrack };
@@ -127,20 +126,23 @@ export class SaveCard {
         const what = () => refused === 0 ? nameOf(name)
             : say(texts.saveFileWithout, { name: nameOf(name), refused: String(refused), n: made.outcomes.length });
         const tone = refused === 0 ? 'good' : 'warn';
-        this.sayWhole = () => fill(this.said, notice(tone, say(texts.discFileSaved, { name: what() }), texts.saveOtherBytesAsBefore));
+        this.sayWhole = () => fill(this.message, notice(tone, say(texts.discFileSaved, { name: what() }), texts.saveOtherBytesAsBefore));
         if (streamed) this.sayWhole();
-        else fill(this.said, notice(tone, say(texts.saveBrowserIsSaving, { name: what() }), texts.saveKeepPageOpenOnly));
+        else fill(this.message, notice(tone, say(playerTexts.saveBrowserIsSaving, { name: what() }), texts.saveKeepPageOpenOnly,
+            element('div', { class: 'row' }, button('slim', () => this.noteWhole(), texts.saveIsComplete))));
         this.app.noteSaved(image, name);
         const sheet = oneTrack ? sheetOfOneTrack(name) : sheetNaming(image.sheet, image.renamed);
-        const sheetName = image.disc.files.length > 1 ? patchedName(image.from) : name.replace(/(\.[^.]*)?$/, '.cue');
+        const { save, saved: sheetSaved } = savingSheet(sheet, image.disc.files.length > 1 ? patchedName(image.from)
+            : name.replace(/(\.[^.]*)?$/, '.cue'));
         fill(this.checked, !streamed && element('p', { class: 'small quiet' }, texts.saveDropToCheck));
-        this.show(streamed ? texts.saveImageSaved : texts.saveSavingByBrowser, this.said,
+        this.show(streamed ? texts.saveImageSaved : texts.saveSavingByBrowser, this.message,
             element('dl', { class: 'hashes' }, element('dt', {}, texts.saveSizeOfSaved), element('dd', {}, counted(size)),
                 ...this.sumsOf(saved)),
             this.checked, ...sheetWords(image, name, sheet),
-            element('div', { class: 'row' }, sheet !== '' && button('main next', () => downloadText(sheet, sheetName), texts.saveCueSheet),
+            element('div', { class: 'row' },
+                sheet !== '' && button('main next', save, playerTexts.saveCueSheet),
                 file && button('', () => this.openNew(file), texts.saveOpenNewImage),
-                button(sheet === '' ? 'next' : '', () => this.close(), texts.saveBackToCheck)));
+                button(sheet === '' ? 'next' : '', () => this.close(), texts.saveBackToCheck)), sheetSaved);
     }
 
     /**
@@ -165,7 +167,7 @@ export class SaveCard {
             return [element('dt', {}, 'SHA-1'), sha1];
         }
         const sums = sumsOf(this.app, fileReader(file), { aborted: false }, done => {
-            sha1.textContent = told(texts.saveHashPercent, { percent: Math.floor(100 * done / saved.size) });
+            sha1.textContent = format(texts.saveHashPercent, { percent: Math.floor(100 * done / saved.size) });
         });
         this.sum = sums.then(it => it.sha1);
         sums.then(it => {
@@ -186,7 +188,7 @@ export class SaveCard {
         const { saved } = this;
         if (saved === null || !this.shown() || file.name.replace(/ ?\(\d+\)(?=\.|$)/, '') !== saved.name) return false;
         const wrong = file.size === saved.size ? ''
-            : told(texts.saveNotSavedToEnd, { size: file.size, wanted: saved.size });
+            : format(texts.saveNotSavedToEnd, { size: file.size, wanted: saved.size });
         const sha1 = wrong ? '' : await sha1Of(this.app.parts, fileReader(file), { aborted: false }, () => {});
         const right = sha1 !== '' && sha1 === await this.sum;
         if (this.saved !== saved) return true;
@@ -198,13 +200,16 @@ export class SaveCard {
         fill(this.checked, right
             ? notice('good', say(texts.saveSavedFileRight, { name }), texts.saveSumsMatch, element('div', { class: 'row' }, open))
             : notice('bad', say(texts.saveSavedFileWrong, { name }), wrong || texts.saveSumDiffersSaveAgain));
-        this.leaving = this.leaving && !right;
-        if (right) {
-            this.sayWhole();
-            this.title = [texts.saveImageSaved];
-            this.drawTitle();
-        }
+        if (right) this.noteWhole();
         return true;
+    }
+
+    /** Notes that the browser has saved the whole file. */
+    noteWhole() {
+        this.leaving = false;
+        this.sayWhole();
+        this.title = [texts.saveImageSaved];
+        this.drawTitle();
     }
 }
 
@@ -216,10 +221,10 @@ export class SaveCard {
  * @returns {Child[]}
  */
 function sheetWords({ sheet: own, renamed }, name, sheet) {
-    const quiet = (/** @type {Child[]} */ ...said) => element('p', { class: 'small quiet' }, ...said);
+    const quiet = (/** @type {Child[]} */ ...message) => element('p', { class: 'small quiet' }, ...message);
     if (sheet === '') return [own === '' && quiet(texts.saveOldSheetNamesOld)];
     const saved = [...renamed.values()].filter(it => it !== name);
-    return [element('p', {}, texts.saveEmulatorOpensSheet), own === '' && quiet(texts.playerSheetOfOneTrack, ' ',
+    return [element('p', {}, texts.saveEmulatorOpensSheet), own === '' && quiet(playerTexts.playerSheetOfOneTrack, ' ',
         texts.saveOldSheetNamesOld),
         saved.length > 0 && quiet(...say(texts.saveSheetNamesOthers, { names: namesOf(saved) })),
         copyWords(otherFiles(sheet, name).filter(it => !saved.includes(it)))];
@@ -231,13 +236,13 @@ function sheetWords({ sheet: own, renamed }, name, sheet) {
  * @param {number} size
  */
 export function failureOfSaving(error, size) {
-    if (isCancelled(error)) return notice('plain', texts.discJobCancelled, texts.saveNoImageKept);
+    if (isCancelled(error)) return notice('plain', playerTexts.saveCancelled, playerTexts.saveNoImageKept);
     if (failedBy(error, 'unwritten')) {
         const { full, done = 0 } = error.facts;
         const percent = size === 0 ? 0 : Math.floor(100 * done / size);
-        return notice('bad', full ? told(texts.saveDiskIsFull, { percent }) : told(texts.saveWritingFailed, { percent,
+        return notice('bad', full ? format(playerTexts.saveDiskIsFull, { percent }) : format(playerTexts.saveWritingFailed, { percent,
             why: messageOf(error) }),
-            texts.saveNoImageKept);
+            playerTexts.saveNoImageKept);
     }
-    return notice('bad', messageOf(error), adviceOf(error, texts.saveNoImageKept));
+    return notice('bad', messageOf(error), adviceOf(error, playerTexts.saveNoImageKept));
 }

@@ -1,8 +1,7 @@
 // Lets the user choose a file to write, and refuses files that are open.
 
 import { fileOf, isSameFile } from '../open/index.js';
-import * as texts from '../texts/index.js';
-import { told } from '../texts/index.js';
+import { format, playerTexts } from '../texts/index.js';
 import { shownName } from '../ui/index.js';
 import { chosenFile } from './files_out.js';
 import { workRefused } from './refused.js';
@@ -28,7 +27,7 @@ export async function chosenOther(name, readers, opened) {
     const alike = own && sameName(own, chosen) ? [] : opened.filter(it => sameName(it, chosen));
     if (alike.length === 0) return chosen;
     if (before.size === 0 && chosen.remove && alike.every(it => it.size > 0)) await chosen.remove().catch(() => {});
-    throw workRefused(told(texts.saveOpenFileHasName, { name: shownName(chosen.name) }), texts.saveNothingSavedChooseName);
+    throw workRefused(format(playerTexts.saveOpenFileHasName, { name: shownName(chosen.name) }), playerTexts.saveNothingSavedChooseName);
 }
 
 /**
@@ -47,6 +46,6 @@ function sameName(one, other) {
 function assertOther(chosen, reader) {
     const own = fileOf(reader);
     if (own && isSameFile(chosen, own)) {
-        throw workRefused(told(texts.saveIsOpenImage, { name: shownName(own.name) }), texts.saveNeverWrittenOver);
+        throw workRefused(format(playerTexts.saveIsOpenImage, { name: shownName(own.name) }), playerTexts.saveNeverWrittenOver);
     }
 }

@@ -1,6 +1,6 @@
 // Gives files to the user: as a stream to a chosen file if the browser supports that, else as a download.
 
-import * as texts from '../texts/index.js';
+import { playerTexts } from '../texts/index.js';
 import { element } from '../ui/index.js';
 import { ownFault } from '../../sentences/index.js';
 
@@ -42,7 +42,7 @@ export async function chosenFile(name) {
     } catch (error) {
         const kind = error instanceof DOMException ? error.name : '';
         if (kind === 'AbortError') return null;
-        throw kind === 'SecurityError' ? ownFault(texts.saveAsksAfterClick) : error;
+        throw kind === 'SecurityError' ? ownFault(playerTexts.saveAsksAfterClick) : error;
     }
 }
 

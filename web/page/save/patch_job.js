@@ -5,14 +5,13 @@ import { failedBy } from '../../core/faults.js';
 import { MOST_SCRIPT_BYTES, MOST_SECTORS, SECTOR_SIZE, STATUS } from '../../core/module/index.js';
 import { pieceReader } from '../../core/piece_reader.js';
 import { readerForTwo } from '../../core/read_ahead.js';
-import { NEAR_HELD, NEAR_WRITTEN } from '../../core/script/index.js';
+import { BETWEEN_HELD, BETWEEN_WRITTEN } from '../../core/script/index.js';
 import { imageTooLong } from '../../core/sectors/index.js';
 import { applyInMemory, applyScript, validScript } from '../../core/tasks/index.js';
 import { ownFault } from '../../sentences/index.js';
 import { RunningHash } from '../app/index.js';
-import { readByHands } from '../open/index.js';
-import * as texts from '../texts/index.js';
-import { remarkText, told } from '../texts/index.js';
+import { readByWorkers } from '../open/index.js';
+import { format, playerTexts, remarkText } from '../texts/index.js';
 import { capital, nextTurn } from '../ui/index.js';
 import { canStream } from './files_out.js';
 import { saveImage } from './pieces.js';
@@ -51,15 +50,15 @@ async function readWork({ calls }, script) {
  * @returns {never}
  */
 function refuse(error) {
-    if (failedBy(error, 'script/other-base')) throw workRefused(`${capital(remarkText(error))}.`, texts.saveSetSaidBase);
+    if (failedBy(error, 'script/other-base')) throw workRefused(`${capital(remarkText(error))}.`, playerTexts.saveSetSaidBase);
     if (!failedBy(error, 'script/refused')) throw error;
-    if (!error.facts.tooLong) throw workRefused(remarkText(error), texts.saveCorrectLineFirst);
-    throw workRefused(texts.saveScriptTooLong, told(texts.saveMostScriptBytes, { most: MOST_SCRIPT_BYTES }));
+    if (!error.facts.tooLong) throw workRefused(remarkText(error), playerTexts.saveCorrectLineFirst);
+    throw workRefused(playerTexts.saveScriptTooLong, format(playerTexts.saveMostScriptBytes, { most: MOST_SCRIPT_BYTES }));
 }
 
 /** @param {Reader} reader of an image */
 export function assertNotTooLong({ size }) {
-    if (imageTooLong(size)) throw workRefused(texts.saveImageTooLong, told(texts.saveMostSectors, { most: MOST_SECTORS }));
+    if (imageTooLong(size)) throw workRefused(playerTexts.saveImageTooLong, format(playerTexts.saveMostSectors, { most: MOST_SECTORS }));
 }
 
 /**
@@ -81,7 +80,7 @@ export async function tryWork(app, { reader, base, script, carry }, watch) {
  * @param {PatchWatch} watch
  */
 export function checkWork(app, work, watch) {
-    return tryWork(app, { ...work, reader: readByHands(work.reader, app.crew, watch.signal) }, watch);
+    return tryWork(app, { ...work, reader: readByWorkers(work.reader, app.crew, watch.signal) }, watch);
 }
 
 /**
@@ -90,7 +89,7 @@ export function checkWork(app, work, watch) {
  * @param {PatchWork} work
  */
 export async function patchedWork(app, { reader, base, script, carry }) {
-    const image = { reader: readByHands(reader, app.crew, { aborted: false }), base };
+    const image = { reader: readByWorkers(reader, app.crew, { aborted: false }), base };
     const { outcomes, pieces } = await applyInMemory(app, image, await readWork(app, script), { carry }).catch(refuse);
     return { outcomes, result: pieceReader(reader, pieces) };
 }
@@ -129,12 +128,12 @@ export async function saveWork(app, { reader, base, carry, script, opened = [] }
     const { signal, accept, progress } = watch;
     const making = async () => {
         const read = await readWork(app, script);
-        const image = { reader: readByHands(reader, app.crew, signal), base };
+        const image = { reader: readByWorkers(reader, app.crew, signal), base };
         // A download is written only after all its pieces are collected, so its progress is that of reading.
         const reading = { signal, progress: (/** @type {number} */ sectors) => progress(sectors * SECTOR_SIZE, reader.size) };
-        const [near, seen] = canStream() ? [NEAR_WRITTEN, {}] : [NEAR_HELD, reading];
+        const [mostBetween, seen] = canStream() ? [BETWEEN_WRITTEN, {}] : [BETWEEN_HELD, reading];
         return async (/** @type {Take} */ take) => {
-            made.push(await applyScript(app, image, read, { carry, near, take }, seen).catch(refuse));
+            made.push(await applyScript(app, image, read, { carry, mostBetween, take }, seen).catch(refuse));
         };
     };
     const hash = wanted === '' ? null : new RunningHash(app.parts);
@@ -157,7 +156,7 @@ function comparing(hash, wanted) {
         seen: (/** @type {Uint8Array} */ bytes) => hash.add(bytes.slice()),
         async accept() {
             if (await hash.end() === wanted) return;
-            throw ownFault(texts.saveNotTheAuthorsImage);
+            throw ownFault(playerTexts.saveNotTheAuthorsImage);
         },
     };
 }

@@ -3,7 +3,7 @@
 
 import { extentOf, pieceWithin, readBytes, readInto } from '../../core/bytes.js';
 import { newBytes } from '../../core/faults.js';
-import { NEAR_WRITTEN } from '../../core/script/index.js';
+import { BETWEEN_WRITTEN } from '../../core/script/index.js';
 
 /** @typedef {import('../../core/bytes.js').Reader} Reader */
 /** @typedef {import('../../core/bytes.js').Piece} Piece */
@@ -17,7 +17,7 @@ import { NEAR_WRITTEN } from '../../core/script/index.js';
 
 const MOST_IN_REGION = 1 << 24;
 /** Patched sectors with fewer bytes between them are written as one part, and slices with fewer bytes between them are one read. */
-const PART_COST = NEAR_WRITTEN;
+const PART_COST = BETWEEN_WRITTEN;
 
 /** Cuts pieces, which are pushed in order, into regions. */
 export class RegionCutter {

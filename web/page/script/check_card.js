@@ -3,9 +3,9 @@
 import { RESULT } from '../../core/module/index.js';
 import { SaveCard, adviceOf, checkWork, isPatched } from '../save/index.js';
 import * as texts from '../texts/index.js';
-import { say, told } from '../texts/index.js';
+import { format, playerTexts, say } from '../texts/index.js';
 import { announce, button, element, fill, isCancelled, jobBar, messageOf, nameOf, nextTurn, notice, setDisabled } from '../ui/index.js';
-import { term } from '../ui/index.js';
+import { term, verdictLine } from '../ui/index.js';
 import { fitOf, fitWords, isShownToFit, namingOld } from './fit_words.js';
 
 /** @typedef {import('../app/state.js').App} App */
@@ -76,20 +76,20 @@ export class CheckCard {
         if (this.saving.shown()) return fill(this.card, ...this.saving.parts());
         const { lines } = this.owner;
         const took = this.patched !== null && this.seconds >= 0.05
-            && element('span', { class: 'tag' }, told(texts.inSeconds, { seconds: this.seconds.toFixed(1) }));
+            && element('span', { class: 'tag' }, format(playerTexts.inSeconds, { seconds: this.seconds.toFixed(1) }));
         fill(this.head, element('h2', {}, texts.scriptCheckScript), took);
         fill(this.card, this.head, this.body);
         if (this.app.image === null) return fill(this.body, lines.faults > 0 && this.faults(),
             element('p', {}, texts.scriptOpenPatchedImage),
             element('div', { class: 'row' }, button('main', () => this.app.choose('play'), texts.scriptOpenTheImage)));
         const ready = lines.faults === 0 && lines.head >= 0;
-        const check = button(this.patched ? 'again' : 'main', () => this.check(), this.patched ? texts.scriptCheckAgain
+        const check = button(this.patched ? 'next' : 'main', () => this.check(), this.patched ? texts.scriptCheckAgain
             : texts.scriptCheckScript);
         const apply = this.applyButton();
         for (const it of [check, apply]) setDisabled(it, !ready);
-        const said = lines.faults > 0 ? [this.faults()] : this.outcomes(apply);
+        const parts = lines.faults > 0 ? [this.faults()] : this.outcomes(apply);
         const row = element('div', { class: 'row' }, check, !this.patched && apply);
-        return fill(this.body, this.failure, ...said, this.carryRow, row, element('p', { class: 'small quiet' }, ...this.footnote(ready)));
+        return fill(this.body, this.failure, ...parts, this.carryRow, row, element('p', { class: 'small quiet' }, ...this.footnote(ready)));
     }
 
     /** The button that saves. It is the main button only if all patches match, and old bytes of the image show that. */
@@ -98,8 +98,8 @@ export class CheckCard {
         const apply = () => this.apply();
         if (fit === null || fit.refused.length === fit.all) return button('', apply, texts.scriptApplyAndSave);
         const [isShown, n] = [isShownToFit(fit), fit.all - fit.refused.length];
-        if (n === fit.all) return button(isShown ? 'main' : '', apply, texts.scriptApplyAndSave);
-        return button('', apply, told(isShown ? texts.playerSaveWithFitting : texts.scriptSaveWithOthers, { n }));
+        if (n === fit.all) return button(isShown ? 'main next' : '', apply, texts.scriptApplyAndSave);
+        return button('', apply, format(isShown ? playerTexts.playerSaveWithFitting : texts.scriptSaveWithOthers, { n }));
     }
 
     faults() {
@@ -108,11 +108,11 @@ export class CheckCard {
         const wrong = [];
         for (let i = lines.nextWrong(-1, 1); wrong.length < Math.min(MOST_NAMED, lines.faults); i = lines.nextWrong(i, 1)) wrong.push(i);
         const [named, more] = [wrong.map(i => String(i + 1)), lines.faults - wrong.length];
-        const list = new Intl.ListFormat(texts.LANGUAGE).format(more > 0 ? [...named, told(texts.scriptMoreLines, { n: more })] : named);
+        const list = new Intl.ListFormat(texts.LANGUAGE).format(more > 0 ? [...named, format(texts.scriptMoreLines, { n: more })] : named);
         const parts = { n: lines.faults, lines: list };
-        return notice('bad', told(texts.scriptLinesHaveFault, parts),
-            `${texts.scriptNotAppliedAtAll} ${told(texts.scriptFaultyLines, parts)}`,
-            element('div', { class: 'row' }, button('slim', () => goTo(wrong[0]), told(texts.scriptGoToLine, { line: named[0] }))));
+        return notice('bad', format(texts.scriptLinesHaveFault, parts),
+            `${texts.scriptNotAppliedAtAll} ${format(texts.scriptFaultyLines, parts)}`,
+            element('div', { class: 'row' }, button('slim', () => goTo(wrong[0]), format(texts.scriptGoToLine, { line: named[0] }))));
     }
 
     /**
@@ -123,23 +123,17 @@ export class CheckCard {
         const { lines } = this.owner;
         if (this.patched === null) {
             if (lines.patches === 0 && !lines.long) return [element('p', {}, texts.scriptNoChangeYet)];
-            return [element('p', {}, lines.long ? texts.scriptCheckTriesAll : told(texts.scriptCheckTries, { n: lines.patches }))];
+            return [element('p', {}, lines.long ? texts.scriptCheckTriesAll : format(texts.scriptCheckTries, { n: lines.patches }))];
         }
         const fit = this.fit(this.patched);
         const [refused, applied] = [fit.refused.length, fit.all - fit.refused.length];
-        const tally = (/** @type {string} */ looks, /** @type {Child[]} */ [before, count, after]) =>
-            element('div', { class: looks }, before, element('b', {}, count), after);
         const first = lines.nextWrong(lines.lines.length - 1, 1);
         const { tone, head, rest } = this.fitWords(fit);
-        if (this.already) return [notice(tone, head, ...rest)];
-        const saves = applied > 0 || refused === 0;
-        return [notice(tone, head, ...rest, saves && element('div', { class: 'row' }, apply)),
-            refused > 0 && element('div', { class: 'tally' }, applied > 0 && (isShownToFit(fit)
-                ? tally('good-ink', say(texts.scriptCountFits, { n: applied })) : tally('', say(texts.scriptCountCanBeApplied,
-                    { n: applied }))),
-                tally('bad-ink', say(texts.scriptCountDoesNotFit, { n: refused }))),
-            first >= 0 && element('div', { class: 'row next' },
-                button('slim', () => this.owner.goTo(first), told(texts.scriptGoToLine, { line: String(first + 1) })))];
+        const line = { line: String(first + 1) };
+        const go = first >= 0 && button('main next', () => this.owner.goTo(first), format(texts.scriptGoToLine, line));
+        const buttons = this.already ? [] : [go, (applied > 0 || refused === 0) && apply];
+        return [element('div', { class: `say stack tight ${tone}`, role: 'status' }, verdictLine(tone, head),
+            rest.length > 0 && element('p', {}, ...rest), buttons.length > 0 && element('div', { class: 'row' }, ...buttons))];
     }
 
     /**
@@ -153,7 +147,7 @@ export class CheckCard {
         if (this.already || (applied === 0 && outcomes.length > 0)) return [];
         const name = this.app.image ? this.app.image.name : '';
         const isWhole = applied === outcomes.length || (this.patched !== null && !isShownToFit(this.fit(this.patched)));
-        const saves = isWhole ? texts.scriptSavesNewImage : told(texts.scriptSavesWhatFits, { n: applied });
+        const saves = isWhole ? texts.scriptSavesNewImage : format(texts.scriptSavesWhatFits, { n: applied });
         return [`${saves} `, ...say(texts.scriptStaysAsItIs, { name: element('b', {}, nameOf(name)) })];
     }
 
@@ -192,7 +186,7 @@ export class CheckCard {
         await nextTurn();
         await this.check();
         const { card } = this;
-        const next = card.querySelector('.say .btn.main') || card.querySelector('.next .btn') || card.querySelector('.btn.again');
+        const next = card.querySelector('.btn.next');
         if (next && document.activeElement === document.body) /** @type {HTMLElement} */ (next).focus({ preventScroll: true });
     }
 

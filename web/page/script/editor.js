@@ -3,7 +3,7 @@
 
 import { VERB } from '../../core/module/index.js';
 import * as texts from '../texts/index.js';
-import { told } from '../texts/index.js';
+import { format } from '../texts/index.js';
 import { element } from '../ui/index.js';
 import { chosenHelps } from './helps.js';
 import { colored } from './line_parts.js';
@@ -77,8 +77,8 @@ export class ScriptEditor {
         const [isNarrow, hasHelp, hasTexts] = [width < NARROW_EDITOR, this.helps.size > 0, this.owner.hasTexts()];
         this.tops = new Float64Array(lines.length + 1);
         for (let i = 0; i < lines.length; i++) {
-            const said = (isNarrow ? this.saidHeight(i, width, hasTexts) : 0) + (hasHelp ? this.helpHeight(i) : 0);
-            this.tops[i + 1] = this.tops[i] + ROW_HEIGHT + said + (i === this.current ? typed : 0);
+            const extra = (isNarrow ? this.messagesHeight(i, width, hasTexts) : 0) + (hasHelp ? this.helpHeight(i) : 0);
+            this.tops[i + 1] = this.tops[i] + ROW_HEIGHT + extra + (i === this.current ? typed : 0);
         }
         this.list.style.height = `${this.tops[lines.length]}px`;
     }
@@ -90,7 +90,7 @@ export class ScriptEditor {
      * @param {number} width of the editor
      * @param {boolean} hasTexts whether the texts that lines write are shown
      */
-    saidHeight(i, width, hasTexts) {
+    messagesHeight(i, width, hasTexts) {
         const { patch } = this.lines.lines[i];
         const wrong = this.lines.isWrong(i);
         const beside = (hasTexts && patch !== null && patch.verb === VERB.SET) || (!wrong && this.lines.outcomes.has(i + 1));
@@ -147,7 +147,7 @@ export class ScriptEditor {
     row(i) {
         const chosen = this.isChosen(i) ? ' chosen' : '';
         const made = element('li', { class: (this.lines.isWrong(i) ? 'bad' : '') + chosen }, ...this.margin(i),
-            element('span', { class: 'src' }, ...colored(this.lines, i)), ...this.said(i));
+            element('span', { class: 'src' }, ...colored(this.lines, i)), ...this.messagesAt(i));
         made.dataset.line = String(i);
         made.style.top = `${this.tops[i]}px`;
         made.style.minHeight = `${this.tops[i + 1] - this.tops[i] - this.helpHeight(i)}px`;
@@ -168,7 +168,7 @@ export class ScriptEditor {
      * The right side of a line: the texts that it writes, and its message.
      * @param {number} i
      */
-    said(i) {
+    messagesAt(i) {
         const words = this.lines.wordsAt(i);
         return [element('span', { class: 'texts' }, ...this.owner.texts(i)),
             element('span', { class: `out ${this.lines.isWrong(i) ? 'bad-ink' : 'good-ink'}`, title: words || null }, words)];
@@ -190,15 +190,15 @@ export class ScriptEditor {
         const wrong = this.lines.isWrong(i);
         const words = this.lines.wordsAt(i);
         if (this.area.value !== text) this.area.value = text;
-        const where = told(texts.scriptLineOfScript, { line: String(i + 1), all: String(this.lines.lines.length) });
-        this.area.setAttribute('aria-label', words ? told(texts.scriptLineSays, { where, words }) : where);
+        const where = format(texts.scriptLineOfScript, { line: String(i + 1), all: String(this.lines.lines.length) });
+        this.area.setAttribute('aria-label', words ? format(texts.scriptLineSays, { where, words }) : where);
         this.now.className = `now${wrong ? ' bad' : ''}${this.isChosen(i) ? ' chosen' : ''}`;
         if (this.area.parentNode === null) this.now.append(element('span', { class: 'src' }, this.area));
         const source = /** @type {Element} */ (this.area.parentNode);
         while (source.previousSibling) source.previousSibling.remove();
         while (source.nextSibling) source.nextSibling.remove();
         source.before(...this.margin(i));
-        source.after(...this.said(i));
+        source.after(...this.messagesAt(i));
         this.area.style.height = `${ROW_HEIGHT}px`;
         this.area.style.height = `${Math.max(this.area.scrollHeight, ROW_HEIGHT)}px`;
     }
@@ -245,13 +245,13 @@ export class ScriptEditor {
      * Replaces lines, and moves the caret.
      * @param {number} at
      * @param {number} count
-     * @param {string[]} come
+     * @param {string[]} inserted
      * @param {number} line
      * @param {number} column
      */
-    edit(at, count, come, line, column) {
+    edit(at, count, inserted, line, column) {
         this.anchor = -1;
-        this.lines.edit(at, count, come);
+        this.lines.edit(at, count, inserted);
         this.current = Math.min(line, this.lines.lines.length - 1);
         this.draw();
         this.goTo(line, column);

@@ -163,11 +163,11 @@ function unselect(editor) {
 
 /**
  * @param {ScriptEditor} editor
- * @param {string[]} come
+ * @param {string[]} inserted
  */
-function removeChosen(editor, come) {
+function removeChosen(editor, inserted) {
     const [first, last] = chosen(editor);
-    editor.edit(first, last - first + 1, come, first, 0);
+    editor.edit(first, last - first + 1, inserted, first, 0);
     return true;
 }
 

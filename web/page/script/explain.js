@@ -5,7 +5,7 @@ import { CONTENT, isFault } from '../../core/module/index.js';
 import { wordsOf } from '../../core/script/index.js';
 import { chosenEncoding } from '../text/index.js';
 import * as texts from '../texts/index.js';
-import { say, told } from '../texts/index.js';
+import { format, say } from '../texts/index.js';
 import { element, fill, shownPaths, shownText, term } from '../ui/index.js';
 import { helpOfFault, patchInWords } from './plain_words.js';
 
@@ -14,7 +14,7 @@ import { helpOfFault, patchInWords } from './plain_words.js';
 /** @typedef {import('../ui/fill.js').Child} Child */
 
 const MOST_BYTES_SHOWN = 400;
-const EXAMPLE = 'set 4711 26 5374617274 was 8358835E81';
+const EXAMPLE = 'set 4711 26 5374617274202020 was 8358835E815B8367';
 
 /** @type {Record<string, string>} words in texts that open a note */
 const NOTED = { block: texts.scriptBlockWord, offset: texts.sectorOffsetWord };
@@ -27,7 +27,7 @@ const NOTED = { block: texts.scriptBlockWord, offset: texts.sectorOffsetWord };
  * @param {Element} strip
  */
 export function explainLine(app, lines, i, strip) {
-    fill(strip, element('b', {}, `${told(texts.scriptLineMeans, { line: String(i + 1) })} `), ...meaningOf(app, lines, i));
+    fill(strip, element('b', {}, `${format(texts.scriptLineMeans, { line: String(i + 1) })} `), ...meaningOf(app, lines, i));
 }
 
 /**
@@ -47,7 +47,7 @@ function meaningOf(app, lines, i) {
     }
     const files = app.files ? filesAt(app.files.files, patch.block, patch.offset) : [];
     return [...withTerms(patchInWords(patch, shownPaths(files, texts.scriptAndAnotherFile))),
-        lines.isWrong(i) && element('b', { class: 'bad-ink' }, ` ${told(texts.scriptPatchIsRefused, { words: lines.wordsAt(i) })}`),
+        lines.isWrong(i) && element('b', { class: 'bad-ink' }, ` ${format(texts.scriptPatchIsRefused, { words: lines.wordsAt(i) })}`),
         pairOf(app, patch)];
 }
 

@@ -4,7 +4,7 @@ import { RESULT } from '../../core/module/index.js';
 import { patchesOf } from '../../core/script/index.js';
 import { reasonsOf } from '../player/index.js';
 import * as texts from '../texts/index.js';
-import { say, told } from '../texts/index.js';
+import { format, say } from '../texts/index.js';
 import { nameOf } from '../ui/index.js';
 
 /** @typedef {import('../ui/fill.js').Child} Child */
@@ -80,14 +80,14 @@ export function fitWords(name, image, fit) {
             rest: say(texts.scriptChangesStandThere, { script: parts.script, n: all }) };
     }
     if (left === all) return { tone: 'bad', head: say(texts.scriptNoChangeFits, { ...parts, n: all }), rest: [whyNot(fit)] };
-    const without = left === 0 ? [] : [whyNot(fit), told(texts.scriptSavedWithout, { n: left })];
+    const without = left === 0 ? [] : [whyNot(fit), format(texts.scriptSavedWithout, { n: left })];
     if (named === 0) {
         return { tone: 'warn', head: say(texts.scriptNothingShowsFit, { ...parts, n: all }),
-            rest: [[told(texts.scriptNamesNone, { n: all }), ...without].join(' ')] };
+            rest: [[format(texts.scriptNamesNone, { n: all }), ...without].join(' ')] };
     }
     if (!isShownToFit(fit)) {
         return { tone: 'bad', head: say(texts.scriptNoNamedFits, { ...parts, n: named }),
-            rest: [`${whyNot(fit)} ${told(texts.scriptOthersNameNone, { n: all - named })}`] };
+            rest: [`${whyNot(fit)} ${format(texts.scriptOthersNameNone, { n: all - named })}`] };
     }
     if (left === 0) return { tone: 'good', head: say(texts.scriptAllChangesFit, { ...parts, n: all }), rest: [] };
     return { tone: 'warn', head: say(texts.scriptSomeChangesFit, { ...parts, fitting: all - left, all, n: left }),

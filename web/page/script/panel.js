@@ -4,9 +4,9 @@ import { LONG } from '../app/index.js';
 import { downloadText } from '../save/index.js';
 import { chosenEncoding } from '../text/index.js';
 import * as texts from '../texts/index.js';
-import { say, told } from '../texts/index.js';
-import { askBeforeLeaving, button, byId, clearNotices, copyButton, element, fill, keyed, nameOf } from '../ui/index.js';
-import { notice, said, setDisabled, showNotice } from '../ui/index.js';
+import { format, say } from '../texts/index.js';
+import { askBeforeLeaving, askUser, button, byId, clearNotices, copyButton, element, fill, keyed, nameOf } from '../ui/index.js';
+import { messageArea, notice, showNotice } from '../ui/index.js';
 import { CheckCard } from './check_card.js';
 import { ScriptEditor } from './editor.js';
 import { listenToEditor, takeBackBytes, turnBack } from './editor_input.js';
@@ -52,7 +52,7 @@ class ScriptPanel {
         });
         this.strip = element('div', { class: 'explain', 'aria-live': 'off' });
         this.unshown = element('div');
-        this.undoing = { bar: element('div', { class: 'pad stack' }), said: said('pad') };
+        this.undoing = { bar: element('div', { class: 'pad stack' }), message: messageArea('pad') };
         this.head = element('header', {});
         this.log = element('section', { class: 'card', 'aria-label': texts.scriptLogOfCheck, hidden: true });
         this.side = element('div', { class: 'side' });
@@ -60,7 +60,7 @@ class ScriptPanel {
             change: () => this.open() });
         listenToEditor(this.editor);
         panel.append(element('div', { class: 'two script' }, element('section', { class: 'card', 'aria-label': texts.scriptCard },
-            this.head, this.undoing.bar, this.undoing.said, this.unshown, this.editor.box, this.strip), this.side), this.opening);
+            this.head, this.undoing.bar, this.undoing.message, this.unshown, this.editor.box, this.strip), this.side), this.opening);
         panel.addEventListener('keydown', event => this.pressed(event));
         this.load(null);
         this.listen();
@@ -137,21 +137,18 @@ class ScriptPanel {
     }
 
     drawHead() {
-        const { lines, app } = this;
+        const { lines } = this;
         const { name } = lines;
         const fault = lines.faults > 0;
-        const undo = button('slim bare', () => void makeUndo(app, undo, this.undoing, lines, this.check.carry.checked),
-            texts.scriptUndoScript);
-        setDisabled(undo, fault || app.image === null || (lines.patches === 0 && !lines.long));
         fill(this.head, element('h2', { class: name ? 'mono' : '' }, name ? nameOf(name) : texts.scriptNewScript),
             element('span', { class: `tag${fault ? ' bad' : ''}` }, this.amount()),
             this.isLost() && element('span', { class: 'tag warn' }, texts.scriptNotSaved),
             button('slim bare', () => this.opening.click(), texts.frameOpenOther),
-            keyed('save', button('slim bare', () => this.save(), texts.scriptSaveScript)), undo);
+            keyed('save', button('slim bare', () => void this.saveEither(), texts.discSaveReport)));
         const count = byId('count-script');
         count.hidden = !fault && lines.patches === 0;
         count.className = `count${fault ? ' bad' : ''}`;
-        const [before, n, after] = say(fault ? texts.scriptFaultsOfScript : texts.scriptChangesOfScript, { n: lines.faults ||
+        const [before, n, after] = say(fault ? texts.scriptFaultsOfScript : texts.scriptPatchCount, { n: lines.faults ||
             lines.patches });
         fill(count, before, n, element('span', { class: fault ? 'long' : 'hide' }, after));
     }
@@ -159,10 +156,10 @@ class ScriptPanel {
     /** The number of errors in the script, or its length. */
     amount() {
         const { faults, long, patches, version } = this.lines;
-        if (faults > 0) return told(texts.scriptFaultsOfScript, { n: faults });
-        if (long) return told(texts.scriptCharactersOfScript, { n: long.text.length });
-        const words = told(texts.scriptChangesOfScript, { n: patches });
-        return version ? told(texts.scriptChangesAndVersion, { changes: words, version: this.lines.versionName() }) : words;
+        if (faults > 0) return format(texts.scriptFaultsOfScript, { n: faults });
+        if (long) return format(texts.scriptCharactersOfScript, { n: long.text.length });
+        const words = format(texts.scriptPatchCount, { n: patches });
+        return version ? format(texts.scriptPatchesAndVersion, { changes: words, version: this.lines.versionName() }) : words;
     }
 
     drawSide() {
@@ -236,6 +233,16 @@ class ScriptPanel {
             if (line >= 0) this.goTo(line);
         } else return;
         event.preventDefault();
+    }
+
+    /** Saves the script, or on request its undo script, if there can be one. */
+    async saveEither() {
+        const { app, lines } = this;
+        if (lines.faults > 0 || app.image === null || (lines.patches === 0 && !lines.long)) return this.save();
+        const answer = await askUser([texts.scriptWhatToSave], [],
+            [['script', [texts.scriptSaveScript]], ['undo', [texts.scriptUndoScript]]], 'script');
+        if (answer === 'script') this.save();
+        return answer === 'undo' ? makeUndo(app, this.undoing, lines, this.check.carry.checked) : undefined;
     }
 
     save() {

@@ -4,7 +4,7 @@ import { CONTENT, MOST_PATCHES, PATCH_SIZE, RESULT, USER_SIZE, VERB } from '../.
 import { NEWEST_VERSION, VERSIONS, contentOf, faultyWord, headLine, lacksDigit, lastBlockOf, wordsOf } from '../../core/script/index.js';
 import { addressText } from '../../core/sectors/index.js';
 import * as texts from '../texts/index.js';
-import { told } from '../texts/index.js';
+import { format } from '../texts/index.js';
 
 /** @typedef {ReturnType<import('../../core/module/calls.js').Calls['patchRead']>} PatchFields */
 /** @typedef {import('../../core/script/language.js').Verb} Verb */
@@ -32,15 +32,15 @@ const FORMS = { ...VERB_FORMS, cdpatch: texts.scriptFormsOfHead };
  */
 export function patchInWords({ verb, block, offset, size, value, address, old }, where) {
     const at = { block: String(block), offset: String(offset) };
-    if (verb === VERB.REBUILD) return told(texts.scriptCalculateAnew, at);
-    if (verb === VERB.ADDRESS) return told(texts.scriptWriteAddress, { ...at, address: addressText(address) });
+    if (verb === VERB.REBUILD) return format(texts.scriptCalculateAnew, at);
+    if (verb === VERB.ADDRESS) return format(texts.scriptWriteAddress, { ...at, address: addressText(address) });
     const last = lastBlockOf({ block, offset, size });
-    const inBlock = told(texts.scriptAtOffset, at);
-    const inBlocks = last > block ? told(texts.scriptOverBorder, { place: inBlock, last: String(last) }) : inBlock;
+    const inBlock = format(texts.scriptAtOffset, at);
+    const inBlocks = last > block ? format(texts.scriptOverBorder, { place: inBlock, last: String(last) }) : inBlock;
     // The size is shown as in a script, without separators. The number n is not shown, but selects the plural form.
-    const parts = { n: size, size: String(size), place: where ? told(texts.scriptInFile, { place: inBlocks, file: where }) : inBlocks };
-    if (verb === VERB.FILL) return told(texts.scriptWriteByte, { ...parts, byte: value.toString(16).toUpperCase().padStart(2, '0') });
-    return told(old ? texts.scriptWriteIfOldThere : texts.scriptWriteWhatever, parts);
+    const parts = { n: size, size: String(size), place: where ? format(texts.scriptInFile, { place: inBlocks, file: where }) : inBlocks };
+    if (verb === VERB.FILL) return format(texts.scriptWriteByte, { ...parts, byte: value.toString(16).toUpperCase().padStart(2, '0') });
+    return format(old ? texts.scriptWriteIfOldThere : texts.scriptWriteWhatever, parts);
 }
 
 /** @type {WeakMap<ScriptLine, Help>} a cache for faulty lines, as each key press needs the help */
@@ -74,20 +74,20 @@ const FAULT_HELP = {
     [CONTENT.NO_HEAD]: helpOfHead,
     [CONTENT.UNKNOWN_VERB]: helpOfVerb,
     [CONTENT.WORD_COUNT]: ({ words: [verb] }) =>
-        helped(told(texts.scriptLineHasForm, { form: FORMS[verb] || Object.values(VERB_FORMS).join('; ') })),
+        helped(format(texts.scriptLineHasForm, { form: FORMS[verb] || Object.values(VERB_FORMS).join('; ') })),
     [CONTENT.BAD_NUMBER]: () => helped(texts.scriptNumbersAreDecimal),
     [CONTENT.BAD_HEX]: helpOfHex,
     [CONTENT.BAD_LENGTH]: helpOfLength,
     [CONTENT.BAD_OFFSET]: helpOfOffset,
     [CONTENT.BAD_ADDRESS]: () => helped(texts.scriptAddressIs),
-    [CONTENT.TOO_MANY]: () => helped(told(texts.scriptMostPatches, { most: String(MOST_PATCHES) })),
+    [CONTENT.TOO_MANY]: () => helped(format(texts.scriptMostPatches, { most: String(MOST_PATCHES) })),
 };
 
 /** @param {Faulty} faulty */
 function helpOfHead({ words: [first, version], line }) {
     if (first.toLowerCase() !== 'cdpatch') return helped(texts.scriptBeginsWithHead, texts.scriptAddIt, headLine(), line);
     const head = headLine(VERSIONS.some(({ name }) => name === version) ? version : NEWEST_VERSION.name);
-    return helped(texts.scriptHeadHasNothingElse, told(texts.scriptMakeIt, { head }), head);
+    return helped(texts.scriptHeadHasNothingElse, format(texts.scriptMakeIt, { head }), head);
 }
 
 /**
@@ -98,37 +98,38 @@ function helpOfVerb({ words: [verb, ...rest], line, calls }) {
     const isKnown = (/** @type {string} */ text) => contentOf(calls, NEWEST_VERSION.content, text) !== CONTENT.UNKNOWN_VERB;
     if (isKnown(line)) {
         const head = headLine(NEWEST_VERSION.name);
-        const fix = { says: told(texts.scriptMakeIt, { head }), lines: [head], head: /** @type {const} */ (true) };
-        return { text: told(texts.scriptVerbNeedsHead, { verb, head }), fix };
+        const fix = { says: format(texts.scriptMakeIt, { head }), lines: [head], head: /** @type {const} */ (true) };
+        return { text: format(texts.scriptVerbNeedsHead, { verb, head }), fix };
     }
     const small = verb.toLowerCase();
     if (small === 'cdpatch') return helped(texts.scriptOneHeadLine);
     const smallLine = [small, ...rest].join(' ');
-    if (isKnown(smallLine)) return helped(texts.scriptVerbsAreSmall, told(texts.scriptIsItVerb, { verb: small }), smallLine);
+    if (isKnown(smallLine)) return helped(texts.scriptVerbsAreSmall, format(texts.scriptIsItVerb, { verb: small }), smallLine);
     return helped(texts.scriptTheVerbsAre);
 }
 
 /** @param {Faulty} faulty */
 function helpOfHex({ words, line, calls }) {
     const odd = words[faultyWord(calls, line, CONTENT.BAD_HEX)];
-    if (odd && lacksDigit(calls, odd)) return helped(told(texts.scriptOddDigits, { digits: String(odd.length) }));
+    if (odd && lacksDigit(calls, odd)) return helped(format(texts.scriptOddDigits, { digits: String(odd.length) }));
     return helped(texts.scriptBytesAreHexadecimal);
 }
 
 /** @param {Faulty} faulty */
 function helpOfLength({ words: [verb, , , fresh, , old] }) {
     const most = { most: String(PATCH_SIZE) };
-    if (verb === 'fill') return helped(told(texts.scriptFillTakes, most));
-    if (!old || fresh.length === old.length) return helped(told(texts.scriptPatchWritesMost, most));
-    return helped(told(texts.scriptNewAndOldDiffer, { fresh: String(fresh.length / 2), old: String(old.length / 2) }));
+    if (verb === 'fill') return helped(format(texts.scriptFillTakes, most));
+    if (!old || fresh.length === old.length) return helped(format(texts.scriptPatchWritesMost, most));
+    return helped(format(texts.scriptNewAndOldDiffer, { fresh: String(fresh.length / 2), old: String(old.length / 2) }));
 }
 
 /** @param {Faulty} faulty */
 function helpOfOffset({ words }) {
     const [block, offset] = [Number(words[1]), Number(words[2])];
     const [there, left] = [block + Math.floor(offset / USER_SIZE), offset % USER_SIZE];
-    return helped(told(texts.scriptOffsetCounts, { size: String(USER_SIZE) }),
-        told(texts.scriptIsItThere, { block: String(there), offset: String(left) }), [words[0], there, left, ...words.slice(3)].join(' '));
+    const line = [words[0], there, left, ...words.slice(3)].join(' ');
+    return helped(format(texts.scriptOffsetCounts, { size: String(USER_SIZE) }),
+        format(texts.scriptIsItThere, { block: String(there), offset: String(left) }), line);
 }
 
 /**
@@ -143,8 +144,8 @@ export function helpOfRefusal(result, { base, sectors }, writer) {
     const help = {
         [RESULT.NOT_MODE1]: [texts.scriptOnlyMode1, texts.textOpenTheSector],
         [RESULT.DAMAGED]: [texts.scriptRepairFirst, texts.textOpenTheSector],
-        [RESULT.NO_BLOCK]: [told(texts.scriptHasBlocks, { first: String(base), last: String(base + sectors - 1) }), ''],
-        [RESULT.DIFFERS]: [writer > 0 ? told(texts.scriptLineHasChanged, { line: String(writer) }) : texts.scriptWrongReleaseOrPlace,
+        [RESULT.NO_BLOCK]: [format(texts.scriptHasBlocks, { first: String(base), last: String(base + sectors - 1) }), ''],
+        [RESULT.DIFFERS]: [writer > 0 ? format(texts.scriptLineHasChanged, { line: String(writer) }) : texts.scriptWrongReleaseOrPlace,
             texts.scriptShowThePlace],
     };
     const [text, says] = help[result] || ['', ''];

@@ -5,28 +5,26 @@ import { undoScript } from '../../core/tasks/index.js';
 import { blocksText } from '../../sentences/index.js';
 import { downloadBytes } from '../save/index.js';
 import * as texts from '../texts/index.js';
-import { say, told } from '../texts/index.js';
-import { element, fill, isCancelled, isDisabled, jobBar, nameOf, notice, runAt, sayAt, sentence } from '../ui/index.js';
+import { format, say } from '../texts/index.js';
+import { element, fill, isCancelled, jobBar, nameOf, notice, runAt, sentence, showMessageAt } from '../ui/index.js';
 
 /** @typedef {import('../app/state.js').App} App */
 /** @typedef {import('../app/state.js').Image} Image */
 /** @typedef {import('../app/script_lines.js').ScriptLines} ScriptLines */
 /** @typedef {import('../../core/tasks/undo.js').Undo} Undo */
 /** @typedef {import('../../core/tasks/undo.js').NoUndo} NoUndo */
-/** @typedef {{ bar: HTMLElement, said: HTMLElement }} UndoPlaces the places of the progress bar and of the result */
+/** @typedef {{ bar: HTMLElement, message: HTMLElement }} UndoPlaces the places of the progress bar and of the result */
 
 /**
  * Saves a script that undoes this one.
  * @param {App} app
- * @param {Element} from the button
  * @param {UndoPlaces} places
  * @param {ScriptLines} lines
  * @param {boolean} carry
  */
-export async function makeUndo(app, from, places, lines, carry) {
+export async function makeUndo(app, places, lines, carry) {
     const { image } = app;
-    if (isDisabled(from) || image === null) return;
-    await runAt(places.bar, () => makeUndoAt(app, image, places, lines, carry));
+    if (image !== null) await runAt(places.bar, () => makeUndoAt(app, image, places, lines, carry));
 }
 
 /**
@@ -36,19 +34,19 @@ export async function makeUndo(app, from, places, lines, carry) {
  * @param {ScriptLines} lines which may change before the job ends
  * @param {boolean} carry
  */
-async function makeUndoAt(app, image, { bar: place, said }, lines, carry) {
-    const name = told(texts.scriptUndoFile, { script: (app.script.name || texts.scriptFile).replace(/\.[^.]*$/, '') });
+async function makeUndoAt(app, image, { bar: place, message }, lines, carry) {
+    const name = format(texts.scriptUndoFile, { script: (app.script.name || texts.scriptFile).replace(/\.[^.]*$/, '') });
     try {
-        const made = await app.run((signal, cancel) => {
+        const made = await app.runJob((signal, cancel) => {
             const bar = jobBar(texts.scriptMakingUndo, cancel);
             fill(place, element('h3', {}, ...say(texts.scriptMakingFile, { name: nameOf(name) })), ...bar.parts);
             const script = [new TextEncoder().encode(lines.text())];
             return undoScript(app, image.opened, script, { carry }, { signal, progress: bar.sectors });
         });
         if (made.script !== null) downloadBytes(made.script.pieces, name);
-        sayAt(said, made.script === null ? noUndoWords(made) : savedWords(made, name, carry));
+        showMessageAt(message, made.script === null ? noUndoWords(made) : savedWords(made, name, carry));
     } catch (error) {
-        sayAt(said, isCancelled(error) ? notice('plain', texts.discJobCancelled, texts.scriptNoUndoMade)
+        showMessageAt(message, isCancelled(error) ? notice('plain', texts.discJobCancelled, texts.scriptNoUndoMade)
             : notice('bad', failedBy(error, 'script/refused') ? texts.scriptHasFault : sentence(error), texts.scriptNoUndoMade));
     } finally {
         fill(place);
@@ -61,8 +59,8 @@ async function makeUndoAt(app, image, { bar: place, said }, lines, carry) {
  * @param {boolean} carry
  */
 function savedWords({ left, refused, script: { long } }, name, carry) {
-    const words = [refused > 0 && told(texts.scriptUndoButForRefused, { n: refused }),
-        left.length > 0 ? told(texts.scriptUndoButForDamage, { blocks: blocksText(left, 8) }) : texts.scriptUndoGetsOriginalBack,
+    const words = [refused > 0 && format(texts.scriptUndoButForRefused, { n: refused }),
+        left.length > 0 ? format(texts.scriptUndoButForDamage, { blocks: blocksText(left, 8) }) : texts.scriptUndoGetsOriginalBack,
         carry && texts.scriptUndoWithCarry, long && texts.scriptUndoIsLong];
     return notice(left.length > 0 || refused > 0 || long ? 'warn' : 'good', say(texts.discFileSaved, { name: nameOf(name) }),
         words.filter(it => it).join(' '));
@@ -73,6 +71,6 @@ function savedWords({ left, refused, script: { long } }, name, carry) {
  * @param {NoUndo} made
  */
 function noUndoWords(made) {
-    const why = made.why === 'refused' ? told(texts.scriptAllRefusedByImage, { n: made.refused }) : texts.scriptImageHasItAlready;
+    const why = made.why === 'refused' ? format(texts.scriptAllRefusedByImage, { n: made.refused }) : texts.scriptImageHasItAlready;
     return notice('bad', why, texts.scriptOpenImageBefore);
 }

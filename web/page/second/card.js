@@ -3,9 +3,9 @@
 import { isSameRange } from '../../core/tasks/index.js';
 import { countedAs, readImage } from '../open/index.js';
 import * as texts from '../texts/index.js';
-import { say } from '../texts/index.js';
-import { button, byId, element, fill, focusAgain, isCancelled, keyed, nameOf, notice, oneStop, refuseWhileSaving } from '../ui/index.js';
-import { said, sentence, setAttribute } from '../ui/index.js';
+import { playerTexts, say } from '../texts/index.js';
+import { button, byId, element, fill, focusAgain, isCancelled, keyed, nameOf, notice, oneTabStop, refuseWhileSaving } from '../ui/index.js';
+import { messageArea, sentence, setAttribute } from '../ui/index.js';
 import { SecondCompare } from './compare.js';
 import { SecondRepair } from './repair.js';
 
@@ -23,15 +23,15 @@ export class SecondCard {
         this.tab = /** @type {Job} */ ('repair');
         this.title = element('h2', { id: 'second-title' });
         this.tabs = element('div', { class: 'seg', role: 'tablist', 'aria-label': texts.secondWhatWithSecond });
-        this.said = said();
+        this.message = messageArea();
         this.body = element('div', { class: 'stack', role: 'tabpanel', id: 'second-body' });
         this.table = element('div');
         this.jobs = { repair: new SecondRepair(app, changed), compare: new SecondCompare(app, changed) };
-        oneStop(this.tabs, '[role=tab]', tab => this.choose(/** @type {Job} */ (tab.dataset.tab)));
+        oneTabStop(this.tabs, '[role=tab]', tab => this.choose(/** @type {Job} */ (tab.dataset.tab)));
         const card = element('section', { class: 'card', 'aria-labelledby': 'second-title' },
             element('header', {}, this.title, button('slim bare', () => this.openInstead(), texts.openItInstead),
-                button('slim bare', () => this.close(), texts.close)),
-            element('div', { class: 'pad stack' }, this.said, this.tabs, this.body));
+                button('slim bare', () => this.close(), playerTexts.close)),
+            element('div', { class: 'pad stack' }, this.message, this.tabs, this.body));
         this.part = element('div', { class: 'side', hidden: true }, card, this.table);
     }
 
@@ -41,7 +41,7 @@ export class SecondCard {
     }
 
     close() {
-        if (refuseWhileSaving(this.app, [], this.said)) return;
+        if (refuseWhileSaving(this.app, [], this.message)) return;
         this.app.setSecond(null);
         focusAgain(byId('map'));
     }
@@ -49,7 +49,7 @@ export class SecondCard {
     /** Opens the second image in place of the open image. The script is kept. */
     openInstead() {
         const { second } = this.app;
-        if (second === null || refuseWhileSaving(this.app, [], this.said)) return;
+        if (second === null || refuseWhileSaving(this.app, [], this.message)) return;
         readImage(this.app, countedAs(second, second.opened.byAddresses));
         focusAgain(byId('map'));
     }
@@ -67,6 +67,7 @@ export class SecondCard {
         if (image !== null && second !== null) {
             fill(this.title, ...say(texts.secondImageIs, { name: element('span', { class: 'plain' }, nameOf(second.name)) }));
             this.choose(job);
+            requestAnimationFrame(() => this.part.scrollIntoView({ block: 'nearest' }));
         }
         this.changed();
     }

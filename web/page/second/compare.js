@@ -3,8 +3,8 @@
 import { FIELD_COUNT, SECOND_STATE, findDifferences } from '../../core/tasks/index.js';
 import { downloadText, patchedName } from '../save/index.js';
 import * as texts from '../texts/index.js';
-import { told } from '../texts/index.js';
-import { button, element, fill, nameOf, notice, tableCard, tallyOf, term } from '../ui/index.js';
+import { format } from '../texts/index.js';
+import { button, countsRow, element, fill, keyed, nameOf, notice, tableCard, term } from '../ui/index.js';
 import { addDiffering, compareMarks } from './marks.js';
 import { PairJob } from './pair_job.js';
 import { writeScript } from './script.js';
@@ -17,7 +17,12 @@ import { fileSayer } from './where.js';
 
 /** @typedef {import('../../core/tasks/compare.js').Differences & { differing: Differing[] }} Found */
 
+/** The files with differences, each with the number of differing sectors, and the rows that are shown of it. */
+/** @typedef {{ name: string, count: number, isOpen: boolean, rows: FieldRow[] }} Group */
+
 const MOST_ROWS = 400;
+/** Up to this many differences, the rows of all files are shown. */
+const FEW = 40;
 
 export class SecondCompare extends PairJob {
     /**
@@ -27,11 +32,14 @@ export class SecondCompare extends PairJob {
     constructor(app, changed) {
         super(app, changed);
         this.found = /** @type {Found | null} */ (null);
+        /** @type {Set<string>} the files that were opened or closed */
+        this.pressed = new Set();
         app.on('files', () => this.drawTable());
     }
 
     forget() {
         this.found = null;
+        this.pressed.clear();
         super.forget();
     }
 
@@ -58,7 +66,7 @@ export class SecondCompare extends PairJob {
      */
     draw(marks, { sectors: all, onlyCodes, tail }) {
         const damaged = marks.count(1);
-        const tally = tallyOf([[all, all === 1 ? texts.secondSectorDiffers : texts.secondSectorsDiffer, ''],
+        const tally = countsRow([[all, all === 1 ? texts.secondSectorDiffers : texts.secondSectorsDiffer, ''],
             [onlyCodes, texts.secondDifferInCodesOnly, ''], [damaged, texts.secondDamagedInSecond, damaged > 0 ? 'bad-ink' : '']]);
         const write = element('div', { class: 'row' }, button('main', () => this.write('save'), texts.secondSaveTheScript),
             button('', () => this.write('open'), texts.secondOpenInScript));
@@ -84,21 +92,63 @@ export class SecondCompare extends PairJob {
         const names = [texts.secondColumnHeader, texts.secondColumnUserData, 'EDC', texts.secondColumnParity];
         const head = element('tr', {}, element('th', { class: 'n' }, term('block', texts.textColumnBlock)), ...names.map(name =>
             element('th', { class: 'n' }, name === 'EDC' ? term('edc', name) : name)), element('th', {}, texts.textColumnFile));
-        const fileOf = fileSayer(files);
-        const rows = [...rowsOf(found.differing, MOST_ROWS)];
-        const body = rows.map(({ block, fields, state }) => element('tr', {},
-            element('td', { class: 'n', 'data-l': texts.discBlockLabel },
-                button('slim bare tiny', () => this.app.goTo(block, -1, true), String(block)),
-                state === SECOND_STATE.DAMAGED && element('span', { class: 'tag bad' }, texts.secondDamagedInSecond)),
-            ...fields.map((count, i) => element('td', { class: 'n', 'data-l': names[i] }, count)),
-            element('td', { class: 'mono small wide' }, fileOf(block))));
-        const left = found.sectors - rows.length;
-        const foot = left > 0 ? told(texts.secondMoreBlocksWithoutRow, { n: left }) : texts.secondUserDataWithoutEdc;
+        const groups = groupsOf(found, fileSayer(files), name => this.pressed.has(name));
+        const body = groups.flatMap(group => [this.groupRow(group), ...group.rows.map(row => this.fieldRow(row, names, group.name))]);
+        const shown = groups.reduce((sum, { isOpen, count, rows }) => sum + (isOpen ? rows.length : count), 0);
+        const left = found.sectors - shown;
+        const foot = left > 0 ? format(texts.secondMoreBlocksWithoutRow, { n: left }) : texts.secondUserDataWithoutEdc;
         const save = button('slim bare', () => {
             downloadText(listOf(rowsOf(found.differing), fileSayer(files)), patchedName(second.name, 'differences', '.txt'));
         }, texts.secondSaveTheList);
-        fill(this.table, tableCard(texts.secondBytesThatDiffer, head, body, listOf(rows, fileSayer(files)), foot, save));
+        const copied = listOf(rowsOf(found.differing, MOST_ROWS), fileSayer(files));
+        fill(this.table, keyed('differences', tableCard(texts.secondBytesThatDiffer, head, body, copied, foot, save)));
     }
+
+    /** @param {Group} group */
+    groupRow({ name, count, isOpen }) {
+        const press = () => {
+            if (!this.pressed.delete(name)) this.pressed.add(name);
+            this.drawTable();
+        };
+        return keyed(name, element('tr', { click: press }, element('td', { class: 'wide', colspan: 6 },
+            element('button', { type: 'button', class: 'fold', 'aria-expanded': String(isOpen) }, isOpen ? '▾ ' : '▸ ',
+                element('bdi', { class: 'mono' }, name), element('span', { class: 'quiet' },
+                    ` ${format(texts.textCountOfSectors, { n: count })}`)))));
+    }
+
+    /**
+     * @param {FieldRow} row
+     * @param {string[]} names of the columns
+     * @param {string} file
+     */
+    fieldRow({ block, fields, state }, names, file) {
+        return keyed(String(block), element('tr', {},
+            element('td', { class: 'n', 'data-l': texts.discBlockLabel },
+                button('slim bare tiny', () => this.app.goTo(block, -1, true), String(block))),
+            ...fields.map((count, i) => element('td', { class: 'n', 'data-l': names[i] }, count)),
+            element('td', { class: 'mono small wide' }, `${file} `,
+                state === SECOND_STATE.DAMAGED && element('span', { class: 'tag bad' }, texts.secondDamagedInSecond))));
+    }
+}
+
+/**
+ * The differing sectors by the files that contain them, in the order of their first ones, each with the rows that are shown.
+ * @param {Found} found
+ * @param {(block: number) => string} fileOf
+ * @param {(name: string) => boolean} isPressed whether a file was opened, or closed if all are open
+ */
+function groupsOf({ sectors, differing }, fileOf, isPressed) {
+    /** @type {Map<string, Group>} */
+    const groups = new Map();
+    let left = MOST_ROWS;
+    for (const row of rowsOf(differing)) {
+        const name = fileOf(row.block);
+        const group = groups.get(name) || { name, count: 0, isOpen: isPressed(name) !== sectors <= FEW, rows: [] };
+        if (group.count === 0 && groups.size < MOST_ROWS) groups.set(name, group);
+        group.count += 1;
+        if (group.isOpen && left-- > 0) group.rows.push(row);
+    }
+    return [...groups.values()];
 }
 
 /**

@@ -90,7 +90,7 @@ export class SecondRepair extends PairJob {
         const save = () => void this.saver.save(pieces, blocksIn(repair.taken), unrepaired);
         const script = () => {
             const [fresh, name] = [pieceReader(image.reader, pieces), patchedName(image.name, 'repair', '.txt')];
-            void writeScript(this.app, this.place, { image, fresh, goal: texts.secondTheRepairedImage, name });
+            void writeScript(this.app, this.place, { image, fresh, goal: texts.secondTheRepairedImage, name, skipMode2: true });
         };
         return element('div', { class: 'row' }, button('main', save, texts.secondSaveRepaired), button('', script,
             texts.secondWriteRepairAsScript));

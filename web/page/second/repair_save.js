@@ -6,7 +6,7 @@ import { sha1Of } from '../app/index.js';
 import { fileReader, readImage } from '../open/index.js';
 import { failureOfSaving, givingAll, patchedName, saveImage } from '../save/index.js';
 import * as texts from '../texts/index.js';
-import { say, told } from '../texts/index.js';
+import { format, playerTexts, say } from '../texts/index.js';
 import { askBeforeLeaving, button, element, fill, hashParts, jobBar, megabytes, messageOf, nameOf, notice, runAt } from '../ui/index.js';
 
 /** @typedef {import('../app/state.js').App} App */
@@ -53,7 +53,7 @@ export class RepairSaver {
         const { size } = image.reader;
         try {
             const saved = await app.runSave((signal, cancel) => {
-                const bar = jobBar(texts.saveSavingImage, cancel, { saves: true });
+                const bar = jobBar(playerTexts.saveSavingImage, cancel, { saves: true });
                 fill(place, ...bar.parts);
                 this.saving = true;
                 const watch = { signal, progress: (/** @type {number} */ at) => bar.at(at, size) };
@@ -77,15 +77,20 @@ export class RepairSaver {
     savedWords({ name, streamed, file }, size, done) {
         const { app } = this;
         const what = element('p', {}, done);
-        const said = streamed ? notice('good', say(texts.discFileSaved, { name: nameOf(name) }), what, texts.secondOthersAsBefore)
-            : notice('good', say(texts.saveBrowserIsSaving, { name: nameOf(name) }), what,
-                told(texts.secondKeepPageOpen, { size: megabytes(size) }));
-        if (file === null) return [said];
+        const whole = () => notice('good', say(texts.discFileSaved, { name: nameOf(name) }), what, texts.secondOthersAsBefore);
+        const isComplete = () => {
+            this.saving = false;
+            fill(message, whole());
+        };
+        const message = element('div', {}, streamed ? whole() : notice('good', say(playerTexts.saveBrowserIsSaving, { name: nameOf(name) }),
+            what, format(playerTexts.secondKeepPageOpen, { size: megabytes(size) }),
+            element('div', { class: 'row' }, button('slim', isComplete, texts.saveIsComplete))));
+        if (file === null) return [message];
         const open = button('', () => {
             readImage(app, null);
             app.open([file], 'look');
         }, texts.saveOpenNewImage);
-        return [said, element('dl', { class: 'hashes' }, element('dt', {}, 'SHA-1'), hashOf(app, file, size)),
+        return [message, element('dl', { class: 'hashes' }, element('dt', {}, 'SHA-1'), hashOf(app, file, size)),
             element('div', { class: 'row' }, open)];
     }
 }
@@ -99,7 +104,7 @@ export class RepairSaver {
 function hashOf(app, file, size) {
     const sum = element('dd', { id: 'repaired-sha1' }, '…');
     const progress = (/** @type {number} */ done) => {
-        sum.textContent = told(texts.saveHashPercent, { percent: Math.floor(100 * done / size) });
+        sum.textContent = format(texts.saveHashPercent, { percent: Math.floor(100 * done / size) });
     };
     sha1Of(app.parts, fileReader(file), app.pairing.signal, progress).then(sha1 => fill(sum, ...hashParts(sha1)),
         error => { sum.textContent = messageOf(error); });
@@ -114,6 +119,6 @@ function hashOf(app, file, size) {
 function doneWords(taken, unrepaired) {
     const left = blocksIn(unrepaired);
     const still = left === 0 ? texts.secondNoneStillDamaged
-        : told(texts.secondStillDamaged, { n: left, blocks: blocksText(unrepaired, MOST_RUNS_NAMED) });
-    return `${told(texts.secondSectorsRepaired, { n: taken })} ${still}`;
+        : format(texts.secondStillDamaged, { n: left, blocks: blocksText(unrepaired, MOST_RUNS_NAMED) });
+    return `${format(texts.secondSectorsRepaired, { n: taken })} ${still}`;
 }

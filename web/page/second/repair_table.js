@@ -2,9 +2,10 @@
 
 import { readBytes } from '../../core/bytes.js';
 import { SECTOR_SIZE } from '../../core/module/index.js';
-import { blocksIn, findingOf, firstBlocks } from '../../core/sectors/index.js';
+import { blocksIn, findingOf, firstBlocks, testMode2 } from '../../core/sectors/index.js';
+import { mode2Finding } from '../app/index.js';
 import * as texts from '../texts/index.js';
-import { told } from '../texts/index.js';
+import { format } from '../texts/index.js';
 import { button, element, tableCard, term } from '../ui/index.js';
 import { sectorOfSecond } from './sector.js';
 import { fileSayer } from './where.js';
@@ -37,7 +38,7 @@ export async function tableOfDamage(app, unrepaired) {
         texts.secondColumnHere),
         element('th', {}, texts.secondColumnInSecond), element('th', {}, texts.textColumnFile));
     const text = rows.map(({ block, here, there, file }) => `${block}\t${here}\t${there}\t${file}\n`).join('');
-    return tableCard(told(texts.secondCountNotRepaired, { n: count }), head, cells, text, footOf(rows, count - rows.length));
+    return tableCard(format(texts.secondCountNotRepaired, { n: count }), head, cells, text, footOf(rows, count - rows.length));
 }
 
 /**
@@ -54,11 +55,22 @@ async function rowsOf(app, blocks) {
         const old = await readBytes(image.reader, (block - image.base) * SECTOR_SIZE, SECTOR_SIZE);
         const other = await sectorOfSecond(app, block);
         const [here, there] = [old, other].map(sector => sector === null ? texts.secondNotThere
-            : findingOf(calls, block, calls.survey(sector, block)) || texts.secondNotOfMode1);
+            : wordsOf(calls, block, sector));
         const same = other === null ? null : old.every((it, i) => it === other[i]);
         rows.push({ block, here, there, file: fileOf(block), same });
     }
     return rows;
+}
+
+/**
+ * @param {import('../../core/module/calls.js').Calls} calls
+ * @param {number} block
+ * @param {Uint8Array} sector
+ */
+function wordsOf(calls, block, sector) {
+    const record = calls.survey(sector, block);
+    const [found] = testMode2(calls, sector, record, block);
+    return findingOf(calls, block, record) || mode2Finding(found) || texts.secondNotOfMode1;
 }
 
 /**
@@ -67,11 +79,11 @@ async function rowsOf(app, blocks) {
  * @param {number} left the number of blocks without a row
  */
 function footOf(rows, left) {
-    const more = left > 0 ? `${told(texts.secondMoreHaveNoRow, { n: left })} ` : '';
+    const more = left > 0 ? `${format(texts.secondMoreHaveNoRow, { n: left })} ` : '';
     const same = rows.filter(row => row.same).map(row => row.block);
-    const several = same.length < 4 ? told(same.length === 1 ? texts.secondTheBlock : texts.secondTheBlocks, { blocks: same.join(', ') })
-        : told(texts.secondSomeOfBlocks, { n: same.length });
-    if (same.length > 0) return `${more}${told(texts.secondSameBytesIn, { blocks: several })} ${texts.secondThirdDump}`;
+    const several = same.length < 4 ? format(same.length === 1 ? texts.secondTheBlock : texts.secondTheBlocks, { blocks: same.join(', ') })
+        : format(texts.secondSomeOfBlocks, { n: same.length });
+    if (same.length > 0) return `${more}${format(texts.secondSameBytesIn, { blocks: several })} ${texts.secondThirdDump}`;
     const isPart = rows.some(row => row.same === null);
     return more + (isPart ? texts.secondNoSoundCopyThere : texts.secondDifferInEach);
 }

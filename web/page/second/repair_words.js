@@ -3,8 +3,8 @@
 import { blocksIn } from '../../core/sectors/index.js';
 import { blocksText } from '../../sentences/index.js';
 import * as texts from '../texts/index.js';
-import { say, told } from '../texts/index.js';
-import { element, nameOf, notice, tallyOf } from '../ui/index.js';
+import { format, say } from '../texts/index.js';
+import { countsRow, element, nameOf, notice } from '../ui/index.js';
 
 /** @typedef {import('../app/state.js').Image} Image */
 /** @typedef {import('../../core/sectors/runs.js').Run} Run */
@@ -24,9 +24,9 @@ export function refusedWords({ different: [different], same: [n], ranges: [{ com
     if (refused.why === 'apart') return notice('bad', say(texts.openIsAnotherPart, { name: nameOf(name) }));
     if (refused.shift !== null) return shiftedWords(refused.shift, name);
     const all = blocksIn(common);
-    const same = told(2 * n > all ? texts.secondMostAreSame : texts.secondSomeAreSame, { n, all });
+    const same = format(2 * n > all ? texts.secondMostAreSame : texts.secondSomeAreSame, { n, all });
     return notice('bad', texts.secondNotTheSameDisc, `${same} `,
-        told(texts.secondTooManyDiffer, { sectors: told(texts.secondSoundAndDiffer, { n: different }) }));
+        format(texts.secondTooManyDiffer, { sectors: format(texts.secondSoundAndDiffer, { n: different }) }));
 }
 
 /**
@@ -35,10 +35,10 @@ export function refusedWords({ different: [different], same: [n], ranges: [{ com
  */
 function shiftedWords({ by, first, isOther }, name) {
     const n = Math.abs(by);
-    const why = told(by > 0 ? texts.secondMissingBefore : texts.secondTooManyBefore, { n });
+    const why = format(by > 0 ? texts.secondMissingBefore : texts.secondTooManyBefore, { n });
     const image = isOther ? [texts.secondImageItself] : nameOf(name);
-    const parts = { image, sectors: told(texts.textCountOfSectors, { n }), block: String(first) };
-    return notice('bad', say(texts.secondImageShifted, parts), told(texts.secondAddressesSaySo, { why }));
+    const parts = { image, sectors: format(texts.textCountOfSectors, { n }), block: String(first) };
+    return notice('bad', say(texts.secondImageShifted, parts), format(texts.secondAddressesSaySo, { why }));
 }
 
 /**
@@ -51,16 +51,16 @@ function shiftedWords({ by, first, isOther }, name) {
 export function foundWords(repair, unrepaired, otherWay) {
     const { doubtful, unlike, different: [different], tails: [tail], ranges: [{ missing }] } = repair;
     const [taken, damaged] = [repair.taken, unrepaired].map(blocksIn);
-    const tally = tallyOf([[taken, texts.secondCanBeRepaired, taken > 0 ? 'good-ink' : ''],
+    const tally = countsRow([[taken, texts.secondCanBeRepaired, taken > 0 ? 'good-ink' : ''],
         [damaged, texts.secondCannotBeRepaired, damaged > 0 ? 'bad-ink' : ''], [different, texts.secondIntactButDifferent, '']]);
     return [tally,
-        missing.length > 0 && notice('plain', told(texts.secondDumpLacksBlocks, { blocks: blocksText(missing) }), texts.secondTheseStay),
+        missing.length > 0 && notice('plain', format(texts.secondDumpLacksBlocks, { blocks: blocksText(missing) }), texts.secondTheseStay),
         taken === 0 && notice('plain', texts.secondRepairsNothing, damaged === 0 ? texts.secondNoneDamagedHere : texts.secondNoneSoundThere,
             element('div', { class: 'row' }, otherWay)),
-        doubtful.length > 0 && notice('warn', told(texts.secondOtherDataHere, { n: blocksIn(doubtful) }),
-            told(texts.secondLookAtThemFirst, { blocks: blocksText(doubtful, MOST_RUNS_NAMED) })),
-        different > 0 && notice('warn', told(texts.secondSoundInBoth, { n: different }), texts.secondPerhapsAnotherRelease),
-        unlike.length > 0 && notice('warn', told(texts.secondNotTestedDiffer, { n: blocksIn(unlike) }), texts.secondNotTestedStay),
+        doubtful.length > 0 && notice('warn', format(texts.secondOtherDataHere, { n: blocksIn(doubtful) }),
+            format(texts.secondLookAtThemFirst, { blocks: blocksText(doubtful, MOST_RUNS_NAMED) })),
+        different > 0 && notice('warn', format(texts.secondSoundInBoth, { n: different }), texts.secondPerhapsAnotherRelease),
+        unlike.length > 0 && notice('warn', format(texts.secondNotTestedDiffer, { n: blocksIn(unlike) }), texts.secondNotTestedStay),
         tail && notice('warn', texts.secondTailsDiffer, texts.secondTheyStay),
         element('p', { class: 'small quiet' }, texts.secondWhatRepairDoes)];
 }

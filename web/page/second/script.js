@@ -2,10 +2,10 @@
 
 import { blocksIn } from '../../core/sectors/index.js';
 import { blocksText } from '../../sentences/index.js';
-import { compareTrack } from '../../core/tasks/index.js';
+import { compareTrack, isToMode2 } from '../../core/tasks/index.js';
 import { download } from '../save/index.js';
 import * as texts from '../texts/index.js';
-import { remarkText, say, told } from '../texts/index.js';
+import { format, remarkText, say } from '../texts/index.js';
 import { button, element, fill, isCancelled, jobBar, nameOf, notice, runAt, sentence } from '../ui/index.js';
 
 /** @typedef {import('../app/state.js').App} App */
@@ -16,8 +16,11 @@ import { button, element, fill, isCancelled, jobBar, nameOf, notice, runAt, sent
 /** @typedef {Comparison['left'][number]} Left */
 /** @typedef {import('../ui/fill.js').Child} Child */
 
-/** The input of a script: the open image, a reader of the result, the result's name, and the name of the script's file. */
-/** @typedef {{ image: Image, fresh: Reader, goal: Child, name: string }} Wanted */
+/**
+ * The input of a script: the open image, a reader of the result, the result's name, and the name of the script's file. With `skipMode2` the
+ * sectors that become Mode 2 are left out.
+ * @typedef {{ image: Image, fresh: Reader, goal: Child, name: string, skipMode2?: boolean }} Wanted
+ */
 
 /** The use of a written script: it is saved, it is opened in the panel Script, or the user decides (''). */
 /** @typedef {'save' | 'open' | ''} Then */
@@ -49,7 +52,7 @@ export function writeScript(app, place, wanted, then = '', skipDamaged = false) 
  * @param {boolean} skipDamaged
  */
 async function writeScriptAt(app, place, wanted, then, skipDamaged) {
-    const { image, fresh, name } = wanted;
+    const { image, fresh, name, skipMode2 } = wanted;
     const { second } = app;
     const show = (/** @type {Node[]} */ ...parts) => {
         if (app.second === second) fill(place, ...parts);
@@ -58,13 +61,13 @@ async function writeScriptAt(app, place, wanted, then, skipDamaged) {
         const compared = await app.runPair((signal, cancel) => {
             const bar = jobBar(texts.secondWritingScript, cancel);
             show(...bar.parts);
-            return compareTrack(app, image.opened, fresh, { skipDamaged }, { signal, progress: bar.sectors });
+            return compareTrack(app, image.opened, fresh, { skipDamaged, skipMode2 }, { signal, progress: bar.sectors });
         });
         const again = () => void writeScript(app, place, wanted, then, true);
         if (compared.script === null) return show(refusedScript(compared, again));
-        const said = element('p');
-        const does = doesWith(app, compared.script, name, said);
-        show(written(compared.script, compared.left, wanted, then === '' ? does : {}, said));
+        const message = element('p');
+        const does = doesWith(app, compared.script, name, message);
+        show(written(compared.script, compared.left, wanted, then === '' ? does : {}, message));
         if (then !== '' && app.second === second) does[then]?.();
     } catch (error) {
         const rest = texts.secondNoScriptWritten;
@@ -78,15 +81,15 @@ async function writeScriptAt(app, place, wanted, then, skipDamaged) {
  * @param {App} app
  * @param {Script} script
  * @param {string} name
- * @param {HTMLElement} said shows that the script was saved
+ * @param {HTMLElement} message shows that the script was saved
  * @returns {{ open?: () => void, save?: () => void }}
  */
-function doesWith(app, { pieces, size, long }, name, said) {
+function doesWith(app, { pieces, size, long }, name, message) {
     const blob = new Blob(pieces);
     const save = () => {
         download(blob, name);
         Object.assign(last, { blob, name });
-        fill(said, ...say(texts.discFileSaved, { name: nameOf(name) }));
+        fill(message, ...say(texts.discFileSaved, { name: nameOf(name) }));
     };
     const open = async () => {
         const text = await blob.text();
@@ -101,15 +104,17 @@ function doesWith(app, { pieces, size, long }, name, said) {
  * @param {Left[]} left the differences that are not in the script
  * @param {Wanted} wanted
  * @param {{ open?: () => void, save?: () => void }} does the actions of the buttons
- * @param {HTMLElement} said
+ * @param {HTMLElement} message
  */
-function written({ size, patches, long }, left, { image, goal }, { open, save }, said) {
+function written({ size, patches, long }, left, { image, goal }, { open, save }, message) {
     const it = { image: nameOf(image.name), goal };
     const but = blocksIn(left) === 1 ? texts.secondGivesButForOne : texts.secondGivesButForSome;
+    const mode2 = blocksIn(left.filter(isToMode2));
     const gives = left.length === 0 ? say(texts.secondGivesExactly, it) : say(but, { ...it, blocks: blocksText(left, MOST_LEFT_NAMED) });
-    return notice(left.length === 0 ? 'good' : 'warn', told(texts.secondScriptHasPatches, { n: patches }),
-        told(texts.secondScriptHasBytes, { n: size }), ' ', ...gives, long && ` ${texts.secondAppliedWithLong}`, said, element('div',
-            { class: 'row' },
+    return notice(left.length === 0 ? 'good' : 'warn', format(texts.secondScriptHasPatches, { n: patches }),
+        format(texts.secondScriptHasBytes, { n: size }), ' ', ...gives,
+        mode2 > 0 && ` ${format(texts.secondModeTwoLeftOut, { n: mode2 })}`, long && ` ${texts.secondAppliedWithLong}`, message,
+        element('div', { class: 'row' },
             open !== undefined && button('main', open, texts.secondOpenInScript), save !== undefined && button('', save,
                 texts.secondSaveTheScript)));
 }
@@ -131,10 +136,10 @@ function refusedScript({ left, tail }, again) {
     const others = left.filter(it => it.why !== 'damaged');
     if (others.length === 0 && !tail) {
         const count = blocksIn(damaged);
-        return notice('bad', told(texts.secondScriptNotWritten, { why: leftText(damaged) }),
-            texts.secondDamageHidden, element('div', { class: 'row' }, button('', again, told(texts.secondLeaveOut, { n: count }))));
+        return notice('bad', format(texts.secondScriptNotWritten, { why: leftText(damaged) }),
+            texts.secondDamageHidden, element('div', { class: 'row' }, button('', again, format(texts.secondLeaveOut, { n: count }))));
     }
     const first = others.filter(it => it.why === others[0].why);
     const why = tail ? texts.secondBecauseTailsDiffer : leftText(first);
-    return notice('bad', told(texts.secondScriptNotWritten, { why }), texts.secondUseSecondItself);
+    return notice('bad', format(texts.secondScriptNotWritten, { why }), texts.secondUseSecondItself);
 }

@@ -2,7 +2,7 @@
 
 import * as texts from '../texts/index.js';
 import { say } from '../texts/index.js';
-import { asked, byId, lostByClosing, nameOf, refuseWhileSaving } from '../ui/index.js';
+import { askUser, byId, lostByClosing, nameOf, refuseWhileSaving } from '../ui/index.js';
 
 /** @typedef {import('../app/state.js').App} App */
 
@@ -14,7 +14,7 @@ export async function closeImage(app) {
     const { image } = app;
     if (image === null || refuseWhileSaving(app)) return;
     const lost = lostByClosing();
-    const isSure = lost.length === 0 || await asked(say(texts.imageCloseImage, { name: nameOf(image.name) }), [lost.join(' ')],
+    const isSure = lost.length === 0 || await askUser(say(texts.imageCloseImage, { name: nameOf(image.name) }), [lost.join(' ')],
         [['close', [texts.imageCloseAnyway]]], '') === 'close';
     if (!isSure || app.image !== image) return;
     app.close();

@@ -1,13 +1,13 @@
 // The line about the open image above every panel. On the Disc panel it also has the verdict, or the progress of reading.
 
 import { LAST_BASE, SECTOR_SIZE } from '../../core/module/index.js';
-import { MARK, lookOf } from '../app/index.js';
-import { dumpWords, isAllOver, modeOneSectors, otherBase, placesOf } from '../disc/index.js';
+import { MARK, lookOf, mode2Note, testedWords } from '../app/index.js';
+import { dumpWords, isAllOver, otherBase, placesOf } from '../disc/index.js';
 import { changeBase, imageOfTrack, readImage } from '../open/index.js';
 import * as texts from '../texts/index.js';
-import { counted, say, told } from '../texts/index.js';
+import { counted, format, playerTexts, say } from '../texts/index.js';
 import { button, byId, capital, copyButton, element, fill, jobEnd, keyed, megabytesDone, nameOf, seen, shownName } from '../ui/index.js';
-import { term, timeLeft } from '../ui/index.js';
+import { noteLongJob, term, timeLeft } from '../ui/index.js';
 import { closeImage } from './close_image.js';
 import { tracksInWords } from './tracks.js';
 
@@ -25,6 +25,8 @@ export function mountDiscLine(app) {
     const drawn = { waiting: 0, hashed: 0, changing: false, redraw: () => {} };
     const draw = () => {
         drawn.waiting = 0;
+        const { survey } = app;
+        noteLongJob(texts.imageReadingDisc, survey === null || survey.over ? null : percentOf(survey));
         if (app.image === null) return;
         if (!drawn.changing) fill(top, ...keptParts(app.image.name, facts(app, app.image, drawn)));
         lead.hidden = app.panel !== 'disc';
@@ -84,7 +86,8 @@ function facts(app, image, drawn) {
     const own = isMoved ? [cell(texts.frameWordBase, term('base', String(image.base)), ' ', change)] : [];
     const sectors = (/** @type {number} */ mark, count = counts[mark]) => cell(capital(lookOf(mark).name), counted(count));
     if (mode1 > 0 || survey === null || !survey.over) own.push(sectors(MARK.MODE1, mode1));
-    if (counts[MARK.MODE2] > 0) own.push(sectors(MARK.MODE2));
+    const mode2 = survey && survey.marks.modeTwo || counts[MARK.MODE2];
+    if (mode2 > 0) own.push(sectors(MARK.MODE2, mode2));
     if (counts[MARK.NOSYNC] > 0) own.push(sectors(MARK.NOSYNC));
     if (findings > 0) own.push(cell(texts.imageFindingsCount, element('b', { class: 'bad-ink' }, counted(findings))));
     if (panel !== 'disc') {
@@ -92,7 +95,7 @@ function facts(app, image, drawn) {
         hash.className = 'hash';
         own.push(hash);
     }
-    const close = button('slim bare tiny', () => void closeImage(app), texts.close, element('span', { class: 'hide' },
+    const close = button('slim bare tiny', () => void closeImage(app), playerTexts.close, element('span', { class: 'hide' },
         texts.imageTheImage));
     const name = element('div', { class: 'row' }, element('p', { class: 'name' }, nameOf(image.name)), close,
         !isMoved && panel === 'disc' && change);
@@ -110,8 +113,8 @@ function imageParts(app, image) {
     const sheet = element('span', { class: 'mono' }, nameOf(image.from));
     const from = image.from === '' ? [] : [' · ', ...say(texts.imageFromSheet, { sheet, tracks: tracksInWords(image) })];
     const tracks = image.disc.tracks.filter(track => track.image !== null);
-    return [element('p', { class: 'small quiet num' }, told(texts.imageSizeAndSectors, { size: image.reader.size, n: image.sectors }),
-        image.tail > 0 && ` · ${told(texts.imageTailOf, { n: image.tail })}`, ...from), tracks.length > 1 && trackChoice(app, image)];
+    return [element('p', { class: 'small quiet num' }, format(texts.imageSizeAndSectors, { size: image.reader.size, n: image.sectors }),
+        image.tail > 0 && ` · ${format(texts.imageTailOf, { n: image.tail })}`, ...from), tracks.length > 1 && trackChoice(app, image)];
 }
 
 /**
@@ -125,7 +128,7 @@ function trackChoice(app, image) {
     const choice = element('select', { class: 'slim', change: chosen });
     for (const { number, type, image: own } of image.disc.tracks) {
         if (own === null) continue;
-        choice.append(element('option', { value: number, selected: number === image.number }, told(texts.imageTrackOfType, { number,
+        choice.append(element('option', { value: number, selected: number === image.number }, format(texts.imageTrackOfType, { number,
             type })));
     }
     return element('label', { class: 'row small quiet' }, ...say(texts.imageDataTrack, { choice }));
@@ -139,7 +142,7 @@ function trackChoice(app, image) {
  */
 function shaWaits({ reader }, { hashed }, length) {
     const percent = reader.size === 0 ? 0 : Math.floor(100 * hashed / reader.size);
-    const words = hashed < 0 ? texts.imageHashNotKnown : `(${told(texts.inPercent, { n: percent })})`;
+    const words = hashed < 0 ? texts.imageHashNotKnown : `(${format(playerTexts.inPercent, { n: percent })})`;
     return words.padEnd(length).replace(/ /g, '\u00a0');
 }
 
@@ -153,7 +156,7 @@ function shaOf(image, drawn, length) {
     const { sha1, crc32 } = image;
     const [looks, shown, copies] = sha1 === '' ? ['quiet sha-wait', shaWaits(image, drawn, length), ' unseen']
         : ['sha1', length < sha1.length ? `${sha1.slice(0, length)}…` : sha1, ''];
-    const all = told(texts.imageSumsOfImage, { name: seen(image.name), size: String(image.reader.size), crc32, sha1 });
+    const all = format(texts.imageSumsOfImage, { name: seen(image.name), size: String(image.reader.size), crc32, sha1 });
     return [element('span', { class: `mono ${looks}` }, shown), ' ',
         copyButton(`slim bare tiny${copies}`, () => all, texts.imageCopyHashes)];
 }
@@ -177,7 +180,7 @@ function askBase(app, drawn) {
         close();
         changeBase(app, Number(input.value));
     } }, element('label', { for: 'base' }, texts.imageBlockOfFirst), input, element('button', { class: 'btn slim main' }, texts.imageSetIt),
-    button('slim bare', close, texts.cancel), element('p', { class: 'small quiet' }, texts.frameBaseMeans));
+    button('slim bare', close, playerTexts.cancel), element('p', { class: 'small quiet' }, texts.frameBaseMeans));
     fill(/** @type {Element} */ (byId('disc-line').firstElementChild), form);
     input.focus();
 }
@@ -191,7 +194,7 @@ function leadOf(app) {
     if (survey === null || image === null) return [];
     if (survey.over && survey.known < image.sectors) {
         const percent = Math.floor(100 * survey.known / image.sectors);
-        return [element('b', { class: 'warn-ink' }, told(texts.imageStoppedAt, { percent })),
+        return [element('b', { class: 'warn-ink' }, format(texts.imageStoppedAt, { percent })),
             button('slim', () => readImage(app, { ...image }), texts.imageReadAgain)];
     }
     if (!survey.over) return progressOf(app, image, survey);
@@ -209,7 +212,12 @@ function lackWords({ lack }) {
     const [first, last] = [String(missing.first), String(missing.last)];
     const looks = { class: isSure ? 'bad-ink' : 'warn-ink' };
     if (file !== '') return element('span', looks, ...say(texts.imageFileGoesOn, { first, last, file: nameOf(file) }));
-    return element('span', looks, isSure ? told(texts.imageVolumeGoesOn, { first, last }) : told(texts.imageVolumeMayGoOn, { last }));
+    return element('span', looks, isSure ? format(texts.imageVolumeGoesOn, { first, last }) : format(texts.imageVolumeMayGoOn, { last }));
+}
+
+/** @param {Surveyed} survey */
+function percentOf({ known, mode2 }) {
+    return Math.floor(100 * known / Math.max(mode2.length, 1));
 }
 
 /**
@@ -218,14 +226,15 @@ function lackWords({ lack }) {
  * @param {Surveyed} survey
  * @returns {Child[]}
  */
-function progressOf(app, { sectors, reader }, { known, began }) {
+function progressOf(app, { sectors, reader }, survey) {
+    const { known, began } = survey;
     const part = sectors === 0 ? 1 : known / sectors;
     const seconds = (performance.now() - began) / 1000;
     const bar = element('i');
     bar.style.width = `${100 * part}%`;
-    const [percent, done] = [Math.floor(100 * part), known * SECTOR_SIZE];
+    const [percent, done] = [percentOf(survey), known * SECTOR_SIZE];
     const values = { 'aria-valuemin': 0, 'aria-valuemax': 100, 'aria-valuenow': percent };
-    return [element('b', {}, told(texts.imageReadingAt, { percent })),
+    return [element('b', {}, format(texts.imageReadingAt, { percent })),
         element('div', { class: 'progress', role: 'progressbar', 'aria-label': texts.imageReadingDisc, ...values }, bar),
         element('p', { class: 'facts' }, ...megabytesDone(done, reader.size, done / Math.max(seconds, 0.001)),
             part > 0 && timeLeft(Math.ceil(seconds / part - seconds))),
@@ -240,22 +249,22 @@ function progressOf(app, { sectors, reader }, { known, began }) {
  * @returns {Child[]}
  */
 function verdict(app, image, { marks }) {
-    const [mode1, damaged, lost, elsewhere] = [marks.mode1(), marks.damaged(), marks.counts[MARK.LOST], marks.counts[MARK.ADDRESS]];
-    if (mode1 === 0) {
+    const [damaged, lost, elsewhere] = [marks.damaged(), marks.counts[MARK.LOST], marks.counts[MARK.ADDRESS]];
+    if (marks.tested() === 0) {
         return [element('span', {}, element('b', { class: 'warn-ink' }, texts.imageNoModeOne), ` ${texts.imageCanBeLookedAt}`)];
     }
     const base = otherBase({ base: image.base, addressed: image.opened.byAddresses.image.addressed }, marks);
     if (base !== null) return otherBaseVerdict(app, image, base, damaged);
     const others = [];
-    if (lost > 0) others.push(told(texts.imageLostSync, { n: lost }));
-    if (elsewhere > 0) others.push(told(texts.imageHaveOtherAddress, { n: elsewhere }));
+    if (lost > 0) others.push(format(texts.imageLostSync, { n: lost }));
+    if (elsewhere > 0) others.push(format(texts.imageHaveOtherAddress, { n: elsewhere }));
     if (damaged + others.length === 0) {
-        return [element('span', {}, element('b', { class: 'good-ink' }, told(texts.imageAllSound, { n: mode1 })),
-            ` ${told(texts.imageTheirCodesFit, { n: mode1 })}`)];
+        return [element('span', {}, element('b', { class: 'good-ink' }, testedWords(marks).sound),
+            ` ${format(texts.imageTheirCodesFit, { n: marks.tested() })} ${mode2Note(marks)}`)];
     }
-    const codesFit = element('b', { class: 'good-ink' }, told(texts.imageCodesFit, { sectors: modeOneSectors(mode1) }));
+    const codesFit = element('b', { class: 'good-ink' }, format(texts.imageCodesFit, { sectors: testedWords(marks).all }));
     const said = damaged > 0 ? damageVerdict(marks, others) : say(texts.imageCodesFitBut, { codesFit, others: others.join('; ') });
-    return [element('span', {}, ...said),
+    return [element('span', {}, ...said, ` ${mode2Note(marks)}`),
         damaged > 0 && app.second === null && button('slim', () => app.choose('repair'), texts.imageRepairFromOther),
         button('slim bare', () => app.goTo(image.base + placesOf(marks)[0].first, -1, true), texts.imageGoToFirstPlace)];
 }
@@ -267,9 +276,9 @@ function verdict(app, image, { marks }) {
  */
 function damageVerdict(marks, others) {
     const hurt = placesOf(marks).filter(it => it.counts[MARK.EDC] + it.counts[MARK.PARITY] > 0);
-    const where = hurt.some(place => isAllOver(place, marks.known)) ? texts.imageAllOverDisc : told(texts.imageInPlaces,
+    const where = hurt.some(place => isAllOver(place, marks.known)) ? texts.imageAllOverDisc : format(texts.imageInPlaces,
         { n: hurt.length });
-    const count = told(texts.imageDamagedOf, { n: marks.damaged(), sectors: told(texts.imageCountOfModeOne, { n: marks.mode1() }) });
+    const count = format(texts.imageDamagedOf, { n: marks.damaged(), sectors: testedWords(marks).count });
     return say(texts.imageDamagedWhere, { damaged: element('b', { class: 'bad-ink' }, count), places: [where, ...others].join('; ') });
 }
 
@@ -282,8 +291,8 @@ function damageVerdict(marks, others) {
  * @returns {Child[]}
  */
 function otherBaseVerdict(app, image, base, damaged) {
-    const probably = told(texts.imageBaseIsProbably, { base: String(base), own: String(image.base) });
+    const probably = format(texts.imageBaseIsProbably, { base: String(base), own: String(image.base) });
     return [element('span', {}, element('b', { class: 'warn-ink' }, texts.imageNoAddressFits), ` ${probably}`,
-        damaged > 0 && ` ${told(texts.imageSectorsAreDamaged, { n: damaged })}`),
-    button('slim main', () => changeBase(app, base), told(texts.imageSetBaseTo, { base: String(base) }))];
+        damaged > 0 && ` ${format(texts.imageSectorsAreDamaged, { n: damaged })}`),
+    button('slim main', () => changeBase(app, base), format(texts.imageSetBaseTo, { base: String(base) }))];
 }

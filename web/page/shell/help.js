@@ -3,7 +3,7 @@
 import { inflatedText, sha256Of } from '../app/index.js';
 import { pageSource } from '../player/index.js';
 import * as texts from '../texts/index.js';
-import { say, told } from '../texts/index.js';
+import { format, playerTexts, say } from '../texts/index.js';
 import { byId, element, fill, hashParts, keysIn, messageOf, setAttribute } from '../ui/index.js';
 
 /** @typedef {import('../app/state.js').App} App */
@@ -19,12 +19,13 @@ export function mountHelp(app) {
     fill(byId('proved'), element('b', {}, texts.frameWhatIsProved), ...paragraphs(texts.frameProvedCode, texts.frameNotProved,
         texts.frameScriptsWereApplied));
     fill(byId('about'), element('b', {}, `cdpatch ${number}`),
-        ...paragraphs(texts.frameWhatItIsFor, texts.framePageIsOneFile, texts.frameTriedIn, ...madeWith(app.parts.made)), ownHash(app),
+        ...paragraphs(texts.frameWhatItIsFor, texts.framePageIsOneFile, texts.frameTranslations, texts.frameTriedIn,
+            ...madeWith(app.parts.made)), ownHash(app),
             notices());
     for (const note of document.querySelectorAll('[popover]')) {
         setAttribute(note, 'aria-label', note.children[0].textContent);
         note.prepend(element('button', { type: 'button', class: 'btn slim bare shut', popovertarget: note.id, popovertargetaction: 'hide' },
-            texts.close));
+            playerTexts.close));
     }
     if ('popover' in HTMLElement.prototype) keepTouches();
 }
@@ -46,7 +47,7 @@ function keepTouches() {
 
 /** @param {string[]} tools and their versions */
 function madeWith(tools) {
-    return tools.length === 0 ? [] : [told(texts.frameMadeWith, { tools: tools.join(', ') })];
+    return tools.length === 0 ? [] : [format(texts.frameMadeWith, { tools: tools.join(', ') })];
 }
 
 /** @param {...string} all */

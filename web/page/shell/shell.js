@@ -1,18 +1,21 @@
 // The frame around the panels: the tabs, the notes, and the keys that work everywhere.
 
 import { PANELS } from '../app/index.js';
-import { byId, endMessages, endSavingNotices, escapeJob, oneStop, setAttribute } from '../ui/index.js';
+import { SAVING, byId, endMessages, endSavingNotices, escapeJob, noteLongJob, oneTabStop, setAttribute } from '../ui/index.js';
 
 /** @typedef {import('../app/state.js').App} App */
 /** @typedef {import('../app/state.js').PanelName} PanelName */
 
 /** @param {App} app */
 export function mountFrame(app) {
-    oneStop(byId('tabs'), '[role=tab]', tab => app.showPanel(panelOfTab(tab)));
+    oneTabStop(byId('tabs'), '[role=tab]', tab => app.showPanel(panelOfTab(tab)));
     for (const name of PANELS) byId(`tab-${name}`).addEventListener('click', () => app.showPanel(name));
     const frame = { started: false, panel: app.panel };
     app.on('panel', () => panelComes(app, frame));
-    app.on('saved', endSavingNotices);
+    app.on('saved', () => {
+        endSavingNotices();
+        noteLongJob(SAVING, null);
+    });
     app.on('closed', () => { frame.started = false; });
     for (const name of /** @type {const} */ (['panel', 'image'])) app.on(name, () => showPanels(app, frame));
     byId('home').addEventListener('click', () => app.showPanel('disc'));

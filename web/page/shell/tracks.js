@@ -2,7 +2,7 @@
 
 import { sheetOf } from '../../core/disc/index.js';
 import * as texts from '../texts/index.js';
-import { say, told } from '../texts/index.js';
+import { format, say } from '../texts/index.js';
 import { namesOf } from '../ui/index.js';
 
 /** @typedef {import('../app/state.js').Image} Image */
@@ -19,7 +19,7 @@ export function tracksInWords({ name, sheet, disc }) {
     const { tracks, points, files } = sheetOf(sheet);
     const isAudio = (/** @type {{ type: string }} */ { type }) => type === 'AUDIO' || type === 'CDG';
     const audio = tracks.filter(isAudio);
-    const data = told(texts.imageDataTracks, { n: tracks.length - audio.length });
+    const data = format(texts.imageDataTracks, { n: tracks.length - audio.length });
     if (audio.length === 0) return [data];
     const own = audio.flatMap(track => points.filter(it => it.track === track && it.index === 1).map(it => files[it.file].name));
     const last = (/** @type {string} */ path) => path.replace(/^.*[/\\]/, '').toLowerCase();

@@ -3,7 +3,7 @@
 import { USER_SIZE } from '../../core/module/index.js';
 import { bytesAround, bytesInside, charactersFrom } from '../../core/texts/index.js';
 import * as texts from '../texts/index.js';
-import { told } from '../texts/index.js';
+import { format } from '../texts/index.js';
 import { button, element, fill, hexOf } from '../ui/index.js';
 import { chosenEncoding, columnLabel, encodingLabel, signOf } from './encodings.js';
 
@@ -71,7 +71,7 @@ export class AroundCard {
         fill(this.card, element('header', {}, element('h2', {}, texts.textBytesAround),
             button('slim bare', () => this.app.goTo(hit.block, hit.offset, true), texts.textOpenTheSector)),
         element('div', { class: `hex around${this.columns === 8 ? ' cols8' : ''}`, tabindex: 0, role: 'group',
-            'aria-label': told(texts.textBytesAroundPlace, { block: String(hit.block), offset: String(hit.offset) }) },
+            'aria-label': format(texts.textBytesAroundPlace, { block: String(hit.block), offset: String(hit.offset) }) },
         element('div', { class: 'head', 'aria-hidden': 'true' }, element('span', { class: 'o' }, texts.textOffsetLabel),
             element('span', { class: 'b' }, ...numbers),
             element('span', { class: 't' }, label)), ...hexRows(this.app, hit, around, this.columns)));

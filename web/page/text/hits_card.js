@@ -3,8 +3,8 @@
 import { USER_SIZE } from '../../core/module/index.js';
 import { contextOf, contextsOf, filesWith, shownCell } from '../../core/texts/index.js';
 import * as texts from '../texts/index.js';
-import { remarkText, told } from '../texts/index.js';
-import { button, copyButton, element, fill, keyed, oneStop, seen, shownPaths, term } from '../ui/index.js';
+import { format, remarkText } from '../texts/index.js';
+import { button, copyButton, element, fill, keyed, oneTabStop, seen, shownPaths, term } from '../ui/index.js';
 import { chosenEncoding, signOf } from './encodings.js';
 
 /** @typedef {import('../app/state.js').App} App */
@@ -49,7 +49,7 @@ export class HitsCard {
         /** The number of the last call of `readContexts`: earlier calls end early. */
         this.reader = 0;
         this.body = element('tbody', {});
-        oneStop(this.body, 'button');
+        oneTabStop(this.body, 'button');
         this.card = element('section', { class: 'card', 'aria-label': texts.textTheHits });
     }
 
@@ -58,10 +58,10 @@ export class HitsCard {
         this.search = search;
         this.shown = ROWS_SHOWN;
         this.contexts = new Map();
-        const head = element('header', {}, element('h2', {}, told(texts.textHitsFound, { n: search.count })),
-            element('span', { class: 'small quiet' }, told(texts.textFoundInSeconds, { seconds: search.seconds.toFixed(1) })),
+        const head = element('header', {}, element('h2', {}, format(texts.textHitsFound, { n: search.count })),
+            element('span', { class: 'small quiet' }, format(texts.textFoundInSeconds, { seconds: search.seconds.toFixed(1) })),
             search.count > search.hits.length && element('span', { class: 'tag warn' },
-                told(texts.textOnlyFirstListed, { n: search.hits.length })),
+                format(texts.textOnlyFirstListed, { n: search.hits.length })),
             copyButton('slim bare', () => this.table(), texts.textCopyAsTable, ` ${texts.textWithFileAndText}`));
         const column = (/** @type {string} */ name, /** @type {Child} */ shown) => element('th',
             { scope: 'col', class: name === 'n' ? 'n' : '' }, shown);
@@ -81,7 +81,7 @@ export class HitsCard {
             next.remove();
             this.draw();
             this.card.append(...[this.more()].filter(it => it !== null).map(it => /** @type {Node} */ (it)));
-        }, told(texts.textShowMoreHits, { n: Math.min(ROWS_SHOWN, search.hits.length - this.shown) }));
+        }, format(texts.textShowMoreHits, { n: Math.min(ROWS_SHOWN, search.hits.length - this.shown) }));
         return element('div', { class: 'pad' }, next);
     }
 
@@ -101,12 +101,12 @@ export class HitsCard {
     row(hit, i, line) {
         const { app } = this;
         const files = app.files ? filesWith(app.files.files, hit) : [];
-        const tags = [line > 0 && element('span', { class: 'tag good' }, told(texts.textInScriptLine, { line: String(line) })),
+        const tags = [line > 0 && element('span', { class: 'tag good' }, format(texts.textInScriptLine, { line: String(line) })),
             hit.offset + hit.size > USER_SIZE && element('span', { class: 'tag' }, texts.textOverBlockBorder),
             app.files !== null && files.length === 0 && element('span', { class: 'tag' }, texts.sectorInNoFile)];
         const place = element('td', { class: 'wide' }, ...this.context(i), ...tags);
         const choose = button('plain', () => this.choose(i), hit.block,
-            element('span', { class: 'hide' }, `, ${told(texts.textHitNumber, { number: String(i + 1) })}`));
+            element('span', { class: 'hide' }, `, ${format(texts.textHitNumber, { number: String(i + 1) })}`));
         const made = element('tr', { class: i === this.chosen ? 'on' : '', click: () => this.choose(i) },
             element('td', { class: 'n', 'data-l': texts.discBlockLabel }, choose),
             element('td', { class: 'n', 'data-l': texts.textOffsetLabel }, hit.offset),

@@ -2,11 +2,14 @@
 
 import { filledUp, replaceBytes } from '../../core/tasks/index.js';
 import * as texts from '../texts/index.js';
-import { say, told } from '../texts/index.js';
-import { announce, button, element, fill, hexOf, isCancelled, jobBar, messageOf, notice, said, sayAt, sentence } from '../ui/index.js';
+import { format, say } from '../texts/index.js';
+import {
+    announce, button, element, fill, hexOf, isCancelled, jobBar, messageArea, messageOf, notice, sentence, showMessageAt,
+} from '../ui/index.js';
 import { term } from '../ui/index.js';
 import { AroundCard, readAround } from './around_card.js';
 import { bindEncodings, chosenEncoding, encodingLabel, tableTaker, takeTable } from './encodings.js';
+import { findField, rememberSearch, showExample } from './find_field.js';
 import { linesForAll, textLines } from './hits.js';
 import { HitsCard } from './hits_card.js';
 import { ReplaceCard } from './replace_card.js';
@@ -30,20 +33,17 @@ class TextPanel {
         this.chosen = -1;
         this.adding = false;
         this.search = new SearchJob(app);
-        /** @type {HTMLInputElement} */
-        this.field = element('input', { type: 'text', id: 'find-text', autocomplete: 'off', spellcheck: 'false',
-            input: () => this.drawAsked(),
-            keydown: event => {
-                if (event.key === 'Enter' && !event.isComposing) this.find();
-            } });
+        const [field, searched] = findField(() => this.drawAsked(), () => void this.find());
+        this.field = field;
+        this.searched = searched;
         this.choice = element('select', { id: 'find-encoding' });
         bindEncodings(app, this.choice);
         this.table = element('input', { type: 'file', class: 'hide', tabindex: -1, accept: '.tbl,.txt', 'aria-label': texts.textTableToLoad,
             change: () => this.load() });
         this.hint = element('p', { class: 'small quiet hint' });
-        this.state = said();
+        this.state = messageArea();
         this.hits = new HitsCard(app, index => {
-            fill(this.replace.said);
+            fill(this.replace.message);
             this.choose(index);
         });
         this.replace = new ReplaceCard(app, { add: (hit, fresh, old) => this.alone(() => this.add(hit, fresh, old)),
@@ -52,7 +52,7 @@ class TextPanel {
         this.texts = new TextsTable(app);
         this.results = element('div', { class: 'two even', hidden: true }, element('div', { class: 'side' }, this.hits.card),
             element('div', { class: 'side' }, this.replace.card, this.around.card));
-        panel.append(this.askCard(), this.state, this.texts.results, this.results, this.table);
+        panel.append(this.askCard(), this.state, this.texts.left.part, this.results, this.table);
         app.addTaker(tableTaker(app, words => fill(this.state, words)));
         this.listen();
         this.drawHint();
@@ -79,11 +79,12 @@ class TextPanel {
             element('div', {}, label('find-text', texts.textFindThisText), this.field),
                 element('div', {}, label('find-encoding', texts.textFindEncoding), this.choice),
             button('', () => this.table.click(), texts.textLoadTableFile), button('main', () => this.find(), texts.textFindText)),
-        this.hint, this.search.place, this.texts.part);
+        this.hint, this.search.place, this.texts.part, this.searched);
     }
 
     /** Shows the bytes of the search text, or why it has none. */
     drawHint() {
+        showExample(this.field, chosenEncoding(this.app).hasCharacters);
         if (this.field.value === '') return fill(this.hint,
             ...say(texts.textSearchesEverySector, { data: term('user', texts.textSearchedData) }));
         try {
@@ -127,14 +128,15 @@ class TextPanel {
     async find() {
         const { app } = this;
         const { image } = app;
-        const asked = { text: this.field.value, encoding: chosenEncoding(app) };
-        if (asked.text === '') return this.field.focus();
+        const query = { text: this.field.value, encoding: chosenEncoding(app) };
+        if (query.text === '') return this.field.focus();
         if (image === null) return fill(this.state, notice('warn', texts.textNoImageIsOpen, texts.textOpenDiscFirst));
         if (this.field.getAttribute('aria-invalid') === 'true') return this.field.focus();
         if (this.adding) return fill(this.state, notice('warn', texts.textLinesBeingMade, texts.textSearchWhenEnded));
         this.forget();
+        rememberSearch(this.searched, query.text);
         try {
-            const found = await this.search.find(image, asked);
+            const found = await this.search.find(image, query);
             if (found !== null) await this.take(found);
         } catch (error) {
             fill(this.state, isCancelled(error) ? notice('plain', texts.discJobCancelled, texts.textSearchNotEnded)
@@ -149,8 +151,8 @@ class TextPanel {
         fill(this.state);
         if (!this.isAsked(found)) return;
         if (found.count === 0) {
-            fill(this.state, notice('plain', told(texts.textNoHitIn, { encoding: encodingLabel(app.encoding) }),
-                told(texts.textSearchedToEnd, { sectors: told(texts.textCountOfSectors, { n: found.image.sectors }) }), ' ',
+            fill(this.state, notice('plain', format(texts.textNoHitIn, { encoding: encodingLabel(app.encoding) }),
+                format(texts.textSearchedToEnd, { sectors: format(texts.textCountOfSectors, { n: found.image.sectors }) }), ' ',
                 texts.textAnotherEncoding));
             announce(texts.textNoHit);
             return;
@@ -158,7 +160,7 @@ class TextPanel {
         this.found = found;
         this.results.hidden = false;
         this.hits.take(found);
-        announce(told(texts.textHitsFound, { n: found.count }));
+        announce(format(texts.textHitsFound, { n: found.count }));
         this.chosen = -1;
         await this.next();
         this.replace.input.focus();
@@ -213,7 +215,7 @@ class TextPanel {
             return;
         }
         await this.choose(this.chosen < 0 ? 0 : this.chosen);
-        sayAt(this.replace.said, notice('good', texts.textAllHitsInScript, texts.textCheckToTest));
+        showMessageAt(this.replace.message, notice('good', texts.textAllHitsInScript, texts.textCheckToTest));
     }
 
     /** @param {() => Promise<void>} job that generates lines; only one runs at a time */
@@ -235,10 +237,10 @@ class TextPanel {
         try {
             app.addLines(textLines(await replaceBytes(app.calls, found.image, hit, old, fresh)));
             announce(texts.textAddedToScript);
-            fill(this.replace.said);
+            fill(this.replace.message);
             await this.next();
         } catch (error) {
-            sayAt(this.replace.said, notice('bad', texts.discNothingAdded, sentence(error)));
+            showMessageAt(this.replace.message, notice('bad', texts.discNothingAdded, sentence(error)));
         }
     }
 
@@ -262,11 +264,12 @@ class TextPanel {
             if (lines.length > 0) app.addLines(lines);
             await this.next();
             const rest = left.length === 0 ? texts.textCheckToTest
-                : told(texts.textHitsLeft, { n: left.length, why: left.slice(0, 5).join('; ') + (left.length > 5 ? '; …' : '.') });
-            sayAt(this.replace.said, notice(left.length > 0 ? 'warn' : 'good', told(texts.discLinesAdded, { n: lines.length }), rest));
+                : format(texts.textHitsLeft, { n: left.length, why: left.slice(0, 5).join('; ') + (left.length > 5 ? '; …' : '.') });
+            const tone = left.length > 0 ? 'warn' : 'good';
+            showMessageAt(this.replace.message, notice(tone, format(texts.discLinesAdded, { n: lines.length }), rest));
         } catch (error) {
             const rest = texts.discNothingAdded;
-            if (app.image === image) sayAt(this.replace.said, isCancelled(error) ? notice('plain', texts.discJobCancelled, rest)
+            if (app.image === image) showMessageAt(this.replace.message, isCancelled(error) ? notice('plain', texts.discJobCancelled, rest)
                 : notice('bad', sentence(error), rest));
         } finally {
             fill(this.replace.job);

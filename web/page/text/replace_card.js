@@ -4,10 +4,13 @@ import { encodeText, fillsOf, spaceIn } from '../../core/encodings/index.js';
 import { bytesOfHex, hexText } from '../../core/hex_digits.js';
 import { filledUp, untriedLines } from '../../core/tasks/index.js';
 import * as texts from '../texts/index.js';
-import { say, told } from '../texts/index.js';
-import { button, element, fill, hexOf, isDisabled, messageOf, notice, said, sayAt, setDisabled, shownText } from '../ui/index.js';
+import { format, say } from '../texts/index.js';
+import {
+    button, element, fill, isDisabled, messageArea, messageOf, notice, setDisabled, showMessageAt, shownText,
+} from '../ui/index.js';
 import { chosenEncoding } from './encodings.js';
 import { textLines } from './hits.js';
+import { gauge, sizeWords } from './length.js';
 
 /** @typedef {import('../app/state.js').App} App */
 /** @typedef {import('../../core/texts/find.js').Hit} Hit */
@@ -23,8 +26,6 @@ import { textLines } from './hits.js';
  * @typedef {{ add: (hit: Hit, fresh: Uint8Array, old: Uint8Array) => void, addAll: (fresh: Uint8Array, fill: Uint8Array | null) => void,
  *     skip: () => void }} ReplaceOwner
  */
-
-const MOST_BOXES = 40;
 
 const SPACES = { '': '', space: texts.textSpaceFill, 'wide-space': texts.textWideSpaceFill };
 
@@ -53,7 +54,7 @@ export class ReplaceCard {
         this.length = element('span', { class: 'small', id: 'new-length', role: 'status' });
         this.rest = element('div', { class: 'stack' });
         this.job = element('div', { class: 'stack' });
-        this.said = said();
+        this.message = messageArea();
         this.add = button('main', () => this.addLine(), texts.textReplaceText);
         this.all = button('', () => this.addAll(), '');
         const filling = element('span', { class: 'row small quiet' }, texts.textFillWith, this.fill, this.other);
@@ -61,7 +62,7 @@ export class ReplaceCard {
         this.card = element('section', { class: 'card', 'aria-label': texts.textReplaceText, hidden: true }, this.head,
             element('div', { class: 'pad stack' }, this.old,
             element('div', {}, element('label', { for: 'new-text' }, texts.textNewText), this.input),
-            element('div', { class: 'row spread' }, this.length, filling), this.rest, buttons, this.job, this.said,
+            element('div', { class: 'row spread' }, this.length, filling), this.rest, buttons, this.job, this.message,
             element('p', { class: 'small quiet' }, ...say(texts.textReplacesAndNext, { key: element('kbd', {}, texts.sectorEnterKey) }))));
     }
 
@@ -103,21 +104,21 @@ export class ReplaceCard {
         const { hit, number, of, old, left, line } = target;
         this.drawFills();
         this.other.hidden = this.fill.value !== OTHER_FILL;
-        fill(this.head, element('h2', {}, told(texts.textReplaceAtPlace, { block: String(hit.block), offset: String(hit.offset) })),
-            element('span', { class: 'small quiet' }, told(texts.textHitOfHits, { number, count: of })));
-        fill(this.old, element('span', { class: 'label' }, told(texts.textOldTextHas, { n: old.length })),
+        fill(this.head, element('h2', {}, format(texts.textReplaceAtPlace, { block: String(hit.block), offset: String(hit.offset) })),
+            element('span', { class: 'small quiet' }, format(texts.textHitOfHits, { number, count: of })));
+        fill(this.old, element('span', { class: 'label' }, format(texts.textOldTextHas, { n: old.length })),
             element('p', { class: 'mono old-text' }, shownText(chosenEncoding(this.app).text(old))));
         const { bytes, fault } = this.fresh();
         const filling = this.filling();
         const filled = filledTo(bytes, old.length, filling);
         const ready = filled !== null && fault === '' && this.input.value !== '';
         const replaces = this.rewritten(target, old) !== '';
-        fill(this.add, replaces ? told(texts.textUpdateLine, { line: String(line) }) : texts.textReplaceText);
+        fill(this.add, replaces ? format(texts.textUpdateLine, { line: String(line) }) : texts.textReplaceText);
         this.add.classList.toggle('main', line === 0 || replaces);
         fill(this.length, ...this.lengthWords(bytes, old.length, fault));
         this.input.setAttribute('aria-invalid', String(fault !== '' || bytes.length > old.length));
         fill(this.rest, gauge(bytes, old.length, filling), ...this.advice(bytes, old, filled, fault, line));
-        fill(this.all, told(texts.textReplaceAll, { n: left }));
+        fill(this.all, format(left < of ? texts.textReplaceOthers : texts.textReplaceAll, { n: left }));
         const had = document.activeElement === this.all;
         this.all.hidden = left < 2;
         if (had && left < 2) this.input.focus();
@@ -132,10 +133,8 @@ export class ReplaceCard {
      */
     lengthWords(bytes, size, fault) {
         if (fault !== '') return [element('b', { class: 'bad-ink' }, fault)];
-        const n = bytes.length;
-        const more = n - size;
-        const has = more > 0 ? told(texts.textBytesTooMany, { n, more: String(more) }) : told(texts.textBytesOfNewText, { n });
-        const facts = { bytes: element('b', { class: more > 0 ? 'bad-ink' : 'good-ink' }, has), size: String(size) };
+        const more = bytes.length - size;
+        const facts = { bytes: sizeWords(bytes.length, size), size: String(size) };
         if (more < 0) return say(texts.textMoreToFill, { ...facts, more: String(-more) });
         return say(more > 0 ? texts.textForOldText : texts.textJustAsMany, facts);
     }
@@ -153,17 +152,17 @@ export class ReplaceCard {
         const more = bytes.length - old.length;
         const bad = (/** @type {string} */ text) => [element('p', { class: 'say bad' }, text)];
         if (fault !== '' || this.target === null) return [];
-        if (more > 0) return bad(`${texts.textCannotMoveBytes} ${told(texts.textShortenBy, { more: String(more) })}`);
+        if (more > 0) return bad(`${texts.textCannotMoveBytes} ${format(texts.textShortenBy, { more: String(more) })}`);
         if (this.input.value === '') return [element('p', { class: 'say plain' }, texts.textTypeNewText)];
-        if (filled === null) return bad(`${told(texts.textCannotFill, { n: -more })} ${texts.textChooseAnotherByte}`);
+        if (filled === null) return bad(`${format(texts.textCannotFill, { n: -more })} ${texts.textChooseAnotherByte}`);
         const { image, hit } = this.target;
         const rewritten = this.rewritten(this.target, filled);
         const out = rewritten === '' ? textLines(untriedLines(image, { place: hit, old, fresh: filled })) : [rewritten];
         const its = { line: String(line) };
-        const label = rewritten ? told(texts.textTakesPlaceOfLine, its) : texts.textGoesIntoScript;
+        const label = rewritten ? format(texts.textTakesPlaceOfLine, its) : texts.textGoesIntoScript;
         return [element('div', {}, element('span', { class: 'label' }, label),
             ...out.map(text => element('p', { class: 'line-out' }, text))),
-        line > 0 && rewritten === '' && element('p', { class: 'say warn' }, told(texts.textLineWritesHere, its))];
+        line > 0 && rewritten === '' && element('p', { class: 'say warn' }, format(texts.textLineWritesHere, its))];
     }
 
     /**
@@ -191,7 +190,7 @@ export class ReplaceCard {
         if (line === '') return this.owner.add(target.hit, filled, target.old);
         this.app.replaceLine(target.line, line);
         this.owner.skip();
-        sayAt(this.said, notice('good', told(texts.textLineUpdated, { line: String(target.line) })));
+        showMessageAt(this.message, notice('good', format(texts.textLineUpdated, { line: String(target.line) })));
     }
 
     addAll() {
@@ -211,23 +210,4 @@ function filledTo(fresh, size, filling) {
     } catch {
         return null;
     }
-}
-
-/**
- * A box for each byte, which shows whether it fits, is a fill, or is too much; null if there are too many bytes.
- * @param {Uint8Array} bytes
- * @param {number} size
- * @param {Uint8Array | null} filling
- */
-function gauge(bytes, size, filling) {
-    const count = Math.max(bytes.length, size);
-    if (count > MOST_BOXES) return null;
-    const made = element('div', { class: 'gauge', 'aria-hidden': 'true' });
-    made.style.setProperty('--n', String(count));
-    for (let i = 0; i < count; i++) {
-        const byte = i < bytes.length ? bytes[i] : filling ? filling[(i - bytes.length) % filling.length] : 0;
-        made.append(element('i', { class: i >= size ? 'over' : i >= bytes.length ? 'pad-byte' : '' },
-            count <= 24 ? hexOf(Uint8Array.of(byte)) : ''));
-    }
-    return made;
 }

@@ -32,10 +32,10 @@ export class SearchJob {
      * Searches an image. Returns null if a new search has replaced this one, or the image was closed. Throws a Fault, `cancelled`, if it
      * was cancelled.
      * @param {Image} image
-     * @param {Pick<Search, 'text' | 'encoding'>} asked
+     * @param {Pick<Search, 'text' | 'encoding'>} query
      * @returns {Promise<Search | null>}
      */
-    async find(image, asked) {
+    async find(image, query) {
         const { app } = this;
         this.end();
         const { number } = this;
@@ -46,11 +46,11 @@ export class SearchJob {
                 const bar = jobBar(texts.textSearching, cancel);
                 fill(this.place, ...bar.parts);
                 const began = performance.now();
-                const wanted = { text: asked.text, encodings: [asked.encoding], limit: MOST_HITS };
+                const wanted = { text: query.text, encodings: [query.encoding], limit: MOST_HITS };
                 const found = await findText(app, image.opened, wanted, { signal, progress: bar.sectors });
                 const { count, hits } = found.best || { count: 0, hits: [] };
                 const seconds = (performance.now() - began) / 1000;
-                return number === this.number ? { ...asked, image: found.image, count, hits, seconds } : null;
+                return number === this.number ? { ...query, image: found.image, count, hits, seconds } : null;
             });
         } catch (error) {
             if (number !== this.number) return null;

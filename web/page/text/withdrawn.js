@@ -1,9 +1,9 @@
 // Finds lines of the script that write where a table has no new text. They come from an earlier table that still had the new text.
 
-import { linesGivingWayInTurns } from '../../core/script/index.js';
+import { replacedLinesInTurns } from '../../core/script/index.js';
 
 /** @typedef {import('../app/state.js').App} App */
-/** @typedef {import('../../core/tasks/list.js').ListRow} ListRow */
+/** @typedef {import('../../core/tasks/list_rows.js').ListRow} ListRow */
 
 /**
  * Whether a line of the script writes the first byte of a row's text.
@@ -15,14 +15,14 @@ export function isWritten({ script }, { block, offset }) {
 }
 
 /**
- * The generated lines of the script that the lines `old` would replace, except for those that were just added (`come`).
+ * The generated lines of the script that the lines `old` would replace, except for those that were just added (`incoming`).
  * @param {App} app
  * @param {string[]} old
- * @param {string[]} come
+ * @param {string[]} incoming
  * @param {AbortSignal} signal
  */
-export async function withdrawnLines({ script }, old, come, signal) {
-    const fresh = new Set(come);
-    const gone = await linesGivingWayInTurns(script, old, ({ text }) => script.made.has(text), signal);
-    return gone.filter(({ text }) => !fresh.has(text));
+export async function withdrawnLines({ script }, old, incoming, signal) {
+    const fresh = new Set(incoming);
+    const removed = await replacedLinesInTurns(script, old, ({ text }) => script.made.has(text), signal);
+    return removed.filter(({ text }) => !fresh.has(text));
 }

@@ -1,6 +1,6 @@
-// The texts of the page in English. A translation is a file with the same keys. A key begins with the part of the page that shows it,
-// unless several parts do. The page replaces names in braces, which may be in any order. A text in several forms, separated by |, is used
-// with the number {n}: its forms are those of the language's counts, in the order zero, one, two, few, many, other.
+// The texts of the page in English, except those that players see, which are in player/english.js. A key begins with the part of the page
+// that shows it, unless several parts do. The page replaces names in braces, which may be in any order. A text in several forms,
+// separated by |, is used with the number {n}: its forms are those of the language's counts, in the order zero, one, two, few, many, other.
 
 export const LANGUAGE = 'en-GB';
 
@@ -10,8 +10,6 @@ export { ENGLISH as sentences } from '../../sentences/index.js';
 // ---- everywhere
 
 // buttons
-export const cancel = 'Cancel';
-export const close = 'Close';
 export const copy = 'Copy';
 export const copied = 'Copied';
 export const notCopied = 'Not copied';
@@ -20,28 +18,7 @@ export const theRowsOf = ' the rows: {title}';
 
 // names, and the progress of a job
 export const andMore = '{n} more';
-export const inPercent = '{n} %';
-export const inSeconds = '{seconds} s';
-export const timeLeft = '{time} left';
-export const megabytesOf = '{done} of {all} MB';
-export const megabytesASecond = '{rate} MB/s';
 export const thingsOf = '{done} of {all} {things}';
-export const endTheSaving = 'Stop saving?';
-export const noImageIsKept = 'The unfinished image will be discarded.';
-export const goOnSaving = 'Keep saving';
-export const endIt = 'Stop and discard';
-
-// refused actions, and the reasons
-export const notOpened = 'Not opened: {names}.';
-export const imageBeingSaved = 'An image is being saved.';
-export const anotherJobRuns = 'Another job is running here. Wait until it has finished, or cancel it first.';
-export const againWhenEnded = 'Wait until it has finished, or cancel it first.';
-export const alsoNeeds = '{sheet} also needs {names}.';
-export const openAllTogether = 'Open them all together.';
-export const fileIsShorter = 'The file has become shorter since it was opened.';
-export const noMemoryLeft = 'This browser does not have enough memory left. Close other tabs, then try again.';
-export const workerStopped = 'A background task of this page has crashed. Try again: it will be restarted.';
-export const workerStoppedFor = 'A background task of this page has crashed ({why}). Try again: it will be restarted.';
 
 // the kinds of sectors on the map; the second text of a kind describes a single sector
 export const modeOne = 'Mode 1';
@@ -57,12 +34,10 @@ export const otherAddress = 'wrong address';
 export const syncOrModeLost = 'sync or mode lost';
 
 // a line of the script, after “It”
-export const lineFits = 'fits';
-export const lineDoesNotFit = 'does not fit: {why}';
+export const lineFits = 'matches';
+export const lineDoesNotFit = 'refused: {why}';
 export const scriptIsLong = 'It is larger than 4 MB or longer than 150,000 lines. Check, Apply, Publish, and Save work with all of it. ' +
     'The other panels do not highlight its changes.';
-
-// ---- end of everywhere
 
 // ---- the frame: first screen, bar, help
 
@@ -77,8 +52,8 @@ export const frameNothingLeaves = 'Nothing leaves your computer';
 export const frameOpenOther = 'Open…';
 export const frameAbout = 'About';
 export const frameWhatIsProved = 'What is proved, and what is not';
-export const frameKeys = 'Keys';
-export const frameWordsUsed = 'Words used here';
+export const frameKeys = 'Keyboard shortcuts';
+export const frameWordsUsed = 'Glossary';
 export const frameFilesToOpen = 'Files to open';
 export const frameOpenImage = 'Open image';
 
@@ -93,17 +68,18 @@ export const frameOpenTheFile = 'Open the file cdpatch.html itself.';
 export const framePatchTranslateRepair = 'Patch, translate and repair CD images.';
 export const frameNeverChanged = 'Your file is never changed: cdpatch saves a new one.';
 export const frameWhatYouCanDo = 'What you can do';
-export const framePlayPatch = 'Apply a patch';
-export const framePutTranslation = 'Choose your disc image and a patch for it, a fan translation for example.';
+export const frameApplyPatch = 'Apply a patch';
+export const framePutTranslation = 'Choose your disc image, and a cdpatch script or patcher page. Not xdelta, PPF, or IPS.';
 export const frameTranslateDisc = 'Translate a disc';
-export const frameFindTexts = 'Choose the disc image: find its texts, write new ones, publish a patch.';
+export const frameFindTexts = 'Choose the disc image: find its text, translate it, publish a patch.';
 export const frameRepairDump = 'Repair or compare dumps';
 export const frameSeeDamage = 'Choose one dump or two: see damage on a map, repair it, see what differs.';
 export const frameOpenFilesHere = 'Open files';
 export const frameOpenFiles = 'Open files…';
 export const frameOrTryExample = 'or {example} that has some damage and the Japanese text {text}';
 export const frameTryExample = 'try it with a small example disc';
-export const frameTakesFiles = 'Takes raw images (.bin, .img), their .cue, patch scripts and patcher pages; not ISO or CHD.';
+export const frameKindsOfFiles = 'Takes raw images (.bin, .img), their .cue, patch scripts, patcher pages, lists of text, DATs; ' +
+    'not ISO or CHD.';
 export const frameNothingLeavesYourComputer = 'Nothing leaves your computer.';
 export const frameOneFileOffline = 'This page is a single file and makes no network connections. It works offline.';
 
@@ -148,14 +124,14 @@ export const KEYS = [
     ['`Home`, `End`', 'first, last sector'], ['`N`, `P`', 'next, previous finding'], ['`R`, `Shift`+`R`', 'next, previous run'],
     ['`G`', 'go to a block'], ['`Enter`', 'open the sector'],
     ['', 'Sector'], ['`←` `→` `↑` `↓`', 'one byte, one row'], ['`0` to `9`, `A` to `F`', 'change the byte: a patch in the script'],
-    ['`T`', 'type texts; Esc goes back to digits'], ['`Shift`+`arrows`, `Ctrl`+`A`', 'select'],
-    ['`Ctrl`+`C`, `Ctrl`+`V`', 'copy, paste: digits, or texts in their column'],
+    ['`T`', 'type text; Esc goes back to digits'], ['`Shift`+`arrows`, `Ctrl`+`A`', 'select'],
+    ['`Ctrl`+`C`, `Ctrl`+`V`', 'copy, paste: digits, or text in its column'],
     ['`Ctrl`+`Z`', 'undo the last typed bytes'],
     ['`Page Up`, `Page Down`', 'one screen; past the end, the next sector'], ['`Esc`', 'back to the map'],
     ['', 'Script'], ['`Ctrl`+`Enter`, `Ctrl`+`S`', 'Check, save (on a Mac ⌘ for Ctrl)'],
     ['`F8`, `Shift`+`F8`', 'next, previous error or refusal'],
     ['`Ctrl`+`Z`, `Ctrl`+`Y`', 'undo, redo'],
-    ['', 'Text'], ['`Enter`', 'find; in “New text”: replace and continue'],
+    ['', 'Text'], ['`Ctrl`+`F`', 'go to Find'], ['`Enter`', 'find; in “New text”: replace and continue'],
 ];
 
 // the notes of the footer, and About
@@ -165,8 +141,8 @@ export const frameProvedCode = 'Every sector that this page makes, every line of
 export const frameNotProved = 'JavaScript opens the files, moves the bytes, adds up the counts, and draws. It is tested against the ' +
     'program cdpatch, byte for byte, but not proved. You still have to trust the compiler, the tool that converts the proved 64-bit ' +
     'module to this 32-bit one, and your browser.';
-export const frameScriptsWereApplied = 'Before you see a script made from two images or from new texts, or an undo script, the proved ' +
-    'code has applied it, and the result was exactly as intended. That a sector in a Mode 1 track has lost its sync field or mode byte ' +
+export const frameScriptsWereApplied = 'Before you see a script made from two images or from translations, or an undo script, the proved ' +
+    'code has applied it, and the result was exactly as intended. That a sector in a data track has lost its sync field or mode byte ' +
     'is only a guess, made by the JavaScript.';
 export const frameWhatItIsFor = 'cdpatch applies patches to raw CD images, helps to translate discs, and finds and repairs damaged ' +
     'sectors.';
@@ -174,6 +150,8 @@ export const framePageIsOneFile = 'This page is a single file. It makes no netwo
     'it where you like.';
 export const frameTriedIn = 'Tested in Chromium 156, Firefox ESR 153, and WebKitGTK 2.50, the engine of Safari. Chrome and Edge write a ' +
     'patched image straight to the file that you choose; other browsers save it to the download folder.';
+export const frameTranslations = 'Players see a patcher in English, Spanish, Brazilian Portuguese, French, German, or Italian. ' +
+    'No native speaker has read the five translations yet.';
 export const frameMadeWith = 'Made with {tools}. With the same sources these tools produce exactly the same file.';
 export const frameHashOfPage = 'SHA-256 of this page (not counting a patcher’s patch): {digits}';
 export const framePageSaysItself = 'The page computes this itself, and a modified page could show anything. To be sure, compute the ' +
@@ -181,8 +159,6 @@ export const framePageSaysItself = 'The page computes this itself, and a modifie
 export const frameHashIsNotKnown = 'not known: browsers calculate it only for a page opened from a disk or over https.';
 export const frameNotices = 'Notices';
 export const frameThirdPartyNotices = 'Third-party notices';
-
-// ---- end of the frame
 
 // ---- opening files
 
@@ -205,7 +181,6 @@ export const openWasReadHere = 'This page can read it.';
 export const openSaveAsUtf8 = 'Save it as plain UTF-8';
 
 // the reasons why files are not opened
-export const openFileIsGone = 'This file cannot be read any more: {name}. Was it moved or changed, or its drive removed?';
 export const openSameName = 'Two of these files have the same name. Open only one.';
 export const openIsOpenAlready = 'An image is open already: {name}. Open one more, {one} or {other}, to compare it.';
 export const openSheetLacks = 'The cue sheet does not name it: {sheet}.|The cue sheet does not name them: {sheet}.';
@@ -215,10 +190,9 @@ export const openMakeRawImage = 'Convert it to a raw image first, in a terminal.
 export const openRenameToDisc = 'Rename it to disc.chd before that: a terminal may read a part of its name as a command.';
 export const openWaitForImage = '{names}: open the disc image that it is for.|{names}: open the disc image that they are for.';
 export const openThenTheyAreUsed = 'It is used as soon as the image is open.|They are used as soon as the image is open.';
-export const openNotOpenedYet = 'Not opened.';
 
 // the uses of a second image
-export const openRepairItFrom = 'Repair {name} from it';
+export const openRepairItFrom = 'Repair the open {name} with this file';
 export const openRepairOtherFrom = 'Repair {name} from {other}';
 export const openWhatToDoWith = 'What do you want to do with {name}?';
 export const openCompareIt = 'Compare';
@@ -233,7 +207,20 @@ export const openEarlier =
     'It is shifted: it begins {n} sector earlier than {name}.|It is shifted: it begins {n} sectors earlier than {name}.';
 export const openRepairUsesCommon = 'A repair uses the blocks that both images have. A comparison needs two images with the same blocks.';
 
-// ---- end of opening files
+// ---- the list of several files
+
+export const listTitle = 'List of files';
+export const listExamining = 'Examining the files';
+export const listExamined = '{done} of {n} file was examined.|{done} of {n} files were examined.';
+export const listSave = 'Save…';
+export const listOpenIt = 'Open it';
+export const listFindings = 'findings';
+export const listWithout = 'without findings';
+export const listWith = 'with findings';
+export const listUntested = 'not tested';
+export const listOther = 'not an image|not images';
+export const listNotRead = 'not examined';
+export const listTrackMissing = 'Track {number} is in a missing file.';
 
 // ---- the open image's line
 
@@ -276,12 +263,22 @@ export const imageCodesFitBut = '{codesFit}; {others}.';
 export const imageLostSync = '{n} lost its sync field or mode byte|{n} lost their sync field or mode byte';
 export const imageHaveOtherAddress = '{n} has a wrong address|{n} have a wrong address';
 export const imageCountOfModeOne = '{n} Mode 1 sector|{n} Mode 1 sectors';
+export const imageCountOfData = '{n} data sector|{n} data sectors';
+export const imageAllDataSound = 'The data sector that was tested is sound:|All {n} data sectors that were tested are sound:';
+export const imageModeTwoNotTested = '{n} Mode 2 sector could not be tested.|{n} Mode 2 sectors could not be tested.';
+export const imageModeTwoNotPatched = 'You can view and repair Mode 2 sectors, but not patch them.';
+export const modeTwoIsDamaged = 'This Mode 2 sector is damaged: {what}.';
+export const modeTwoNotTested = 'This Mode 2 sector was not tested: it has no codes that show damage.';
+export const modeTwoElsewhere = 'The address in its header is not that of its block.';
+export const modeTwoSubheader = 'the two copies of the subheader differ';
+export const modeTwoEdc = 'the EDC does not match';
+export const modeTwoParity = 'the parity does not match';
 export const imageDamagedOf = '{n} of {sectors} is damaged,|{n} of {sectors} are damaged,';
-export const imageDamagedWhere = '{damaged} {places}. The rest is sound.';
+export const imageDamagedWhere = '{damaged} {places}. The other tested sectors are sound.';
 export const imageAllOverDisc = 'all over the disc';
 export const imageInPlaces = 'in {n} place|in {n} places';
 export const imageRepairFromOther = 'Repair from another dump…';
-export const imageGoToFirstPlace = 'Go to the first place';
+export const imageGoToFirstPlace = 'Go to the first finding';
 export const imageNoAddressFits = 'No Mode 1 sector has the address expected for its block.';
 export const imageBaseIsProbably = 'Judging by the addresses, the base is probably {base}, not {own}.';
 export const imageSectorsAreDamaged = '{n} sector is damaged.|{n} sectors are damaged.';
@@ -295,8 +292,6 @@ export const imageVolumeMayGoOn =
 export const imageCloseImage = 'Close {name}?';
 export const imageCloseAnyway = 'Close it anyway';
 
-// ---- end of the open image's line
-
 // ---- disc: map, findings, files
 
 export const discHeading = 'Disc';
@@ -306,23 +301,27 @@ export const discMapOfDisc = 'Map of the disc';
 export const discSquareIsSector = '1 square = 1 sector';
 export const discPixelIsSector = '1 pixel = 1 sector';
 export const discPixelIsSectors = '1 pixel = {n} sectors, the worst shown';
+export const discFilesInShades = '{per}, files in two shades by turns';
 export const discMinutesOnRuler = '{minute} min';
 export const discNoSectorChosen = 'No sector is chosen.';
 export const discPressLegendEntry = 'Legend: select an entry to show only that kind';
+export const discOnlyShown = 'only {name} shown ×';
 export const discToPreviousFinding = '◂ Previous finding';
 export const discToNextFinding = 'Next finding ▸';
+export const discOpenSector = 'Open the sector ▾';
 
 // a sector in words: under the map, at the pointer, and for screen readers
 export const discBlockNumber = 'Block {block}';
 export const discSpokenSector = 'Block {block}, {kind}';
 export const discSpokenFinding = 'Block {block}, {kind}, {finding}';
 export const discSectorNotRead = 'not read yet';
-export const discLostInModeOne = 'in a Mode 1 track: sync field or mode byte lost';
+export const discLostInTrack = 'in a data track: sync field or mode byte lost';
 export const discIsDamaged = 'damaged';
 export const discIsDamagedBy = 'damaged: {codes}';
 export const discAddressOfSector = 'address {address}';
 export const discFileIs = 'file {name}';
 export const discModeOneSectors = 'the Mode 1 sector|all {n} Mode 1 sectors';
+export const discDataSectors = 'the tested data sector|all {n} tested data sectors';
 
 // the card of findings: its tabs and buttons; screen readers say the second text of a copy button after the first
 export const discFindingsCard = 'Findings, files and runs';
@@ -341,7 +340,7 @@ export const discSectorsColumn = 'Sectors';
 export const discSectorsLabel = 'sectors';
 export const discWhatColumn = 'What';
 export const discLooksLikeColumn = 'Looks like';
-export const discLooksLikeIsGuess = '“Looks like” is a guess from the distances. The other columns are what cdpatch found.';
+export const discLooksLikeIsGuess = '“Looks like” is guessed from the spacing of the damaged sectors. The other columns were found.';
 export const discMoreFindings = 'and {n} more (all are under “As text”)';
 
 // the findings at a place
@@ -382,14 +381,17 @@ export const discFilesBeingListed = 'The files are being listed.';
 export const discNoVolumeFound = 'No ISO 9660 file system was found, so files cannot be listed.';
 export const discVolumeHasNoFiles = 'The volume has no files.';
 export const discNoNameHasThis = 'No matching files.';
-export const discFilesByBlocks = 'The files of the disc’s ISO 9660 volume, in the order of their blocks.';
+export const discFilesOfVolume = 'The files of the disc’s ISO 9660 volume.';
 export const discFilesCounted = '{n} file|{n} files';
 export const discFilesOfAll = '{count} of {all}';
 export const discFilesFromTo = '{from}–{to} of {all}';
 export const discPreviousFiles = '◂ Previous';
 export const discNextFiles = 'Next ▸';
 export const discChooseFile = 'Select a file to see its first sector and to save or replace it.';
+export const discFileInScript = 'in the script';
 export const discExtractFile = 'Extract…';
+export const discExtractPatched = 'Extract as patched…';
+export const discTakeBack = 'Take back';
 export const discReplaceFile = 'Replace…';
 export const discJobCancelled = 'Cancelled.';
 export const discReadingFile = 'Reading the file';
@@ -405,6 +407,8 @@ export const discLinesAdded = '{n} line added to the script.|{n} lines added to 
 export const discEarlierLinesGone = '{n} earlier line for this file was removed.|{n} earlier lines for this file were removed.';
 export const discOtherLinesWrite = 'Line {line} writes in this file too, so it will not be exactly the new one.|\
 {n} other lines write in this file too, the first is line {line}, so it will not be exactly the new one.';
+export const discLinesStay = 'Line {line} still writes in this file.|{n} lines still write in this file. The first is line {line}.';
+export const discLinesNotInFile = '{n} line that does not match is left out.|{n} lines that do not match are left out.';
 export const discFileAsOnDisc = 'This is the file on the disc, without the patches of the script.';
 export const discFileChangesLength = '{name}: {before} bytes, now {after}.';
 export const discOpenScriptPanel = 'Open Script';
@@ -431,13 +435,12 @@ export const discFileLoaded = 'Loaded: {name}';
 export const discDumpsListed = 'It lists {n} known dump.|It lists {n} known dumps.';
 export const discOpenToLookUp = 'Open a disc image, to see whether it is one of them.';
 export const discImageIsLookedUp = 'The open image is looked up in it.';
+export const discListIsLookedUp = 'The images of the list are looked up in it.';
 export const discNotAListOfDumps = 'This list of known dumps cannot be read: {name}';
 export const discInNoListOfDumps = 'in none of the lists of known dumps';
-export const discSizeInListOfDumps = 'in none of the lists of known dumps, but one of this size is: perhaps that dump repairs it';
+export const discSizeOfDump = 'the size of {name}, but other bytes: damaged or patched?';
 export const discKnownBadDump = 'known as a bad dump: {name}';
 export const discVerifiedDump = 'known dump: {name}';
-
-// ---- end of disc
 
 // ---- disc: a sector
 
@@ -446,7 +449,7 @@ export const sectorNoSectorOpen = 'No sector is open';
 export const sectorOfBlock = 'Sector of {block} {number}';
 export const sectorGoToBlock = 'Go to block';
 export const sectorBlocksOfImage = 'The blocks of this image are {first} to {last}.';
-export const sectorEncodingOfBytes = 'Text';
+export const sectorEncodingOfBytes = 'Encoding';
 export const sectorOffsetsDecimal = 'Show decimal offsets';
 export const sectorOffsetsHexadecimal = 'Show hex offsets';
 export const sectorHowToOpenSector =
@@ -468,6 +471,7 @@ export const sectorCodesDoNotFitEither =
 export const sectorTheyCrossNowhere = '{codes}; they have no byte in common.';
 export const sectorTheyCrossOnce = '{codes}; they cross at the outlined byte, {place}: it is probably the wrong one.';
 export const sectorTheyCross = '{codes}; they cross at the {count} outlined bytes, {place}: the wrong ones are probably among these.';
+export const sectorByteOfCodes = 'P and Q give {fresh} in place of {old} at {place}. The EDC then matches.';
 export const sectorBytesFromTo = '{first} to {last}';
 export const sectorSoundElsewhere = 'This sector is sound, but it has a wrong address. {line}';
 export const sectorHeaderSays = 'Its header says {has}, and block {block} has {wants}.';
@@ -477,8 +481,8 @@ export const sectorHasNoSync = 'This sector has no sync field.';
 export const sectorIsNotModeOne = 'This is not a Mode 1 sector.';
 export const sectorIsAudioOrUnknown = 'It is audio or an unknown format.';
 export const sectorOnlyLookedAt = 'You can view it, but not patch it.';
-export const sectorHasLostSync = 'This sector has no sync field, but its track is Mode 1.';
-export const sectorHasLostMode = 'This sector is not Mode 1, but its track is.';
+export const sectorHasLostSync = 'This sector has no sync field, but its track is data.';
+export const sectorHasLostMode = 'This sector does not have the mode of its track.';
 export const sectorNoPatchRepairsThat = 'It has probably lost its sync field or mode byte. A patch cannot repair that, but a whole ' +
     'sector from another dump can.';
 
@@ -490,7 +494,7 @@ export const sectorRepairFrom = 'Repair from {name}';
 export const sectorAddToScript = 'Add {verb} to the script';
 export const sectorIsInScript = '{verb} is in the script';
 export const sectorRebuildsNow = 'Line {line} is {patch} now.';
-export const sectorRebuildsBeforeChange = 'Line {line} is {patch} now, before the other patches of this sector.';
+export const sectorPatchComesFirst = 'Line {line} is {patch} now, before the other patches of this sector.';
 export const sectorRebuildHidesDamage =
     '{verb} makes the sector valid with its present bytes. If these are wrong, it hides the damage for good.';
 
@@ -544,8 +548,6 @@ export const sectorOnlyUserDataTyped = 'Only the user data of Mode 1 sectors can
 export const sectorTooManyBytes = 'You are pasting {n} bytes, but there is room for only {room} here in the user data of this sector.';
 export const sectorNoHexDigits = 'These are not pairs of hexadecimal digits. Press T to paste as text.';
 
-// ---- end of a sector
-
 // ---- text: finding and replacing
 
 // in tables and notices, for example those of a second image
@@ -556,6 +558,8 @@ export const textCountOfSectors = '{n} sector|{n} sectors';
 // the text to search for, and its encoding
 export const textFindText = 'Find';
 export const textFindThisText = 'Find this text';
+export const textFindExample = 'for example スタート';
+export const textFindHexExample = 'for example 83 58 81 5B';
 export const textFindEncoding = 'Encoding';
 export const textLoadTableFile = 'Load a .tbl file…';
 export const textTableToLoad = 'A table to load';
@@ -600,11 +604,11 @@ export const textOldTextHas = 'Old text: {n} byte|Old text: {n} bytes';
 export const textNewText = 'New text';
 export const textBytesOfNewText = '{n} byte|{n} bytes';
 export const textJustAsMany = '{bytes} of {size}, exact fit';
-export const textMoreToFill = '{bytes} of {size}, and {more} to fill';
+export const textMoreToFill = '{bytes} of {size}, {more} to pad';
 export const textBytesTooMany = '{n} byte, {more} too many|{n} bytes, {more} too many';
 export const textForOldText = '{bytes} for the {size} of the old text';
-export const textFillWith = 'Fill with';
-export const textByteToFillWith = 'The byte to fill with, two digits';
+export const textFillWith = 'Pad with';
+export const textByteToFillWith = 'The byte to pad with, two digits';
 export const textHexEncoding = 'Bytes in hex';
 export const textSpaceFill = 'space';
 export const textWideSpaceFill = 'wide space';
@@ -620,6 +624,7 @@ export const textTakesPlaceOfLine = 'This line replaces line {line}';
 export const textGoesIntoScript = 'This line goes into the script';
 export const textUpdateLine = 'Update line {line}';
 export const textReplaceAll = 'Replace all {n}';
+export const textReplaceOthers = 'Replace the other {n}';
 export const textSkipHit = 'Skip ▸';
 export const textReplacesAndNext = '{key} replaces and goes to the next hit.';
 export const textAddedToScript = 'Added to the script.';
@@ -635,15 +640,19 @@ export const textBytesAroundPlace = 'The bytes around block {block} offset {offs
 export const textOpenTheSector = 'Open the sector';
 
 // all texts of the disc
-export const textAllTextsAsTable = 'All texts of the disc, as a table for a spreadsheet:';
-export const textExportTexts = 'Export texts…';
-export const textLookingForTexts = 'Looking for texts';
-export const textNoTableSaved = 'No table was saved.';
+export const textAllTextsAsTable = 'All text on the disc, with the translations in the script:';
+export const textExportTexts = 'Export a table…';
+export const textExportPo = 'Export PO…';
+export const textLookingForTexts = 'Looking for text';
+export const textNoTableSaved = 'No list was saved.';
+export const textTableLacksScript = 'The script has a faulty line, so the list has no translations. Correct the line, then export again.';
 export const textNoTextFound = 'No text was found.';
-export const textTableHasTexts = 'It has {n} text.|It has {n} texts.';
-export const textWriteNewTexts = 'Put your translations in the column “new”, then import the table.';
-export const textImportTable = 'Import a table…';
-export const textTableToImport = 'A table to import';
+export const textTableHasTexts = 'It has {n} string.|It has {n} strings.';
+export const textWriteNewTexts = 'Put your translations in the column “new”, then import it here.';
+export const textTranslatePo = 'Translate it with a PO editor, then import it.';
+export const textHasNewTexts = 'It has {n} translation from the script.|It has {n} translations from the script.';
+export const textImportTable = 'Import a list…';
+export const textTableToImport = 'A table or PO file to import';
 export const textMakingOfRows = 'rows';
 export const textScriptLongerThanTaken = 'The script would be longer than cdpatch accepts. Use cdscript replace --list instead.';
 export const textLinesReplaced = '{n} line replaced an earlier one.|{n} lines replaced earlier ones.';
@@ -652,10 +661,14 @@ export const textLinesWithdrawn = 'The table has no new text for line {lines} of
 The table has no new text for the lines {lines} of the script.';
 export const textRemoveLines = 'Remove from the script';
 export const textLinesRemoved = 'Lines removed: {n}. Ctrl+Z in the script brings them back.';
-export const textNewTextsFit = 'The new text fits.|All {n} new texts fit.';
-export const textSomeTextsFit = '{n} new text fits, {others}.|{n} new texts fit, {others}.';
+export const textNewTextsFit = 'The translation fits.|All {n} translations fit.';
+export const textSomeTextsFit = '{n} translation fits, {others}: {why}.|{n} translations fit, {others}: {why}.';
+export const textLeftTooLong = '{n} too long';
+export const textLeftCharacters = '{n} with a character that the encoding lacks';
+export const textLeftOtherText = '{n} with a different old text there';
+export const textLeftOthers = '{n} for other reasons';
 export const textOthersDoNot = '{n} does not|{n} do not';
-export const textMoreCodesLeftOut = 'New texts leave out {n} more code.|New texts leave out {n} more codes.';
+export const textMoreCodesLeftOut = 'Translations leave out {n} more code.|Translations leave out {n} more codes.';
 export const textRowsDoNotFit = '{n} row does not fit|{n} rows do not fit';
 export const textColumnRow = 'Row';
 export const textColumnPlace = 'Block, offset';
@@ -663,9 +676,13 @@ export const textColumnText = 'Text';
 export const textColumnWhyNot = 'Why it does not fit';
 export const textPlaceLabel = 'at';
 export const textMoreRowsCopied = 'and {n} more (included in Copy).';
-export const textPressRow = 'Select a row to see the bytes there. Correct it in your table and import the table again.';
-
-// ---- end of text
+export const textPressRow = 'Correct a row here. Or save the rows, correct them in that table, and import it.';
+export const textCorrectRow = 'Correct row {row}';
+export const textOldText = 'Old text';
+export const textRoomFor = '{bytes}: there is room for {size}';
+export const textCorrectInTable = 'A different new text does not help: correct this row in your table.';
+export const textAddRow = 'Add to the script';
+export const textAllRowsAdded = 'All translations are in the script now.';
 
 // ---- script: editor and check
 
@@ -674,11 +691,12 @@ export const scriptCard = 'Script';
 export const scriptNewScript = 'New script';
 export const scriptFaultsOfScript = '{n} error|{n} errors';
 export const scriptCharactersOfScript = '{n} character|{n} characters';
-export const scriptChangesOfScript = '{n} patch|{n} patches';
-export const scriptChangesAndVersion = '{changes}, version {version}';
+export const scriptPatchCount = '{n} patch|{n} patches';
+export const scriptPatchesAndVersion = '{changes}, script version {version}';
 export const scriptNotSaved = 'not saved';
 export const scriptToOpen = 'A script to open';
-export const scriptSaveScript = 'Save script…';
+export const scriptWhatToSave = 'What do you want to save?';
+export const scriptSaveScript = 'The script…';
 export const scriptFile = 'script.txt';
 export const scriptIsNotSaved = 'Your script is not saved.';
 export const scriptReplacedYours = 'This script replaced yours, which was not saved.';
@@ -686,7 +704,7 @@ export const scriptBringItBack = 'Bring it back';
 export const scriptLinesNotShown = 'This script is too long: its lines are not shown.';
 
 // the script that undoes the open script
-export const scriptUndoScript = 'Save an undo script…';
+export const scriptUndoScript = 'A script that undoes it…';
 export const scriptMakingUndo = 'Making the undo script';
 export const scriptMakingFile = 'Making {name}';
 export const scriptUndoFile = '{script} (undo).txt';
@@ -713,7 +731,7 @@ export const scriptLineMeans = 'Line {line}:';
 export const scriptEmptyLine = 'an empty line.';
 export const scriptCommentLine = 'a comment. It changes nothing.';
 export const scriptHeadMeans = 'the version of the script. Then one patch per line, for example {example}';
-export const scriptExampleMeans = 'which writes 5 bytes at [offset] 26 of [block] 4711, if the old bytes are there.';
+export const scriptExampleMeans = 'which writes 8 bytes at [offset] 26 of [block] 4711, if the old bytes are there.';
 export const scriptAtOffset = 'at [offset] {offset} of [block] {block}';
 export const scriptOverBorder = '{place}, continuing into block {last}';
 export const scriptInFile = '{place}, in {file}';
@@ -724,7 +742,7 @@ export const scriptWriteWhatever = 'write {size} byte {place}, whatever is there
 export const scriptWriteByte = 'write {size} byte {byte} {place}.|write {size} bytes {byte} {place}.';
 export const scriptCalculateAnew = 'recalculate EDC and parity of [block] {block} from its current bytes.';
 export const scriptWriteAddress = 'write the address {address} in the header of [block] {block}.';
-export const scriptPatchIsRefused = 'It {words}.';
+export const scriptPatchIsRefused = 'It is {words}.';
 export const scriptNewTextShort = 'new';
 export const scriptOldText = 'old';
 
@@ -787,13 +805,13 @@ export const scriptCheckTries =
     'Check tries its patch on this image, and writes nothing.|Check tries its {n} patches on this image, and writes nothing.';
 export const scriptCheckTriesAll = 'Check tries its patches on this image, and writes nothing.';
 export const scriptPatchDamagedToo = 'Patch damaged sectors too ({carry})';
-export const scriptTheyStayDamaged = 'They stay marked as damaged.';
+export const scriptTheyStayDamaged = 'Their damage is kept, not repaired.';
 export const scriptCheckAgain = 'Check again';
 export const scriptApplyAndSave = 'Apply and save…';
 export const scriptFixErrors = 'Fix the errors to continue.';
 export const scriptSavesNewImage = 'Saves a new image.';
 export const scriptSavesWhatFits = 'Saves a new image with the {n} patch that fits.|Saves a new image with the {n} patches that fit.';
-export const scriptStaysAsItIs = '{name} stays as it is.';
+export const scriptStaysAsItIs = '{name} is not changed.';
 export const scriptCheckingScript = 'Checking';
 export const scriptNothingSavedOpenAgain = 'Nothing was saved. Open it again.';
 
@@ -801,13 +819,13 @@ export const scriptNothingSavedOpenAgain = 'Nothing was saved. Open it again.';
 export const scriptTheScript = 'The script';
 export const scriptHasNoChange = '{script} has no patches.';
 export const scriptWouldBeCopy = 'The saved image would be an unchanged copy.';
-export const scriptAllChangesFit = '{script}: {n} patch, which fits {image}.|{script}: {n} patches, all fit {image}.';
-export const scriptNoChangeFits = '{script}: {n} patch, which does not fit {image}.|{script}: {n} patches, which do not fit {image}.';
+export const scriptAllChangesFit = '{script}: {n} patch, which matches {image}.|{script}: {n} patches, which all match {image}.';
+export const scriptNoChangeFits = '{script}: {n} patch, which does not match {image}.|{script}: {n} patches, which do not match {image}.';
 export const scriptIsPatchedAlready = '{image} is patched already.';
 export const scriptChangesStandThere = 'It holds what the patch of {script} writes.|It holds what all {n} patches of {script} write.';
 export const scriptAnotherRelease = 'Another release, another disc, or another base?';
 export const scriptSomeChangesFit =
-    '{script}: {fitting} of {all} patches fit {image}, {n} does not.|{script}: {fitting} of {all} patches fit {image}, {n} do not.';
+    '{script}: {fitting} of {all} patches match {image}, {n} does not.|{script}: {fitting} of {all} patches match {image}, {n} do not.';
 export const scriptNothingShowsFit =
     'Nothing shows whether the patch of {script} fits {image}.|Nothing shows whether the {n} patches of {script} fit {image}.';
 export const scriptNamesNone = 'It names no old bytes.|None of them names old bytes.';
@@ -820,9 +838,6 @@ export const scriptRepairOrCarry = 'Repair the image first, or tick “Patch dam
 export const scriptAnotherTrack = 'Only Mode 1 sectors are patched. Another track, or another disc?';
 export const scriptAnotherTrackOrBase = 'Another track, or another base?';
 export const scriptSavedWithout = 'A new image can be saved without that patch.|A new image can be saved without those patches.';
-export const scriptCountCanBeApplied = '{n} can be applied';
-export const scriptCountFits = '{n} fits|{n} fit';
-export const scriptCountDoesNotFit = '{n} does not fit|{n} do not fit';
 
 // the log; only screen readers say the purpose of its buttons
 export const scriptLogOfCheck = 'Log';
@@ -832,32 +847,27 @@ export const scriptWhichLog = ' the log';
 export const scriptLogFile = 'log.txt';
 export const scriptLogIsPrinted = 'The same text as {command} prints, in the order of application: by block, then by line.';
 
-// ---- end of script
-
 // ---- saving
 
 // while an image is being saved
-export const saveSavingImage = 'Saving';
-export const saveSavingFile = 'Saving {name}';
 export const saveAfterCancel = 'If you cancel, the browser deletes the unfinished file.';
 export const savePatchedInName = 'patched';
 
 // the saved image
 export const saveImageSaved = 'Saved';
 export const saveSavingByBrowser = 'Saving by your browser';
-export const saveBrowserIsSaving = 'Your browser is saving {name}';
 export const saveFileWithout = '{name}, without {refused} of {n} patch|{name}, without {refused} of {n} patches';
 export const saveOtherBytesAsBefore = 'All other bytes are as before.';
 export const saveKeepPageOpenOnly = 'Keep this page open until the download is complete.';
+export const saveIsComplete = 'The download has finished';
 export const saveSizeOfSaved = 'size';
 export const saveHashPercent = '({percent} %)';
 export const saveSumNotRead = 'not available: the browser does not read the file back';
 export const saveDropToCheck = 'To check what was saved, drop the file on this page.';
 export const saveEmulatorOpensSheet = 'Your emulator opens a cue sheet: save one that names the new image, next to it.';
-export const saveOldSheetNamesOld = 'A .cue of the old image starts the old game. Open it with that image here, ' +
-    'and you can save one for the new image.';
+export const saveOldSheetNamesOld = 'If you have a .cue of the old image, it still starts the old game. Open it here together with ' +
+    'that image, and you can save one for the new image.';
 export const saveSheetNamesOthers = 'The cue sheet also names files that you saved before: {names}';
-export const saveCueSheet = 'Save a cue sheet…';
 export const saveOpenNewImage = 'Open the new image';
 export const saveBackToCheck = 'Back to Check';
 
@@ -872,23 +882,6 @@ export const saveSumDiffersSaveAgain = 'Its SHA-1 does not match. Save it again.
 // the reasons why an image was not saved
 export const saveImageNotSaved = 'Not saved';
 export const saveBackFromSaving = 'Back';
-export const saveNoImageKept = 'No image was kept.';
-export const saveDiskIsFull = 'The disk is full at {percent} %.';
-export const saveWritingFailed = 'Writing failed at {percent} %: {why}';
-export const saveAsksAfterClick = 'The browser shows its file dialog only right after a click. Press the button again.';
-export const saveOpenFileHasName = 'Another open file has this name: {name}';
-export const saveNothingSavedChooseName = 'Nothing was saved. Choose another name.';
-export const saveIsOpenImage = 'This is the open image itself: {name}';
-export const saveNeverWrittenOver = 'cdpatch never writes over it. Choose another name.';
-export const saveSetSaidBase = 'Set the base named in the script, or delete that line.';
-export const saveScriptTooLong = 'The script is too long.';
-export const saveMostScriptBytes = 'A script has at most {most} bytes. Cut it into two.';
-export const saveCorrectLineFirst = 'Nothing was done. Correct the line first.';
-export const saveImageTooLong = 'The image is too long.';
-export const saveMostSectors = 'An image has at most {most} sectors.';
-export const saveNotTheAuthorsImage = 'The patched image is not the one that the author made: its SHA-1 does not match.';
-
-// ---- end of saving
 
 // ---- a second image
 
@@ -920,8 +913,8 @@ export const secondOtherDataHere =
     '{n} sector has different data and a different EDC here.|{n} sectors have different data and a different EDC here.';
 export const secondLookAtThemFirst = 'Perhaps the second image is another release of the disc: look at {blocks} first.';
 export const secondSoundInBoth = '{n} sector is sound in both, and differs.|{n} sectors are sound in both, and differ.';
-export const secondNotTestedDiffer = '{n} sector is not Mode 1, and differs.|{n} sectors are not Mode 1, and differ.';
-export const secondNotTestedStay = 'Such sectors are not tested. They stay as they are here.';
+export const secondNotTestedDiffer = '{n} sector was not tested, and differs.|{n} sectors were not tested, and differ.';
+export const secondNotTestedStay = 'These are audio or Mode 2 sectors without codes that show damage. They stay as they are here.';
 export const secondPerhapsAnotherRelease = 'Perhaps it is another release of the disc. They stay as they are here.';
 export const secondTailsDiffer = 'The bytes after the last sector differ.';
 export const secondTheyStay = 'They stay as they are here.';
@@ -964,7 +957,6 @@ export const secondSectorsRepaired = '{n} sector repaired.|{n} sectors repaired.
 export const secondStillDamaged = '{n} is still damaged: {blocks}.|{n} are still damaged: {blocks}.';
 export const secondNoneStillDamaged = 'None is damaged any more.';
 export const secondOthersAsBefore = 'All sectors that were not repaired are as before.';
-export const secondKeepPageOpen = '{size} MB. Keep this page open until the download is complete.';
 
 // comparison
 export const secondBothSameSectors = 'Both images are the same, sector for sector.';
@@ -992,6 +984,8 @@ export const secondScriptHasBytes = '{n} bytes.';
 export const secondGivesExactly = 'Verified: applied to {image} it gives exactly {goal}.';
 export const secondGivesButForOne = 'Verified: applied to {image} it gives {goal}, except for {blocks}, which it leaves as it is.';
 export const secondGivesButForSome = 'Verified: applied to {image} it gives {goal}, except for {blocks}, which it leaves as they are.';
+export const secondModeTwoLeftOut =
+    '{n} Mode 2 sector is left out: a script changes only Mode 1.|{n} Mode 2 sectors are left out: a script changes only Mode 1.';
 export const secondAppliedWithLong = 'This exceeds the limits of cdpatch: apply it with cdscript and --long.';
 export const secondNoScriptWritten = 'No script was written.';
 export const secondScriptNotWritten = 'The script is not written: {why}.';
@@ -1000,14 +994,16 @@ export const secondUseSecondItself = 'Use the second image itself, or “Repair 
 export const secondDamageHidden = 'Their wrong bytes would get a correct EDC, and nobody could see the damage any more.';
 export const secondLeaveOut = 'Leave this one out|Leave these {n} out';
 
-// ---- end of a second image
-
 // ---- publishing
 export const publishPatcherForPlayers = 'A patcher for your players';
 export const publishPatcherTitle = 'Title';
 export const publishPatcherAuthor = 'By';
 export const publishNoteForPlayers = 'Note for players';
+export const publishKeepInScript = 'Keep these in the script';
+export const publishKeptInScript = 'Title, author, and note are comments of the script now. Save the script: they come back with it.';
 export const publishPatchedImageName = 'Name of the patched image';
+export const publishPatcherLanguage = 'Language of the patcher';
+export const publishBrowserDecides = 'The player’s browser decides';
 export const publishOfferCueSheet = 'Offer a cue sheet that names the patched image';
 export const publishDamagedTooAsOpened = 'Patch damaged sectors too ({carry}), as in the patcher you opened';
 export const publishNothingInPatcherYet = 'Your entries under Publish have not been saved in a patcher yet.';
@@ -1039,6 +1035,7 @@ The old bytes come from the game ({n} bytes). Check whether you may publish them
 // saving the patcher
 export const publishSaveAsPatcher = 'Save as a patcher…';
 export const publishSeeAsPlayer = 'Preview as a player';
+export const publishPatcherSize = 'About {size} KB.';
 export const publishPatcherIsOneFile = 'One .html file with this page, your script, and what you entered here. It holds no image.';
 export const publishNoLicenceYet = 'The publisher of this copy of cdpatch, which the patcher contains, has not given a licence yet: ' +
     'try it, but ' +
@@ -1048,139 +1045,3 @@ export const publishCalculatingResultSha1 = 'Calculating the SHA-1 of the result
 export const publishCalculatingForPlayers = 'Calculating the SHA-1 of the patched image, so that players can compare theirs.';
 export const publishNoPatcherSaved = 'No patcher was saved.';
 export const publishPlayersOpenIt = 'Players double-click it and drop their image on it.';
-
-// ---- end of publishing
-
-// ---- player
-export const playerPageStillLoading = 'The rest of this page is still being loaded.';
-export const playerOpensIfPatcher = 'If it is a patcher, it opens then.';
-export const playerPatcherUnusable = 'This patcher does not work.';
-export const playerGetPatcherAgain = '{fault}. Get it again from where its author offers it.';
-// a page that is dropped on this page
-export const playerPatcherFileUnusable = 'This patcher does not work: {name}';
-export const playerNotThisCdpatch = 'Not the same program as this page: {name}';
-export const playerPageButNoPatcher = 'It is a web page, not a cdpatch patcher. A browser that opens it may run what is in it.';
-export const playerThisVeryPage = 'The same file as this page, byte for byte: {name}';
-export const playerThisPageAndSpace = 'This page, and white space after it: {name}';
-export const playerThisCdpatch = 'Exactly the program of this page, byte for byte: {name}';
-export const playerReleaseOfCdpatch = 'Exactly the program of cdpatch {release}, byte for byte: {name}';
-export const playerEarlierRelease = 'It is an earlier release.';
-export const playerOtherVersionOrChanged = 'It is another version, or it was changed.';
-export const playerHoldsNoPatch = 'It holds no patch.';
-export const playerOnlyPatchRead = 'Only its patch was read.';
-export const playerOnlyPatchReadHere = 'Only its patch was read: what works here is this page.';
-export const playerComparisonSaysNothing = 'The comparison does not show who made the patch, or what it does.';
-// the reasons why a patcher cannot be read or saved
-export const playerPageWasChanged = 'Something in this browser has changed this page, an extension perhaps. Turn it off for this page, ' +
-    'and open the page again';
-export const playerDataTooLong = 'the data are too long';
-export const playerNameOfNoImage = 'the name of the patched image is not a valid .bin, .img, or .iso name';
-export const playerDataOfWrongForm = 'the data do not have the expected form: the file is incomplete, or was changed';
-export const playerDataCut = 'the data are incomplete';
-export const playerDataChanged = 'the data were corrupted on the way: the checksum does not match';
-export const playerDataNotUnpacked = 'the data cannot be unpacked';
-export const playerDataWithoutHead = 'the data have no head';
-export const playerHeadNotJson = 'the head of the data is not JSON';
-export const playerHeadWithOtherMembers = 'the data do not have the expected fields';
-export const playerHeadWithWrongMember = 'the data have a wrong {member}';
-// the page of a patcher
-export const playerPatcherMadeWith = 'A patcher made with cdpatch';
-export const playerBackToPublish = 'Back to Publish';
-export const playerOpenInFullCdpatch = 'Open this in the full cdpatch';
-export const playerWhatAuthorWrites = 'What the author writes';
-export const playerAuthorWrites = 'The author writes:';
-export const playerByAuthor = 'by {author}';
-export const playerNewFileIsSaved = 'Your image is not changed; a new file is saved.';
-export const playerReadTheScript = 'Read the script';
-export const playerTheScriptItself = 'The script';
-export const playerOnlyItsBeginning = 'This is only its beginning. Save it to read all.';
-export const playerCanITrustIt = 'Can I trust this file?';
-export const playerHowToTrustIt = 'Anybody can change a page and pass it on, and a page cannot vouch for itself. If you are not sure: ' +
-    'get cdpatch.html from a source you trust, open it, and drop this file on it. It compares the program byte for byte with its own, ' +
-    'and reads only the patch.';
-// the first step of that page
-export const playerYourDisc = 'Your disc';
-export const playerYourDiscImage = 'Your disc image';
-export const playerDropDiscImage = 'Drop your disc image here';
-export const playerDropToBeChecked = 'Drop your disc image: it is checked, and not changed.';
-export const playerChooseTheImage = 'Choose the image…';
-export const playerBinOrCueAndBins = 'The .bin file, or the .cue and all .bin files together';
-export const playerIsoOfPartSectors = '{name} is an ISO image, which has only a part of each sector.';
-export const playerNeedsFullDump =
-    'This patcher needs a full dump: a .bin file of 2352 bytes a sector. Dump your disc again, as BIN and CUE.';
-export const playerIsMusicTrack = 'This is music; choose the data track: {name}';
-export const playerCheckingYourImage = 'Checking your image';
-// the verdict on the image
-export const playerRightDisc = 'This is the right disc.';
-export const playerOtherDumpFits = 'This is a different dump, but the patch fits it.';
-export const playerNotAuthorsDisc = 'This is not the author’s disc.';
-export const playerOtherDumpFitsNot = 'This is a different dump, and the patch does not fit it.';
-export const playerDumpDamaged = 'This dump is damaged in places that the patch changes.';
-export const playerImageIsPatched = 'This image is patched already.';
-export const playerPlacesHoldNewBytes = 'These places hold the new bytes already.';
-export const playerChooseAnother = 'Choose another';
-export const playerChooseAnotherImage = 'Choose another image…';
-// the reasons for the verdict
-export const playerHoldOtherBytes = '{n} of {places} holds other bytes.|{n} of {places} hold other bytes.';
-export const playerOtherReleaseProbably = 'It is probably another release of the game.';
-export const playerOlderPatchPerhaps = 'Or an older version of this patch has changed it: choose the original image.';
-export const playerAreDamaged = '{n} of {places} is damaged.|{n} of {places} are damaged.';
-export const playerTryAnotherDump = 'Try another dump of this disc, or repair this one with the full cdpatch.';
-export const playerHoldNoData = '{n} of {places} is not in a data sector here.|{n} of {places} are not in a data sector here.';
-export const playerOtherTrackOrDisc = 'It is probably another track or another disc.';
-export const playerNotInThisImage = '{n} of {places} is not in this image.|{n} of {places} are not in this image.';
-export const playerOtherTrackOrCut = 'It is probably another track, or the file is incomplete.';
-export const playerPlacesOfPatch = '{n} place|{n} places';
-export const playerPlacesMatch = 'The place matches.|All {n} places match.';
-export const playerRestDiffers = 'The rest of the disc differs from the author’s.';
-export const playerMusicShiftedPerhaps = 'The rest of the disc differs from the author’s: perhaps its music is shifted.';
-export const playerPlacesMatchRestUnknown = 'The place matches, but nothing shows whether the rest is of the same disc.|\
-All {n} places match, but nothing shows whether the rest is of the same disc.';
-export const playerNamesNoOldBytes = '{n} of {changes} names no old bytes, so nothing shows whether it fits.|\
-{n} of {changes} name no old bytes, so nothing shows whether they fit.';
-export const playerChangesOfPatch = '{n} patch|{n} patches';
-export const playerSizesDiffer = 'Your image has {n} bytes, and the author’s has {wanted}.';
-export const playerSectorsOfImageDamaged = '{n} sector of your image is damaged.|{n} sectors of your image are damaged.';
-export const playerNotAuthorsResult =
-    'There is nothing to patch. But this is not the image that the author made: its SHA-1 does not match.';
-export const playerAuthorPatchesDamaged = 'The author has it patch damaged sectors too: they keep their damage.';
-export const playerNothingWasSaved = 'Nothing was saved.';
-export const playerSaveWithFitting = 'Save with the {n} patch that fits…|Save with the {n} patches that fit…';
-export const playerGameMayStop = 'The game may then mix both languages, or crash.';
-export const playerDetailsOfImage = 'Details';
-export const playerMadeFor = 'made for';
-export const playerYourImage = 'your image';
-export const playerSizeOfImage = 'size';
-export const playerSizeAsExpected = '{n} bytes, as expected';
-export const playerSizeNotAuthors = '{n} bytes, the author’s has {wanted}';
-export const playerFirstPlace = 'first place';
-// the second step of that page
-export const playerPatchIt = 'Patch it';
-export const playerChangesNeedSpace =
-    '{n} patch. The new file needs {space} MB of space.|{n} patches. The new file needs {space} MB of space.';
-export const playerPatchAndSave = 'Patch and save…';
-export const playerPatchAllTheSame = 'Patch anyway…';
-export const playerNoFileChosen = 'No file was chosen.';
-export const playerStepPatched = 'Patched';
-export const playerNothingLeftToDo = 'There is nothing to do.';
-export const playerExactlyAuthorsImage = 'It is exactly the image that the author made: the SHA-1 is the same.';
-export const playerChangesLeftOut = '{n} patch left out.|{n} patches left out.';
-export const playerNothingShowedFit = 'Nothing has shown whether the patch fits this disc.';
-// the third step of that page
-export const playerStepPlay = 'Play';
-export const playerOpenInEmulator = 'Open {name} in your emulator.';
-export const playerYourCueSheet = 'Your cue sheet';
-export const playerChooseYourSheet = 'Choose your .cue…';
-export const playerIsNoSheetOfImage = 'This is not a cue sheet that names your image: {name}';
-export const playerOldSheetStartsOld = 'No cue sheet was chosen here: if you have a .cue of the old image, it starts the old game. ' +
-    'Choose it, and you get one that starts the new game.';
-export const playerSaveOneSheetBeside = 'Your emulator opens a cue sheet. Save one next to {name}.';
-export const playerSheetOfOneTrack = 'It is for a disc of one track.';
-export const playerSheetSaved = 'Saved. Now open {name} in your emulator.';
-export const playerSaveSheetBeside = 'Your emulator opens a cue sheet. Save this one next to {name}.';
-export const playerCopySheetFiles = 'Copy there too, since the cue sheet names it: {files}.|\
-Copy there too, since the cue sheet names them: {files}.';
-export const playerFilesAndMore = '{files} and {n} more file|{files} and {n} more files';
-export const playerSaveTheCueSheet = 'Save the cue sheet…';
-
-// ---- end of player

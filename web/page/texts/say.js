@@ -1,7 +1,8 @@
 // Inserts names, numbers, and parts of the page into the texts of the page.
 
 import { sentenceOf } from '../../sentences/index.js';
-import { LANGUAGE, sentences } from './english.js';
+import { sentences } from './english.js';
+import { current, playerTexts } from './language.js';
 
 /** @typedef {import('../ui/fill.js').Child} Child */
 /**
@@ -24,16 +25,20 @@ import { LANGUAGE, sentences } from './english.js';
 /** @type {Intl.LDMLPluralRule[]} the plural categories in order; a language has some of them, which engines list in any order */
 const KINDS = ['zero', 'one', 'two', 'few', 'many', 'other'];
 
-/** The Intl objects of the language, which are created lazily: they would cost milliseconds at the start. */
-const asked = { counts: /** @type {Intl.PluralRules | null} */ (null), numbers: /** @type {Intl.NumberFormat | null} */ (null) };
+/** The Intl objects of the languages, which are created lazily: they would cost milliseconds at the start. */
+const intl = {
+    numbers: /** @type {Record<string, Intl.NumberFormat>} */ ({}),
+    counts: /** @type {Record<string, Intl.PluralRules>} */ ({}),
+};
 
 /**
  * Formats a count with separators, such as 1,329. Blocks and offsets have none, so that they can be copied into a script.
  * @param {number} number
  */
 export function counted(number) {
-    asked.numbers = asked.numbers || new Intl.NumberFormat(LANGUAGE);
-    return asked.numbers.format(number);
+    const { tag } = current;
+    intl.numbers[tag] = intl.numbers[tag] || new Intl.NumberFormat(tag);
+    return intl.numbers[tag].format(number);
 }
 
 /**
@@ -44,10 +49,11 @@ export function counted(number) {
 function formOf(text, count) {
     const forms = text.split('|');
     if (forms.length === 1 || typeof count !== 'number') return forms[0];
-    asked.counts = asked.counts || new Intl.PluralRules(LANGUAGE);
-    const { pluralCategories } = asked.counts.resolvedOptions();
+    const { tag } = current;
+    const counts = intl.counts[tag] = intl.counts[tag] || new Intl.PluralRules(tag);
+    const { pluralCategories } = counts.resolvedOptions();
     const kinds = KINDS.filter(kind => pluralCategories.includes(kind));
-    return forms[Math.min(kinds.indexOf(asked.counts.select(count)), forms.length - 1)];
+    return forms[Math.min(kinds.indexOf(counts.select(count)), forms.length - 1)];
 }
 
 /**
@@ -71,14 +77,17 @@ export function say(text, ...given) {
  * @param {Text} text
  * @param {Parts<Text, string | number>} given
  */
-export function told(text, ...given) {
+export function format(text, ...given) {
     return say(text, .../** @type {any} */ (given)).join('');
 }
 
 /**
- * The sentence for a failure or a remark of the core.
+ * The sentence for a failure or a remark of the core. If the current language has none, it is in English.
  * @param {import('../../core/facts.js').Remark} remark
  */
 export function remarkText(remark) {
-    return sentenceOf(remark, sentences);
+    const { code, facts } = remark;
+    const own = /** @type {Record<string, string>} */ (playerTexts.sentences)['kind' in facts ? `${code}/${facts.kind}` : code];
+    if (own === undefined) return sentenceOf(remark, sentences);
+    return own.replace(/\{(\w+)\}/g, (_, name) => String(/** @type {Record<string, unknown>} */ (facts)[name]));
 }

@@ -64,7 +64,7 @@ export function byId(id) {
 }
 
 /**
- * A picture from the page: 'mark', 'disc', 'lock', 'tick' or 'warn'. Screen readers skip it: words beside it say the same.
+ * A picture from the page: 'mark', 'disc', 'lock', 'tick', 'warn' or 'cross'. Screen readers skip it: words beside it say the same.
  * @param {string} name
  */
 export function icon(name) {

@@ -7,9 +7,9 @@ export { lostByClosing, setAttribute, setDisabled, styleValue, term } from './do
 export { fill, keyed } from './fill.js';
 export { capital, nameOf, namesOf, seen, seenTitle, shownName, shownPaths, shownText, stemOf } from './names.js';
 export { clearNotices, copyable, endMessages, endSavingNotices, focusAgain, isCancelled, messageOf, messageParts } from './notices.js';
-export { notice, refuseWhileSaving, said, sayAt, sentence, showFailure, showNotice } from './notices.js';
-export { escapeJob, jobBar, jobEnd, megabytes, megabytesDone, runAt, timeLeft } from './progress.js';
-export { asked } from './sheet.js';
-export { tableCard, tallyOf } from './stat_row.js';
-export { oneStop } from './tab_groups.js';
+export { messageArea, notice, refuseWhileSaving, sentence, showFailure, showMessageAt, showNotice, verdictLine } from './notices.js';
+export { SAVING, escapeJob, jobBar, jobEnd, megabytes, megabytesDone, noteLongJob, runAt, timeLeft } from './progress.js';
+export { askUser } from './sheet.js';
+export { countsRow, tableCard } from './stat_row.js';
+export { oneTabStop } from './tab_groups.js';
 export { nextTurn } from './turns.js';

@@ -1,7 +1,7 @@
 // Formats names of files and other texts of strangers for safe display: whoever made a file has chosen its name.
 
 import * as texts from '../texts/index.js';
-import { told } from '../texts/index.js';
+import { format } from '../texts/index.js';
 import { element } from './dom.js';
 
 /** @typedef {import('./fill.js').Child} Child */
@@ -79,7 +79,7 @@ export function namesOf(names) {
 export function shownPaths(files, joint) {
     const more = files.length - MOST_PATHS;
     const names = files.slice(0, MOST_PATHS).map(({ path }) => shownName(path));
-    return [...names, ...more > 0 ? [told(texts.andMore, { n: String(more) })] : []].join(joint);
+    return [...names, ...more > 0 ? [format(texts.andMore, { n: String(more) })] : []].join(joint);
 }
 
 /**

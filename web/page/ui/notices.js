@@ -2,9 +2,9 @@
 
 import { Fault, failedBy } from '../../core/faults.js';
 import * as texts from '../texts/index.js';
-import { remarkText, say, told } from '../texts/index.js';
+import { format, playerTexts, remarkText, say } from '../texts/index.js';
 import { copyButton } from './copying.js';
-import { button, byId, element } from './dom.js';
+import { byId, element, icon } from './dom.js';
 import { fill } from './fill.js';
 import { capital, nameOf, namesOf, seen, withNames } from './names.js';
 
@@ -22,6 +22,20 @@ export function notice(tone, head, ...rest) {
     return element('div', { class: `say ${tone}`, role: tone === 'bad' ? 'alert' : 'status' }, element('b', {}, ...[head].flat()), ...rest);
 }
 
+/** The picture of a verdict, by its tone. */
+const VERDICT_ICONS = { good: 'tick', bad: 'cross', warn: 'warn', plain: 'warn' };
+
+/**
+ * A verdict in one sentence, with its picture.
+ * @param {Tone} tone
+ * @param {Child | Child[]} head
+ * @param {string | null} [id] if it is a status for screen readers
+ */
+export function verdictLine(tone, head, id = null) {
+    return element('p', { class: `verdict ${tone}-ink`, role: id && 'status', id }, icon(VERDICT_ICONS[tone]),
+        element('span', {}, ...[head].flat()));
+}
+
 /**
  * Shows a notice above the panel or the player, or at the drop area of the start, until it is closed or replaced.
  * @param {Tone} tone
@@ -36,13 +50,11 @@ export function showNotice(tone, head, ...rest) {
 function showWords(made) {
     const place = byId(byId('start').offsetParent === null ? 'messages' : 'start-message');
     const before = document.activeElement;
-    const close = button('slim bare', () => {
+    const press = () => {
         clearNotices();
         focusAgain(before);
-    }, texts.close);
-    const row = made.querySelector('.row') || element('div', { class: 'row' });
-    row.append(close);
-    made.append(row);
+    };
+    made.append(element('button', { type: 'button', class: 'btn slim bare cross', 'aria-label': playerTexts.close, click: press }, '×'));
     fill(place, made);
     place.hidden = false;
     made.scrollIntoView({ block: 'nearest' });
@@ -57,13 +69,13 @@ function showWords(made) {
 export function refuseWhileSaving({ saves }, names = [], place = null) {
     if (saves === 0) return false;
     const isNew = names.length > 0;
-    const head = isNew ? say(texts.notOpened, { names: namesOf(names) }) : texts.imageBeingSaved;
-    const rest = isNew ? `${texts.imageBeingSaved} ${texts.againWhenEnded}` : texts.againWhenEnded;
+    const head = isNew ? say(playerTexts.notOpened, { names: namesOf(names) }) : playerTexts.imageBeingSaved;
+    const rest = isNew ? `${playerTexts.imageBeingSaved} ${playerTexts.againWhenEnded}` : playerTexts.againWhenEnded;
     endSavingNotices();
     const words = notice('warn', head, rest);
     words.classList.add('while-saving');
     if (place === null) showWords(words);
-    else sayAt(place, words);
+    else showMessageAt(place, words);
     return true;
 }
 
@@ -97,7 +109,7 @@ export function clearNotices() {
  * A place for messages beside a control.
  * @param {string} [looks] classes
  */
-export function said(looks = '') {
+export function messageArea(looks = '') {
     return element('div', { class: `said stack ${looks}`.trim(), role: 'status' });
 }
 
@@ -106,7 +118,7 @@ export function said(looks = '') {
  * @param {HTMLElement} place
  * @param {HTMLElement} words
  */
-export function sayAt(place, words) {
+export function showMessageAt(place, words) {
     fill(place, words);
     words.scrollIntoView({ block: 'nearest' });
 }
@@ -125,7 +137,7 @@ export function endMessages() {
 export function showFailure(error, rest = '') {
     if (failedBy(error, 'disc/missing-files')) {
         const { sheet, names } = error.facts;
-        return showNotice('bad', say(texts.alsoNeeds, { sheet: nameOf(sheet), names: namesOf(names) }), texts.openAllTogether);
+        return showNotice('bad', say(playerTexts.alsoNeeds, { sheet: nameOf(sheet), names: namesOf(names) }), playerTexts.openAllTogether);
     }
     const text = messageOf(error);
     const [, first, after] = /^(.*?[.!?])\s+(.*)$/s.exec(text) || ['', text, ''];
@@ -139,10 +151,10 @@ const MOST_MESSAGE = 1000;
 function errorWords(error) {
     if (failedBy(error, 'disc/missing-files')) {
         const { sheet, names } = error.facts;
-        return `${told(texts.alsoNeeds, { sheet, names: names.join(', ') })} ${texts.openAllTogether}`;
+        return `${format(playerTexts.alsoNeeds, { sheet, names: names.join(', ') })} ${playerTexts.openAllTogether}`;
     }
-    if (failedBy(error, 'image-ended')) return texts.fileIsShorter;
-    if (failedBy(error, 'no-memory')) return texts.noMemoryLeft;
+    if (failedBy(error, 'image-ended')) return playerTexts.fileIsShorter;
+    if (failedBy(error, 'no-memory')) return playerTexts.noMemoryLeft;
     const message = error instanceof Fault ? remarkText(error) : error instanceof Error ? error.message : String(error);
     return message.length > MOST_MESSAGE ? `${message.slice(0, MOST_MESSAGE)}…` : message;
 }

@@ -2,21 +2,61 @@
 
 import { SECTOR_SIZE } from '../../core/module/index.js';
 import * as texts from '../texts/index.js';
-import { counted, say, told } from '../texts/index.js';
-import { button, element } from './dom.js';
+import { counted, format, playerTexts, say } from '../texts/index.js';
+import { button, byId, element } from './dom.js';
 import { fill } from './fill.js';
 import { Pace } from './pace.js';
 
 /** @typedef {import('./fill.js').Child} Child */
+
+/** @typedef {{ began: number, percent: number, name: string }} LongJob */
+/** @type {Map<string, LongJob>} the jobs that the bar of the page shows once they are long, by their keys */
+const longJobs = new Map();
+
+/** Milliseconds after which a job is long. */
+const LONG_AFTER = 500;
+
+/** The key of the job that saves an image. Its name changes with the language. */
+export const SAVING = 'saving';
+
+/**
+ * Notes the progress of a job. If the job is long, the bar of the page shows it on every panel.
+ * @param {string} key of the job: its name, or `SAVING`
+ * @param {number | null} percent null if the job has ended
+ * @param {string} [name]
+ */
+export function noteLongJob(key, percent, name = key) {
+    const { began } = longJobs.get(key) || { began: performance.now() };
+    if (percent !== null && !longJobs.has(key)) setTimeout(drawLongJob, LONG_AFTER);
+    if (percent === null) longJobs.delete(key);
+    else longJobs.set(key, { began, percent, name });
+    drawLongJob();
+}
+
+function drawLongJob() {
+    const [shown] = [...longJobs.values()].filter(({ began }) => performance.now() - began >= LONG_AFTER).map(longJobLine);
+    byId('long-job').hidden = shown === undefined;
+    fill(byId('long-job'), shown || null);
+}
+
+/** @param {LongJob} job */
+function longJobLine({ name, percent }) {
+    const line = element('i');
+    line.style.width = `${percent}%`;
+    const values = { 'aria-valuemin': 0, 'aria-valuemax': 100, 'aria-valuenow': percent };
+    return element('div', { role: 'progressbar', 'aria-label': name, ...values }, line,
+        element('span', {}, `${name} ${format(playerTexts.inPercent, { n: percent })}`));
+}
 
 /**
  * Creates a progress bar. Each of its functions receives the amount done and the total: `at` in bytes, `sectors` in sectors, `things` in
  * other things.
  * @param {string} name what the job does, for screen readers
  * @param {() => void} cancel
- * @param {{ saves?: boolean, noun?: string }} how whether an image is saved, and the name of the `things`, in the plural
+ * @param {{ saves?: boolean, isNoted?: boolean, noun?: string }} how whether an image is saved; whether the job is noted as a long job,
+ *     whose end the caller notes; and the name of the `things`, in the plural
  */
-export function jobBar(name, cancel, { saves = false, noun = '' } = {}) {
+export function jobBar(name, cancel, { saves = false, isNoted = saves, noun = '' } = {}) {
     const bar = element('i');
     const progress = element('div', { class: 'progress', role: 'progressbar', 'aria-label': name, 'aria-valuemin': 0,
         'aria-valuemax': 100 }, bar);
@@ -30,7 +70,8 @@ export function jobBar(name, cancel, { saves = false, noun = '' } = {}) {
         const { percent, rate, left } = all === 0 ? { percent: 0, rate: 0, left: 0 } : pace.now.at(done, now);
         bar.style.width = `${percent}%`;
         progress.setAttribute('aria-valuenow', String(percent));
-        fill(facts, element('span', {}, bold(told(texts.inPercent, { n: percent }))),
+        if (isNoted) noteLongJob(saves ? SAVING : name, percent, name);
+        fill(facts, element('span', {}, bold(format(playerTexts.inPercent, { n: percent }))),
             ...all === 0 ? [] : [...amounts(rate), timeLeft(left)]);
     };
     const at = (/** @type {number} */ done, /** @type {number} */ all) => draw(done, all, rate => megabytesDone(done, all, rate));
@@ -53,13 +94,13 @@ function bold(text) {
  * @param {number} rate bytes a second
  */
 export function megabytesDone(done, all, rate) {
-    return [element('span', {}, ...say(texts.megabytesOf, { done: bold(megabytes(done)), all: megabytes(all) })),
-        element('span', {}, ...say(texts.megabytesASecond, { rate: bold(megabytes(rate)) }))];
+    return [element('span', {}, ...say(playerTexts.megabytesOf, { done: bold(megabytes(done)), all: megabytes(all) })),
+        element('span', {}, ...say(playerTexts.megabytesASecond, { rate: bold(megabytes(rate)) }))];
 }
 
 /** @param {number} seconds that a job still takes */
 export function timeLeft(seconds) {
-    return element('span', {}, ...say(texts.timeLeft, { time: bold(told(texts.inSeconds, { seconds: String(seconds) })) }));
+    return element('span', {}, ...say(playerTexts.timeLeft, { time: bold(format(playerTexts.inSeconds, { seconds: String(seconds) })) }));
 }
 
 /**
@@ -68,13 +109,13 @@ export function timeLeft(seconds) {
  * @param {boolean} saves
  */
 export function jobEnd(cancel, saves) {
-    const row = element('div', { class: 'row' }, button('', cancel, texts.cancel));
+    const row = element('div', { class: 'row' }, button('', cancel, playerTexts.cancel));
     const show = (/** @type {HTMLElement} */ part) => {
         fill(end, part);
         /** @type {HTMLElement} */ (part.querySelector('.btn')).focus();
     };
-    const question = element('div', { class: 'say warn', role: 'alert' }, bold(texts.endTheSaving), texts.noImageIsKept,
-        element('div', { class: 'row' }, button('', () => show(row), texts.goOnSaving), button('', cancel, texts.endIt)));
+    const question = element('div', { class: 'say warn', role: 'alert' }, bold(playerTexts.endTheSaving), playerTexts.noImageIsKept,
+        element('div', { class: 'row' }, button('', () => show(row), playerTexts.goOnSaving), button('', cancel, playerTexts.endIt)));
     const escaped = () => saves ? show(question.isConnected ? row : question) : cancel();
     const end = element('div', { class: 'job-end', escape: escaped }, row);
     return end;
@@ -86,7 +127,7 @@ export function jobEnd(cancel, saves) {
  */
 function sayBusy(place) {
     place.querySelector('.is-busy')?.remove();
-    place.append(element('p', { class: 'is-busy', role: 'status' }, texts.anotherJobRuns));
+    place.append(element('p', { class: 'is-busy', role: 'status' }, playerTexts.anotherJobRuns));
 }
 
 /** @type {WeakSet<Element>} places at which a job runs */

@@ -1,6 +1,6 @@
 // A small dialog over the page that asks the user a question.
 
-import { cancel } from '../texts/index.js';
+import { playerTexts } from '../texts/index.js';
 import { button, byId, element } from './dom.js';
 import { fill, listen } from './fill.js';
 
@@ -18,7 +18,7 @@ const asking = { end: () => {} };
  * @param {Answer | ''} main the answer of the main button
  * @returns {Promise<Answer | ''>}
  */
-export function asked(title, words, answers, main) {
+export function askUser(title, words, answers, main) {
     asking.end();
     const sheet = /** @type {HTMLDialogElement} */ (byId('sheet'));
     return new Promise(done => {
@@ -35,7 +35,8 @@ export function asked(title, words, answers, main) {
         const buttons = answers.map(([chosen, label]) =>
             button(chosen === main ? 'main' : '', () => answer(chosen), element('span', {}, ...label)));
         fill(sheet, element('h2', { id: 'sheet-title' }, ...title), words.length > 0 && element('p', {}, ...words),
-            element('div', { class: 'stack tight' }, ...buttons, button('bare', () => answer(''), cancel)));
+            element('div', { class: 'stack tight' }, ...buttons, button('bare', () => answer(''), playerTexts.cancel)));
         sheet.showModal();
+        buttons.find(it => it.classList.contains('main'))?.focus();
     });
 }

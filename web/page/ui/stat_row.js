@@ -1,13 +1,13 @@
 // A row of large counts, and a card with a table.
 
 import * as texts from '../texts/index.js';
-import { counted, told } from '../texts/index.js';
+import { counted, format } from '../texts/index.js';
 import { copyButton } from './copying.js';
 import { element } from './dom.js';
-import { oneStop } from './tab_groups.js';
+import { oneTabStop } from './tab_groups.js';
 
 /** @param {[number, string, string][]} counts each with its name and its class */
-export function tallyOf(counts) {
+export function countsRow(counts) {
     return element('div', { class: 'tally' }, ...counts.map(([count, name, looks]) =>
         element('div', { class: looks || null }, element('b', {}, counted(count)), name)));
 }
@@ -17,16 +17,17 @@ export function tallyOf(counts) {
  * @param {string} title
  * @param {HTMLElement} head the row of names
  * @param {HTMLElement[]} rows
- * @param {string} text
+ * @param {string | (() => string)} text
  * @param {string} foot
  * @param {import('./fill.js').Child} [more] beside the copy button
  */
 export function tableCard(title, head, rows, text, foot, more = null) {
     const table = element('table', {}, element('thead', {}, head), element('tbody', {}, ...rows));
     const part = element('div', { class: 'scroll fit' }, table);
-    oneStop(part, 'tbody button');
+    oneTabStop(part, 'tbody button');
     return element('section', { class: 'card', 'aria-label': title },
         element('header', {}, element('h2', {}, title),
-            copyButton('slim bare', () => text, texts.copy, told(texts.theRowsOf, { title })), more), part,
+            copyButton('slim bare', () => typeof text === 'string' ? text : text(), texts.copy, format(texts.theRowsOf, { title })), more),
+        part,
         element('p', { class: 'foot' }, element('span', {}, foot)));
 }

@@ -10,7 +10,7 @@ const CHOOSES = ['aria-selected', 'aria-current'];
  * @param {string} controls a selector
  * @param {(control: HTMLElement) => void} [chosen]
  */
-export function oneStop(group, controls, chosen = () => {}) {
+export function oneTabStop(group, controls, chosen = () => {}) {
     const all = () => /** @type {HTMLElement[]} */ ([...group.querySelectorAll(controls)]);
     keepStop(all());
     new MutationObserver(() => keepStop(all())).observe(group, { childList: true, subtree: true, attributeFilter: CHOOSES });

@@ -1,5 +1,5 @@
--- If the definition gives no kind of error, each row has a first value, and what holds of the
--- values that the uses of the arguments take holds of it.
+-- If the definition gives no kind of error, each row has a first value, and each property of the
+-- values that the uses of the arguments accept holds for it.
 use Rattle.std.proofs.Common.{◌≡◌, ◌&&◌, ℕ, zero, suc, Bool, true, false, cond, List, [], ◌∷◌, ◌++◌, length, Option, Some, None, refl}
 use Rattle.std.specs.Prelude.{⊤, drop, encode_utf8, find, fold, is_some, not, slice_get, if◌then◌else◌}
 use Rattle.std.specs.Option.{option_map_or}
@@ -21,7 +21,7 @@ pub neither : (a b : Kinds) → or_else a b ≡ [] → (a ≡ []) × (b ≡ [])
 neither [] b e = (refl, e)
 neither (k ∷ ks) b e = cc
 
--- P holds of each element
+-- P holds for each element
 abbrev pub Each : {X : Type 0} → (X → Type 0) → List X → Type 0
 Each P [] = ⊤
 Each P (x ∷ xs) = P x × Each P xs
@@ -31,7 +31,7 @@ pub Each-append : {X : Type 0} (P : X → Type 0) (xs ys : List X) → Each P xs
 Each-append P [] ys h g = g
 Each-append P (x ∷ xs) ys h g = (h.0, Each-append P xs ys h.1 g)
 
--- what holds of each element holds of the one that was found
+-- a property of each element holds for the element that was found
 pub Each-find : {X : Type 0} (P : X → Type 0) (p : X → Bool) (xs : List X) → Each P xs → (x : X)
     → find p xs ≡ Some x → P x
 Each-find P p [] h x e = cc
@@ -62,20 +62,20 @@ used_as-replaces SetTrue id how values rows h = refl
 used_as-replaces SetFalse id how values rows h = refl
 used_as-replaces _ id how values rows h = cc
 
--- the row has a first value, of which Q holds
+-- the row has a first value, and Q holds for it
 pub record Starts (Q : Text → Reading → Text → Type 0) (r : Row) : Type 0 where
   pub first : Text
   pub is_first : slice_get r.values 0 ≡ Some first
   pub holds : Q r.id r.reading first
 
--- the use of an argument with these values has a first value, of which Q holds
+-- the use of an argument with these values has a first value, and Q holds for it
 pub record Uses (Q : Text → Reading → Text → Type 0) (a : Rule) (values : List Text) : Type 0 where
   pub replacing : replaces (action_of a) ≡ true
   pub first : Text
   pub is_first : slice_get (values_or_missing a values) 0 ≡ Some first
   pub holds : Q a.id (reading_by a) first
 
--- each use of the argument that passes has a first value, of which Q holds
+-- each use of the argument that passes has a first value, and Q holds for it
 pub record IsUsedBy (Q : Text → Reading → Text → Type 0) (a : Rule) : Type 0 where
   pub use_of : (again : Bool) (values : List Text) (rows : List Row)
       → use_fault again a values rows ≡ [] → Uses Q a values
@@ -144,7 +144,7 @@ module _ (Q : Text → Reading → Text → Type 0) where
   defaults_start (a ∷ rules) rows by h =
       defaults_start rules (with_default rows a) by.1 (default_starts a rows by.0 h)
 
--- the steps of one level of the parse, each of which gives no kind
+-- the steps of one level of the parse; none gives a kind of error
 pub record Parts (s : Shape) (names : Names) (words : List Text) (has_subcommand : Bool)
     (below : Kinds) : Type 0 where
   pub walks : walk_fault s names (walk_from nothing_held) words ≡ []
@@ -175,7 +175,7 @@ module _ (Q : Text → Reading → Text → Type 0) (s : Shape) (by : Each (IsUs
   abbrev HasStarts : Held → Type 0
   HasStarts h = AllStart Q h.rows
 
-  -- the argument, if there is one, is the command's
+  -- the argument, if there is one, is an argument of the command
   abbrev IsKnown : Option Rule → Type 0
   IsKnown o = (a : Rule) → o ≡ Some a → IsUsedBy Q a
 

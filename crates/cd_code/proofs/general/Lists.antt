@@ -1,4 +1,4 @@
--- Parts of lists by their places, and lists in chunks.
+-- Lemmas about parts of lists by their places, and about lists in chunks.
 use Rattle.std.proofs.Common.{◌≡◌, ℕ, zero, suc, ◌+◌, ◌-◌, ◌*◌, ◌<◌, ◌≤◌, List, [], ◌∷◌, ◌++◌, length, get_or, take, drop, refl, sym, ap, ◌∙◌, arith}
 use Rattle.std.specs.Simd.{first_chunks}
 use Rattle.std.proofs.Math.Seq.{drop-append-add, take-add, take-append_seam}
@@ -13,7 +13,7 @@ pub get_or-part : (s : List ℕ) (a n k : ℕ) → k < n
     → get_or (take n (drop a s)) k 0 ≡ get_or s (a + k) 0
 get_or-part s a n k h = get_or-take n (drop a s) k 0 h ∙ get_or-drop a s k 0
 
--- two lists that agree there
+-- two lists that agree in these places have the same part
 pub part-same : (s t : List ℕ) (a n : ℕ) → a + n ≤ length s → a + n ≤ length t
     → ((i : ℕ) → a ≤ i → i < a + n → get_or s i 0 ≡ get_or t i 0)
     → take n (drop a s) ≡ take n (drop a t)
@@ -26,18 +26,18 @@ part-same s t a n inside within h =
     get_or-part s a n k below ∙ h (a + k) (omega arith) (omega arith)
     ∙ sym (get_or-part t a n k below))
 
--- and those that agree at the front
+-- two lists that agree at the front have the same front
 pub front-same : (s t : List ℕ) (n : ℕ) → n ≤ length s → n ≤ length t
     → ((i : ℕ) → i < n → get_or s i 0 ≡ get_or t i 0) → take n s ≡ take n t
 front-same s t n inside within h =
     part-same s t 0 n (omega arith) (omega arith) (λ i _ below. h i (omega arith))
 
--- the first n elements of a list that agrees with another one, of n, there
+-- the first n elements of a list that agrees with a list of n elements
 pub front-list : (s v : List ℕ) (n : ℕ) → length v ≡ n → n ≤ length s
     → ((i : ℕ) → i < n → get_or s i 0 ≡ get_or v i 0) → take n s ≡ v
 front-list s v n long inside h = front-same s v n inside (omega arith) h ∙ take_all n v (omega arith)
 
--- a list that stands at a place
+-- a part of a list that agrees with another list
 pub part-list : (s v : List ℕ) (a : ℕ) → a + length v ≤ length s
     → ((i : ℕ) → i < length v → get_or s (a + i) 0 ≡ get_or v i 0)
     → take (length v) (drop a s) ≡ v
@@ -45,7 +45,7 @@ part-list s v a inside h =
     front-list (drop a s) v (length v) refl (omega (arith, length-drop a s))
     (λ i below. get_or-drop a s i 0 ∙ h i below)
 
--- a part of the first n
+-- a part of a list within its first n elements
 pub part-of_front : (s front : List ℕ) (n a m : ℕ) → a + m ≤ n → take n s ≡ front
     → take m (drop a s) ≡ take m (drop a front)
 part-of_front s front n a m h e =
@@ -59,13 +59,13 @@ part-of_front s front n a m h e =
 pub first-part : (v w : List ℕ) (n : ℕ) → length v ≡ n → take n (v ++ w) ≡ v
 first-part v w n long = ap (λ k. take k (v ++ w)) (sym long) ∙ take-append_seam v w
 
--- m elements, from a on after the first n
+-- m elements of the second list, from place a on
 pub second-part : (v w : List ℕ) (n a m : ℕ) → length v ≡ n
     → take m (drop (n + a) (v ++ w)) ≡ take m (drop a w)
 second-part v w n a m long =
     ap (λ k. take m (drop (k + a) (v ++ w))) (sym long) ∙ ap (take m) (drop-append-add v w a)
 
--- element k after the first n
+-- element k of the second list
 pub get_or-second : (v w : List ℕ) (n k : ℕ) → length v ≡ n
     → get_or (v ++ w) (n + k) 0 ≡ get_or w k 0
 get_or-second v w n k long =
@@ -85,7 +85,7 @@ get_or-first_chunks n (suc k) xs d (suc i) h =
     get_or-first_chunks n k (drop n xs) d i (omega arith)
     ∙ ap (take n) (drop-drop (i * n) n xs ∙ ap (λ m. drop m xs) e)
 
--- one more chunk of n
+-- the front of a list, longer by one chunk of n
 pub take-chunks : (n i : ℕ) (xs : List ℕ)
     → take ((i + 1) * n) xs ≡ take (i * n) xs ++ take n (drop (i * n) xs)
 take-chunks n i xs =

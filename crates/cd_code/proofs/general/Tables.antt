@@ -1,4 +1,4 @@
--- A test that is computed over all numbers below n, and the rule at each of them.
+-- A test that is computed for all numbers below n, and the rule for each of them.
 use Rattle.std.proofs.Common.{◌≡◌, ℕ, ◌<◌, true, nat_lt}
 use Rattle.std.specs.Bool.{◌==◌}
 use Rattle.std.proofs.lemmas.Bool.{agree_below, agree_below_at, eqb-true, ltb-true}
@@ -9,7 +9,7 @@ pub equal_below : (f g : ℕ → ℕ) (n : ℕ) → agree_below (λ i. f i == g 
 equal_below f g n all i h =
     eqb-true (f i) (g i) (agree_below_at (λ k. f k == g k) (λ _. true) n i all h)
 
--- a function is below a bound there
+-- a function has a bound for numbers below n
 pub bounded_below : (f : ℕ → ℕ) (bound n : ℕ)
     → agree_below (λ i. nat_lt (f i) bound) (λ _. true) n ≡ true → (i : ℕ) → i < n → f i < bound
 bounded_below f bound n all i h =

@@ -4,27 +4,27 @@ use Rattle.std.specs.Int.Bits.{xor_self, xor_zero_l, xor_zero_r, xor_assoc}
 use Rattle.std.proofs.lemmas.Nat.{xor_shr, xor_mod, xor_block, shr_below}
 use Rattle.std.proofs.lemmas.Nat.Bits.{bit_at_lowest, bit_at_xor, same_from_bits}
 
--- what is added twice goes away
+-- a term that is added twice cancels
 pub xor_twice : (a b : ℕ) → bit_xor (bit_xor a b) b ≡ a
 xor_twice a b = xor_assoc a b b ∙ ap (bit_xor a) (xor_self b) ∙ xor_zero_r a
 
 pub xor_twice_left : (a b : ℕ) → bit_xor a (bit_xor a b) ≡ b
 xor_twice_left a b = sym (xor_assoc a a b) ∙ ap (λ z. bit_xor z b) (xor_self a) ∙ xor_zero_l b
 
--- two pairs of terms change places
+-- the middle terms of two pairs are exchanged
 pub xor_swap : (a b c d : ℕ)
     → bit_xor (bit_xor a b) (bit_xor c d) ≡ bit_xor (bit_xor a c) (bit_xor b d)
 xor_swap a b c d = same_from_bits _ _ (λ i. simp bit_at_xor (omega arith))
 
--- a term that two sums have in common goes away
+-- a term that two sums have in common cancels
 pub xor_common : (a b c : ℕ) → bit_xor (bit_xor a b) (bit_xor a c) ≡ bit_xor c b
 xor_common a b c = same_from_bits _ _ (λ i. simp bit_at_xor (omega arith))
 
--- equal terms on the left go away
+-- equal terms on the left cancel
 pub xor_cancel : (a b c : ℕ) → bit_xor a b ≡ bit_xor a c → b ≡ c
 xor_cancel a b c e = sym (xor_twice_left a b) ∙ ap (bit_xor a) e ∙ xor_twice_left a c
 
--- and on the right
+-- equal terms on the right cancel
 pub xor_cancel_right : (a b c : ℕ) → bit_xor a c ≡ bit_xor b c → a ≡ b
 xor_cancel_right a b c e = sym (xor_twice a c) ∙ ap (λ z. bit_xor z c) e ∙ xor_twice b c
 
@@ -53,7 +53,7 @@ xor_bits a b =
     sym (xor_low a b) ∙ sym (bit_at_lowest (bit_xor a b)) ∙ bit_at_xor a b 0
     ∙ (let p = bit_at_lowest a in let q = bit_at_lowest b in omega arith)
 
--- a sum goes bit by bit
+-- a sum, bit by bit
 pub xor_by_bits : (a b : ℕ) → bit_xor a b ≡ 2 * bit_xor (a / 2) (b / 2) + (a + b) % 2
 xor_by_bits a b =
     let half = xor_half a b in

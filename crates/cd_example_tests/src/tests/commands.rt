@@ -1,4 +1,4 @@
-//! The examples of cd_args, cd_program, cd_memory and cd_memory.
+//! The examples of cd_args, cd_program and cd_memory.
 
 use cd_args::{Job, LineFault, NO_MEMORY, Settings, job_of, refusal_line};
 use cd_image::{FailAfter, Sink, SliceSink, SliceSource, ToWrite, ZeroSource};

@@ -1,4 +1,4 @@
-//! The four calls on images in memory: a number of bytes pass, and a call is described by what it returns and what it wrote.
+//! Runs the four calls on images in memory, with limits on the bytes that pass, and describes a call by its result and its output.
 
 ghost use Rattle.std.specs.Prelude.{◌≤◌};
 ghost use Rattle.cd_stream.specs.Stream.{CanCountFailure};
@@ -14,7 +14,7 @@ use cd_stream::fill_buffer;
 use std::alloc::{AllocError, Global};
 use std::process::Abort;
 
-/// What a call returns.
+/// The result of a call.
 #[derive(Clone, Copy, Debug, PartialEq, Eq)]
 pub enum Answer {
     Patched(Tally),
@@ -23,7 +23,7 @@ pub enum Answer {
     Failed(Fault),
 }
 
-/// What `apply` and `check` return.
+/// The result of `apply` or `check`.
 pub fn patched(answer: Result<Tally, Fault>) -> Answer {
     match answer {
         Ok(tally) => Answer::Patched(tally),
@@ -31,11 +31,11 @@ pub fn patched(answer: Result<Tally, Fault>) -> Answer {
     }
 }
 
-/// How many bytes pass in all, before each call fails, and at most in a call.
+/// The number of bytes that pass in all, before each call fails, and the most bytes that pass in a call.
 #[derive(Clone, Copy)]
 pub struct Limit(pub u64, pub usize);
 
-/// What may pass from the image, to the output and to the log.
+/// The limits for the image, the output and the log.
 #[derive(Clone, Copy)]
 pub struct Limits {
     pub image: Limit,
@@ -46,10 +46,10 @@ pub struct Limits {
 /// All bytes pass.
 pub const ALL: u64 = u64::MAX;
 
-/// All bytes pass, as many a call as there are.
+/// All bytes pass, any number per call.
 pub const NO_LIMIT: Limit = Limit(ALL, usize::MAX);
 
-/// So many bytes pass in all from the image, to the output and to the log.
+/// Limits on the bytes that pass in all from the image, to the output and to the log.
 pub fn passing(image: u64, out: u64, log: u64) -> Limits {
     Limits {
         image: Limit(image, usize::MAX),
@@ -58,7 +58,7 @@ pub fn passing(image: u64, out: u64, log: u64) -> Limits {
     }
 }
 
-/// The most bytes that pass in a call from the image, to the output and to the log.
+/// Limits on the bytes that pass in a call from the image, to the output and to the log.
 pub fn by_parts(image: usize, out: usize, log: usize) -> Limits {
     Limits {
         image: Limit(ALL, image),
@@ -67,8 +67,8 @@ pub fn by_parts(image: usize, out: usize, log: usize) -> Limits {
     }
 }
 
-/// A script on an image whose first block is `base`, damage being carried or not, and what goes out if nothing fails. `text` is that
-/// of the script.
+/// A script on an image whose first block is `base`, with damage carried or not, and the output and log if nothing fails. `text` is the
+/// text of the script.
 #[derive(Clone, Copy)]
 pub struct Call<'a> {
     pub image: &'a [u8],
@@ -80,7 +80,7 @@ pub struct Call<'a> {
     pub log: &'a [u8],
 }
 
-/// What a sink over memory has got: how often it has failed, whether it is finished, and its bytes.
+/// The state of a sink over memory: the number of its failures, whether it is finished, and its bytes.
 #[derive(Clone, Copy, Debug, PartialEq, Eq)]
 pub struct Got {
     pub failures: u32,
@@ -89,7 +89,7 @@ pub struct Got {
 }
 
 impl Got {
-    /// So many right bytes, and nothing has failed.
+    /// This number of correct bytes, and no failure.
     pub fn finished(count: usize) -> Self {
         Got {
             failures: 0,
@@ -99,7 +99,7 @@ impl Got {
     }
 }
 
-/// A source over memory that lets so much pass.
+/// A source over memory with a limit.
 fn source_over<'a>(bytes: &'a [u8], limit: Limit) -> Short<FailAfter<SliceSource<'a>>>
     ensures { CanCountFailure
         (⟦<Short<FailAfter<SliceSource<'a>>> as Source>⟧.seen result).failures }
@@ -107,7 +107,7 @@ fn source_over<'a>(bytes: &'a [u8], limit: Limit) -> Short<FailAfter<SliceSource
     Short::new(FailAfter::new(SliceSource::new(bytes), limit.0), limit.1)
 }
 
-/// A sink over memory that lets so much pass.
+/// A sink over memory with a limit.
 fn sink_over<'a>(space: &'a mut [u8], limit: Limit) -> Short<FailAfter<SliceSink<'a>>>
     ensures { CanCountFailure
         (⟦<Short<FailAfter<SliceSink<'a>>> as Sink>⟧.seen result).failures }
@@ -115,7 +115,7 @@ fn sink_over<'a>(space: &'a mut [u8], limit: Limit) -> Short<FailAfter<SliceSink
     Short::new(FailAfter::new(SliceSink::new(space), limit.0), limit.1)
 }
 
-/// What such a sink has got, with the whole that it should get.
+/// The state of such a sink, compared with all the bytes that it should get.
 fn got_by(sink: &Short<FailAfter<SliceSink<'_>>>, whole: &[u8]) -> Got {
     let memory = sink.get_ref().get_ref();
     Got {
@@ -129,15 +129,15 @@ fn got_by(sink: &Short<FailAfter<SliceSink<'_>>>, whole: &[u8]) -> Got {
 #[derive(Clone, Copy, Debug, PartialEq, Eq)]
 pub struct Ending {
     pub answer: Answer,
-    /// How often the image has failed.
+    /// The number of failures of the image.
     pub failures: u32,
-    /// What the image gave when it was read on, if it had not failed: its last bytes.
+    /// The rest of the image, which was read after the call if the image had not failed.
     pub left: Option<Written>,
     pub out: Got,
     pub log: Got,
 }
 
-/// Reads on what is left of an image that has not failed.
+/// Reads the rest of an image that has not failed.
 fn read_on<I: Source>(
     alloc: Global,
     image: &mut I,
@@ -156,7 +156,7 @@ fn read_on<I: Source>(
     })
 }
 
-/// Applies the script, with memory for just what goes out, and reads on what is left of the image.
+/// Applies the script, with memory for exactly the expected output, and reads the rest of the image.
 pub fn apply_within(alloc: Global, call: &Call, limits: &Limits) -> Result<Ending, AllocError>
     requires { call.now.base ≤ MAX_BASE }
 {
@@ -176,7 +176,7 @@ pub fn apply_within(alloc: Global, call: &Call, limits: &Limits) -> Result<Endin
     })
 }
 
-/// Checks the script, likewise. There is no output, so it gets nothing, does not fail, and is as finished as the log.
+/// Checks the script in the same way. There is no output: it has no bytes and no failures, and is finished if the log is.
 pub fn check_within(alloc: Global, call: &Call, limits: &Limits) -> Result<Ending, AllocError>
     requires { call.now.base ≤ MAX_BASE }
 {
@@ -198,7 +198,7 @@ pub fn check_within(alloc: Global, call: &Call, limits: &Limits) -> Result<Endin
     })
 }
 
-/// How a call ends in which nothing fails, which sends so much.
+/// The ending of a call in which nothing fails, and which sends this number of bytes.
 fn done(tally: Tally, call: &Call, sent: usize) -> Ending {
     Ending {
         answer: Answer::Patched(tally),
@@ -209,13 +209,12 @@ fn done(tally: Tally, call: &Call, sent: usize) -> Ending {
     }
 }
 
-/// A call has ended as it should. If it has not, a text and a number are printed.
+/// Asserts the ending of a call. On failure, prints a text and a number.
 pub fn expect_ending(rt: &impl Abort, came: &Ending, due: &Ending, text: &str, number: usize) {
     assert_eq!(rt; *came, *due, "{text}, {number}");
 }
 
-/// Applies a script, and then checks it, within limits in which nothing fails. If one does not end so, the script's text and a number are
-/// printed.
+/// Applies a script, and then checks it, within limits in which nothing fails. On failure, prints the text of the script and a number.
 pub fn expect_done(
     rt: &impl Abort,
     alloc: Global,
@@ -241,14 +240,14 @@ pub enum Report {
     Audit,
 }
 
-/// How a report ended, or a log: what the call returned, and what its sink has got.
+/// How a report or a log ended: the result of the call, and the state of its sink.
 #[derive(Clone, Copy, Debug, PartialEq, Eq)]
 pub struct Reported {
     pub answer: Answer,
     pub out: Got,
 }
 
-/// With this result, and so many bytes of the text. No write fails, and it is finished unless the call has failed.
+/// This result, and this number of bytes of the text. No write has failed, and the sink is finished unless the call has failed.
 pub fn report_with(answer: Answer, sent: usize) -> Reported {
     Reported {
         answer,
@@ -259,7 +258,7 @@ pub fn report_with(answer: Answer, sent: usize) -> Reported {
     }
 }
 
-/// Reports on an image to memory that lets so much pass, with the text that it should give.
+/// Reports on an image to memory with a limit, and compares the output with the expected text.
 pub fn report_of<I: Source>(
     report: Report,
     image: &mut I,
@@ -282,7 +281,7 @@ pub fn report_of<I: Source>(
     }
 }
 
-/// The same of an image in memory, of which so much passes.
+/// The same for an image in memory, with a limit.
 pub fn report_within(
     report: Report,
     image: &[u8],
@@ -296,7 +295,7 @@ pub fn report_within(
     report_of(report, &mut image, base, limits.out, text)
 }
 
-/// Checks a script on an image from block 0 on, with a log that should get a text.
+/// Checks a script on an image from block 0 on, and compares the log with the expected text.
 pub fn check_of<I: Source>(image: &mut I, script: &Script, text: &str) -> Reported
     requires { CanCountFailure (I.seen image.old).failures }
 {
@@ -309,7 +308,7 @@ pub fn check_of<I: Source>(image: &mut I, script: &Script, text: &str) -> Report
     }
 }
 
-/// A report has ended as it should. If it has not, a number and a text are printed.
+/// Asserts the ending of a report. On failure, prints a number and a text.
 pub fn expect_reported(
     rt: &impl Abort,
     came: &Reported,

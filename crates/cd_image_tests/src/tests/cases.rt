@@ -1,4 +1,4 @@
-//! Scripts on images, and what must come of them, by `apply` and by `check`.
+//! Scripts on images with their expected results, for `apply` and `check`.
 
 ghost use Rattle.std.specs.Prelude.{◌≤◌};
 
@@ -11,10 +11,10 @@ use std::alloc::Global;
 use std::process::Abort;
 use std::test::Fail;
 
-/// How many bytes pass in a call if they are few, and if they are as many as there are.
+/// The most bytes that pass in a call: a few, and any number.
 pub const PARTS: &[usize] = &[1, 2, 2351, 2353, usize::MAX];
 
-/// How an image is taken: its first block, whether damage is carried, and to which size it is cut if it is longer.
+/// How an image is used: its first block, whether damage is carried, and the size to which it is cut if it is longer.
 #[derive(Clone, Copy)]
 pub struct Way {
     pub base: u32,
@@ -22,21 +22,21 @@ pub struct Way {
     pub size: usize,
 }
 
-/// Whole, from block 0 on, and no damage is carried.
+/// The whole image from block 0 on, without carried damage.
 pub const PLAIN: Way = Way {
     base: 0,
     carry: false,
     size: usize::MAX,
 };
 
-/// The same, and damage is carried.
+/// The same, with carried damage.
 pub const CARRYING: Way = Way {
     base: 0,
     carry: true,
     size: usize::MAX,
 };
 
-/// A script and an image, and the log and the output that they must give.
+/// A script and an image, and the expected log and output.
 #[derive(Clone, Copy)]
 struct Case<'a> {
     script: &'a str,
@@ -54,12 +54,12 @@ pub struct Row<'a> {
     pub out: &'a [Sample],
 }
 
-/// A count of the tests, which is small.
+/// Converts a count of the tests, which is small.
 fn small(count: usize) -> u32 {
     u32::try_from(count).unwrap_or(u32::MAX)
 }
 
-/// The counts that a whole log has, line by line, and those of an image of this length.
+/// The counts of the lines of a whole log, and those of an image of this length.
 fn tally_of(log: &str, size: usize) -> Tally {
     let is_applied = |line: &&str| line.ends_with(": applied");
     let is_refused = |line: &&str| line.contains(": refused: ");
@@ -71,7 +71,7 @@ fn tally_of(log: &str, size: usize) -> Tally {
     }
 }
 
-/// Applies the script of a case, and then checks it, by as many bytes a call as there are, and by few.
+/// Applies the script of a case, and then checks it, with few bytes per call and with any number.
 fn expect(rt: &impl Abort, alloc: Global, case: &Case, way: &Way) -> Result<(), Fail>
     requires { way.now.base ≤ MAX_BASE }
 {
@@ -93,7 +93,7 @@ fn expect(rt: &impl Abort, alloc: Global, case: &Case, way: &Way) -> Result<(), 
     Ok(())
 }
 
-/// The same of a row.
+/// The same for a row.
 pub fn expect_row(rt: &impl Abort, alloc: Global, row: &Row, way: &Way) -> Result<(), Fail>
     requires { way.now.base ≤ MAX_BASE }
 {
@@ -108,7 +108,7 @@ pub fn expect_row(rt: &impl Abort, alloc: Global, row: &Row, way: &Way) -> Resul
     expect(rt, alloc, &case, way)
 }
 
-/// The same of sectors from block 0 on.
+/// The same for sectors from block 0 on.
 pub fn expect_sectors(
     rt: &impl Abort,
     alloc: Global,

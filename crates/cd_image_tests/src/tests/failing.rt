@@ -1,4 +1,4 @@
-//! Patches whose image, output or log fails at each byte, or gets few bytes a call: what went to the others is known.
+//! Patches while the image, the output or the log fails at each byte, or passes few bytes per call. The bytes of the others are known.
 
 ghost use Rattle.std.specs.Prelude.{◌≡◌};
 
@@ -64,17 +64,17 @@ impl Parts {
     }
 }
 
-/// How many bytes are out.
+/// A number of bytes that are out.
 #[derive(Clone, Copy)]
 enum Count {
     Just(usize),
     AtMost(usize),
-    /// As many as it may pass.
+    /// As many as may pass.
     All,
 }
 
 impl Count {
-    /// How many have to be out, when so many may pass and so many came.
+    /// The number of bytes that must be out, if `passing` may pass and `came` are out.
     fn due(self, passing: usize, came: usize) -> usize {
         match self {
             Just(count) => count,
@@ -84,7 +84,7 @@ impl Count {
     }
 }
 
-/// What fails after each number of bytes from one up to another, and how many bytes of the output and of the log are out then.
+/// The fault after each number of bytes from one up to another, and the numbers of bytes of the output and of the log that are out then.
 #[derive(Clone, Copy)]
 struct Stop(Fault, usize, usize, Count, Count);
 
@@ -104,7 +104,7 @@ const LOG_STOPS: &[Stop] = &[
     Stop(Log, 16, 37, Just(7056), All),
 ];
 
-/// What may pass if this fault comes after a number of bytes.
+/// The limits with which this fault occurs after a number of bytes.
 fn limits_of(fault: Fault, count: u64) -> Limits {
     match fault {
         Read => passing(count, ALL, ALL),
@@ -113,8 +113,8 @@ fn limits_of(fault: Fault, count: u64) -> Limits {
     }
 }
 
-/// How a call ends by this fault: what it names has failed once, and nothing else has. The output is finished if all of it and of
-/// the log is out. What is left of the image is not compared.
+/// The ending of a call with this fault: the stream of the fault has failed once, and nothing else has. The output is finished if all of it
+/// and of the log is out. The rest of the image is not compared.
 fn failed(came: &Ending, fault: Fault, sent: usize, logged: usize) -> Ending {
     Ending {
         answer: Answer::Failed(fault),
@@ -133,7 +133,7 @@ fn failed(came: &Ending, fault: Fault, sent: usize, logged: usize) -> Ending {
     }
 }
 
-/// It fails so after a number of bytes, if it is applied and if it is checked.
+/// Asserts that `apply` and `check` fail in this way after a number of bytes.
 fn fails(
     rt: &impl Abort,
     alloc: Global,
@@ -184,7 +184,7 @@ fn the_log_at_each_byte(rt: HostRuntime) -> Result<(), Fail> {
     fails_at_each(&rt, rt.alloc(), LOG_STOPS)
 }
 
-/// One byte more than all may pass; so many bytes pass in a call of one of the three, and then of each.
+/// One byte more than all may pass. Then few bytes pass per call, for one of the three streams, and for all of them.
 #[test]
 fn nothing_fails(rt: HostRuntime) -> Result<(), Fail> {
     let parts = make_parts(rt.alloc())?;
@@ -212,7 +212,7 @@ fn nothing_fails(rt: HostRuntime) -> Result<(), Fail> {
 
 const FIVE: &[Sample] = &[Zeros(0), Zeros(1), Zeros(2), Zeros(3), Zeros(4)];
 
-/// The image still gives its last two sectors, of five.
+/// The last two of the five sectors are still in the image.
 #[test]
 fn three_sectors_are_in_hand(rt: HostRuntime) -> Result<(), Fail> {
     let text = "cdpatch 1\n";

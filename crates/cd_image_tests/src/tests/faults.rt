@@ -1,9 +1,9 @@
-//! The texts of faults. The program has lines of its own, and prints none of these.
+//! The messages of faults. The program has its own lines, and prints none of these.
 
 use cd_image::{Fault, SinkFailed, SourceFailed};
 use std::alloc::AllocError;
 
-/// A fault of a call, and its text.
+/// A fault of a call, and its message.
 const FAULTS: &[(Fault, &str)] = &[
     (Fault::Read, "reading the image failed"),
     (Fault::Write, "writing the output failed"),

@@ -1,4 +1,4 @@
-//! What the tests share: sectors and images in short form, scripts and texts, and readers and writers. It promises nothing.
+//! Shared code of the tests: sectors and images in short form, scripts and texts, and readers and writers. It has no contracts.
 
 mod readers;
 mod samples;

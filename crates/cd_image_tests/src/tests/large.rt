@@ -1,4 +1,4 @@
-//! The largest images, and one without an end. A pass over more than 60,000,000 bytes is a test of its own.
+//! Tests with the largest images, and with one without an end. Each pass over more than 60,000,000 bytes is a separate test.
 
 use super::calls::{Answer, NO_LIMIT, Report, check_of, expect_reported, report_of, report_with};
 use super::images::{repeated, script_of};
@@ -8,7 +8,7 @@ use std::io;
 use std::process::Abort;
 use std::test::Fail;
 
-/// The bytes of a million sectors.
+/// The number of bytes of a million sectors.
 const MOST: u64 = 2_352_000_000;
 
 const TOO_LONG: Answer = Answer::Failed(Fault::TooLong);
@@ -37,7 +37,7 @@ fn a_listing_of_a_byte_more(rt: HostRuntime) {
     expect_reported(&rt, &came, &report_with(TOO_LONG, 0), 0, "");
 }
 
-/// A reader of std. No contract knows which bytes are still to come.
+/// A reader of std. No contract knows the bytes that it has yet to return.
 #[test]
 fn a_listing_without_an_end(rt: HostRuntime) {
     let mut image = FromRead::new(io::repeat(0));
@@ -61,7 +61,7 @@ fn checks(
     Ok(())
 }
 
-/// Of a million sectors none is patched.
+/// The answer if none of a million sectors is patched.
 fn refused(refused: u32) -> Answer {
     Answer::Patched(Tally {
         applied: 0,

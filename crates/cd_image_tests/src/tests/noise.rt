@@ -8,7 +8,7 @@ use cd_sector::Sector;
 use std::alloc::AllocError;
 use std::test::Fail;
 
-/// A sector of noise that is of Mode 1.
+/// A Mode 1 sector of noise.
 fn noise(seed: u8) -> Sector {
     let mut bytes = *sector_of(&Mode(1)).bytes();
     for (place, byte) in bytes.iter_mut().enumerate() {
@@ -52,7 +52,7 @@ fn is_rebuilt(rt: HostRuntime) -> Result<(), Fail> {
     expect_sectors(&rt, rt.alloc(), REBUILD, &noise, APPLIED, &made, &PLAIN)
 }
 
-/// Each has the address of another block, and not one of its code words holds.
+/// Each sector has a wrong address, and none of its code words holds.
 const AUDIT: &str = "0 address zeros edc p=86 q=52\n1 address zeros edc p=86 q=52\n\
     2 address zeros edc p=86 q=52\nsectors 3 mode1 3 damaged 3 tail 0\n";
 

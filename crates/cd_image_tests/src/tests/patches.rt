@@ -20,7 +20,7 @@ const ONE: &str = "line 2: applied\napplied 1 refused 0\n";
 
 const TWO: &str = "line 2: applied\nline 3: applied\napplied 2 refused 0\n";
 
-/// Patches, an image, the log, and what becomes of the image.
+/// Patches, an image, the log, and the patched image.
 #[derive(Clone, Copy)]
 struct Accepted(
     &'static str,
@@ -52,7 +52,7 @@ fn accepts(
     Ok(())
 }
 
-/// A patch, an image that it leaves as it is, and why it is refused.
+/// A patch that is refused, an image, and the reason.
 #[derive(Clone, Copy)]
 struct Refused(&'static str, &'static [Sample], &'static str);
 
@@ -188,14 +188,14 @@ fn without_carrying(rt: HostRuntime) -> Result<(), Fail> {
 
 const THREE: &[Sample] = &[Zeros(0), Zeros(1), Zeros(2)];
 
-/// Their user data are `41` from the last byte of the first to the last but one of the third.
+/// Three sectors whose user data are `41` from the last byte of the first to the last byte but one of the third.
 const THREE_FILLED: &[Sample] = &[
     Filled(0, 2047, 2048, 0x41),
     Filled(1, 0, 2048, 0x41),
     Filled(2, 0, 2047, 0x41),
 ];
 
-/// As many bytes as a patch may have, and the third of their blocks missing.
+/// The largest number of bytes of a patch, and the same if the third of its blocks is missing.
 #[test]
 fn over_three_blocks(rt: HostRuntime) -> Result<(), Fail> {
     let set = repeated(rt.alloc(), "cdpatch 1\nset 0 2047 ", "41", 4096, "")?;
@@ -275,7 +275,7 @@ fn carrying(rt: HostRuntime) -> Result<(), Fail> {
     expect_sectors(&rt, rt.alloc(), set, &[damaged], ONE, &[out], &CARRYING)
 }
 
-/// The damaged byte is put right, and what it had made wrong stays so.
+/// The damaged byte is set to its correct value. The EDC and the code words that it made wrong stay wrong.
 #[test]
 fn a_damaged_byte_put_right(rt: HostRuntime) -> Result<(), Fail> {
     let damaged = sector_of(&Damaged(0, 2062, 1));
@@ -290,12 +290,12 @@ fn a_damaged_byte_put_right(rt: HostRuntime) -> Result<(), Fail> {
     expect_sectors(&rt, rt.alloc(), set, &[damaged], ONE, &[out], &CARRYING)
 }
 
-/// A patch on two blocks, of which the first or the second is not there.
+/// A patch on two blocks, where the first or the second is missing.
 const NO_FIRST: &[Refused] = &[Refused("set 0 2047 4142", PAIR, "no block 0")];
 
 const NO_SECOND: &[Refused] = &[Refused("set 0 2047 4142", PAIR, "no block 1")];
 
-/// The patch of a row is refused if its image is cut to each of these sizes.
+/// Asserts that the patch of a row is refused if its image is cut to each of these sizes.
 fn refused_at(
     rt: &impl Abort,
     alloc: Global,

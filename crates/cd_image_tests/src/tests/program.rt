@@ -1,5 +1,5 @@
-//! The program's calls, at concrete sources and sinks: arguments (`command_line`), the statuses and the lines of the commands (`commands`,
-//! `streams`), scripts and their files (`script`), and what a host is asked for (`hosts`).
+//! Tests of the program with concrete sources and sinks: its arguments (`command_line`), the statuses and the lines of the commands
+//! (`commands`, `streams`), scripts and their files (`script`), and the requests to a host (`hosts`).
 
 use std::process::Abort;
 
@@ -10,12 +10,12 @@ mod messages;
 mod script;
 mod streams;
 
-/// A text gives what it should. If it does not, it is printed.
+/// Asserts that a text gives the expected result. On failure, prints the text.
 fn holds(rt: &impl Abort, is_so: bool, text: &str) {
     assert!(rt; is_so, "{text}");
 }
 
-/// The same of a number of bytes.
+/// The same for a number of bytes.
 fn holds_at(rt: &impl Abort, is_so: bool, count: u64) {
     assert!(rt; is_so, "{count} bytes");
 }

@@ -11,8 +11,8 @@ use cd_report::MAX_BASE;
 use std::alloc::AllocError;
 use std::process::Abort;
 
-/// From which block on an image is reported on, the report, and how much of it is out once so much of the image is read, until
-/// all is.
+/// The first block of an image, its report, and the number of bytes of the report that are out after a number of bytes of the image, until
+/// all are.
 #[derive(Clone, Copy)]
 struct Due<'a>(u32, &'a str, &'a [(usize, usize)]);
 
@@ -25,7 +25,7 @@ struct Case<'a> {
 }
 
 impl Case<'_> {
-    /// How many bytes of the report are out after a number of bytes of the image.
+    /// The number of bytes of the report that are out after a number of bytes of the image.
     fn sent(&self, read: usize) -> usize {
         let Due(_, text, begun) = self.due;
         if self.image.len() < read {
@@ -35,7 +35,7 @@ impl Case<'_> {
         last.map_or(0, |(_, sent)| *sent)
     }
 
-    /// The report ends by this fault, or without one, after a number of bytes.
+    /// Asserts that the report ends with this fault, or without one, after a number of bytes.
     fn expect(&self, rt: &impl Abort, limits: &Limits, fault: Option<Fault>, sent: usize) {
         let Due(base, text, _) = self.due;
         assert!(rt; base <= MAX_BASE);
@@ -51,8 +51,8 @@ impl Case<'_> {
         expect_reported(rt, &came, &due, sent, text);
     }
 
-    /// By as many bytes a call as there are, and by few; then each byte of the image in turn is the first that cannot be read, and
-    /// each of the report the first that cannot be written.
+    /// With any number of bytes per call, and with few. Then each byte of the image in turn is the first that cannot be read, and each byte
+    /// of the report the first that cannot be written.
     fn expect_each(&self, rt: &impl Abort) {
         let Due(_, text, _) = self.due;
         let (size, length) = (self.image.len(), text.len());
@@ -85,12 +85,12 @@ fn reports_as(rt: &impl Abort, call: Report, image: &[u8], due: Due) {
     case.expect_each(rt);
 }
 
-/// The listing of an image.
+/// Asserts the listing of an image.
 fn lists_as(rt: &impl Abort, image: &[u8], due: Due) {
     reports_as(rt, Report::List, image, due);
 }
 
-/// A sector from block 0 on, and its audit.
+/// Asserts the audit of an image from block 0 on.
 pub fn audits_as(rt: &impl Abort, image: &[u8], text: &str) {
     let case = Case {
         call: Report::Audit,
@@ -113,7 +113,7 @@ const LISTS: &[(&[Sample], Due)] = &[
     (&[Mode(1)], Due(7, "7-7 mode1\nsectors 1 tail 0\n", &[])),
 ];
 
-/// Cut to 11,759 bytes.
+/// An image that is cut to 11,759 bytes.
 const CUT: &[Sample] = &[Mode(0), Mode(3), Mode(1), Mode(1), Blank];
 
 const OF_CUT: Due = Due(

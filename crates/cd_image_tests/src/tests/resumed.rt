@@ -1,5 +1,5 @@
-//! Readers of std that give bytes again after they have returned 0. The first 0 is the end: no call reads on, which no contract
-//! says, since none knows which bytes are still to come.
+//! Tests with readers of std that return bytes again after they have returned 0. The first 0 is the end, and no call reads further. No
+//! contract says this, since none knows the bytes that are still to come.
 
 use super::calls::{
     Answer, NO_LIMIT, Report, check_of, expect_reported, patched, report_of, report_with,
@@ -13,11 +13,11 @@ use std::io;
 use std::process::Abort;
 use std::test::Fail;
 
-/// How many bytes there are before the first end, the sectors and the tail that they are, the listing, and the audit.
+/// The number of bytes before the first end, their sectors and tail, the listing, and the audit.
 #[derive(Clone, Copy)]
 struct Ended(usize, u32, u16, &'static str, &'static str);
 
-/// At a sector's border, within a sector, after a first byte, and before one.
+/// The end is at the border of a sector, within a sector, after the first byte, and before it.
 const ENDED: &[Ended] = &[
     Ended(
         4704,
@@ -49,7 +49,7 @@ const ENDED: &[Ended] = &[
     ),
 ];
 
-/// A report on such an image.
+/// Asserts a report on such an image.
 fn expect_report(rt: &impl Abort, call: Report, bytes: usize, answer: Answer, text: &str) {
     let mut image = FromRead::new(Resuming::new(bytes));
     let came = report_of(call, &mut image, 0, NO_LIMIT, text);
@@ -75,7 +75,7 @@ fn reports(rt: HostRuntime) {
 
 const LOG: &str = "line 2: refused: no block 7\napplied 0 refused 1\n";
 
-/// Checks a script on such an image, and applies it: the result is that of `check`, and the output is finished.
+/// Checks a script on such an image, and applies it. Both have the same result, and the output is finished.
 fn expect_patched(rt: &impl Abort, script: &Script, bytes: usize, tally: Tally) {
     let mut image = FromRead::new(Resuming::new(bytes));
     let came = check_of(&mut image, script, LOG);
@@ -102,7 +102,7 @@ fn patches(rt: HostRuntime) -> Result<(), Fail> {
     Ok(())
 }
 
-/// The others of a buffer stay as they are.
+/// The other bytes of a buffer do not change.
 #[test]
 fn buffers(rt: HostRuntime) {
     for count in [0, 1, 7] {

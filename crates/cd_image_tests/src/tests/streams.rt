@@ -1,4 +1,4 @@
-//! Sources and sinks at concrete types.
+//! Tests of sources and sinks with concrete types.
 
 mod buffering;
 mod forms;

@@ -1,4 +1,4 @@
-//! Worked changes: the eight of a byte, and of user data.
+//! Worked changes: the eight changes of parity for a byte, and changes of user data.
 
 ghost use Rattle.std.specs.Prelude.{◌+◌, ◌<◌, ◌≤◌, length};
 
@@ -7,7 +7,7 @@ use cd_delta::{Change, change_byte, change_user, parity_changes};
 use cd_sector::{DefectReport, SECTOR_SIZE, Sector, SectorKind, USER_SIZE, defect, encode, kind};
 use std::process::Abort;
 
-/// The changes by an amount at a place, in order: their places, and their amounts.
+/// The eight changes for an amount that is added at a place: their places, and their amounts, in order.
 #[derive(Clone, Copy)]
 struct Worked {
     place: u16,
@@ -16,7 +16,7 @@ struct Worked {
     amounts: [u8; 8],
 }
 
-/// At the last place.
+/// For the last place before the parity.
 const LAST: Worked = Worked {
     place: 2075,
     d: 0x01,
@@ -51,12 +51,12 @@ const WORKED: &[Worked] = &[
     },
 ];
 
-/// Whether a change is by this amount at this place.
+/// Whether a change has this place and this amount.
 fn is_at((change, (place, d)): (&Change, (&u16, &u8))) -> bool {
     change.place == *place && change.d == *d
 }
 
-/// Whether the eight changes are those that are worked out.
+/// Whether the eight changes are the worked ones.
 fn are_worked(worked: &Worked) -> bool
     requires from { 12 ≤ worked.now.place }
     requires below { worked.now.place < 2076 }
@@ -93,7 +93,7 @@ fn a_byte_and_its_eight(rt: HostRuntime) {
     assert!(rt; sector == due);
 }
 
-/// Changes the user data of a sector that is of Mode 1.
+/// Changes the user data of a sector, and asserts that it is of Mode 1.
 fn change(rt: &impl Abort, sector: &mut Sector, offset: u16, bytes: &[u8])
     requires { offset + length bytes.now ≤ 2048 }
 {

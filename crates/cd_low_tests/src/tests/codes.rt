@@ -8,7 +8,7 @@ use cd_code::{alpha_power, column_sums, edc_of, pair_change, parity_pair, syndro
 /// Two factors, and their product.
 const PRODUCTS: &[(u8, u8, u8)] = &[(0x80, 0x02, 0x1D), (0x03, 0xF4, 0x01), (0x02, 0xF4, 0xF5)];
 
-/// An exponent, and the power of alpha, whose order is 255.
+/// An exponent, and this power of alpha, whose order is 255.
 const POWERS: &[(u32, u8)] = &[
     (0, 0x01),
     (1, 0x02),
@@ -37,7 +37,7 @@ fn a_parity_pair(rt: HostRuntime) {
     assert_eq!(rt; parity_pair(&[0x01]), (0x03, 0x02));
 }
 
-/// The size of a code word, a place in it, a change there, and that of its last two bytes.
+/// The size of a code word, a place in it, a change there, and the changes of its last two bytes.
 const PAIR_CHANGES: &[(usize, usize, u8, (u8, u8))] = &[
     (3, 0, 0x01, (0x03, 0x02)),
     (26, 23, 0x01, (0x03, 0x02)),
@@ -60,7 +60,7 @@ fn changes_of_a_pair(rt: HostRuntime) {
     }
 }
 
-/// A list of bytes, its EDC word, and the bytes of that as they are stored.
+/// A list of bytes, its EDC word, and the bytes of the word as they are stored.
 const EDC_WORDS: &[(&[u8], u32, [u8; 4])] = &[
     (&[], 0x0000_0000, [0x00, 0x00, 0x00, 0x00]),
     (&[0x01], 0x9091_0101, [0x01, 0x01, 0x91, 0x90]),
@@ -84,7 +84,7 @@ fn edc_words(rt: HostRuntime) {
     }
 }
 
-/// The word as a register gives it that takes each byte's bits from the low one on.
+/// The EDC word by a shift register that processes the bits of each byte from the lowest on.
 fn register_word(bytes: &[u8]) -> u32 {
     let mut register = 0;
     for byte in bytes {
@@ -100,7 +100,7 @@ fn register_word(bytes: &[u8]) -> u32 {
     register
 }
 
-/// Bytes without a pattern: each short list of them, and those of about a sector's length.
+/// Bytes without a pattern: all short lists of them, and lists of about the length of a sector.
 #[test]
 fn edc_words_against_the_register(rt: HostRuntime) {
     let mut bytes = [0; 2065];
@@ -119,7 +119,7 @@ fn edc_words_against_the_register(rt: HostRuntime) {
     }
 }
 
-/// The place of the one byte `01` among rows of `00`, its column, and the two sums of that.
+/// The place of a single byte `01` in rows of `00`, its column, and the two sums of the column.
 const SINGLE_BYTES: &[(usize, usize, (u8, u8))] = &[
     (0, 0, (0x01, 0x03)),
     (64, 64, (0x01, 0x03)),

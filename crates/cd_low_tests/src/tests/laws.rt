@@ -1,4 +1,4 @@
-//! The laws of codes, sectors, scripts and patches, as a caller has them.
+//! The laws of codes, sectors, scripts and patches, as a caller uses them.
 
 use cd_code::{edc_is_unique, edc_of_sum, pair_is_unique, product_goes_by_bits, sum_goes_by_bits};
 use cd_delta::one_diagonal;

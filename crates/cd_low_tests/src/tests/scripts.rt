@@ -1,4 +1,4 @@
-//! Worked texts of scripts: the lines of their patches in order, their faults, and the texts of faults.
+//! Worked scripts: the lines of their patches in order, their errors, and the messages for errors.
 
 use super::holds;
 use cd_script::ScriptFault::{
@@ -7,7 +7,7 @@ use cd_script::ScriptFault::{
 use cd_script::{MAX_PATCHES, MAX_TEXT, Patch, ScriptFault, parse};
 use std::alloc::{AllocError, Global};
 
-/// A text, and the lines of its patches in their order, or its fault.
+/// A text, and the lines of its patches in order, or its error.
 type Read = (&'static str, Result<&'static [u32], ScriptFault>);
 
 const TEXTS: &[Read] = &[
@@ -35,13 +35,13 @@ const TEXTS: &[Read] = &[
     ("cdpatch 1\nfill 0 0 1 F", Err(Hex(2))),
 ];
 
-/// Whether patches are of these lines, in this order.
+/// Whether patches have these lines, in this order.
 fn are_of(patches: &[Patch], lines: &[u32]) -> bool {
     let each = |(patch, line): (&Patch, &u32)| patch.line == *line;
     patches.len() == lines.len() && patches.iter().zip(lines).all(each)
 }
 
-/// Whether a text is read so.
+/// Whether reading a text gives this result.
 fn is_read_so(alloc: Global, (text, due): &Read) -> bool {
     if text.len() > MAX_TEXT {
         return false;
@@ -60,10 +60,10 @@ fn texts(rt: HostRuntime) {
     }
 }
 
-/// The line of the patch after the most.
+/// The line of the first patch above the limit.
 const ONE_MORE: u32 = MAX_PATCHES as u32 + 2;
 
-/// What comes after as many patches as there may be, and the number of all, or the fault.
+/// The text after the largest number of patches, and the number of all patches, or the error.
 const MANY: &[(&str, Result<usize, ScriptFault>)] = &[
     ("", Ok(MAX_PATCHES)),
     ("set 0 0 41\n", Err(TooMany(ONE_MORE))),
@@ -82,7 +82,7 @@ fn as_many_patches_as_there_may_be(rt: HostRuntime) -> Result<(), AllocError> {
     Ok(())
 }
 
-/// Each fault.
+/// Each error.
 const FAULTS: &[ScriptFault] = &[
     Head(7),
     Verb(7),

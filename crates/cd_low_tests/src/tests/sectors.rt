@@ -1,4 +1,4 @@
-//! Worked addresses, and what is wrong with worked sectors.
+//! Worked addresses, and the defects of worked sectors.
 
 use super::holds;
 use cd_sector::{
@@ -23,12 +23,12 @@ fn addresses(rt: HostRuntime) {
     }
 }
 
-/// The members of a report in order, and whether the sector is consistent.
+/// The fields of a report in order, and whether the sector is consistent.
 type Wrong = (bool, bool, u8, u8, bool);
 
 const SOUND: Wrong = (false, false, 0, 0, true);
 
-/// A place of the sector of block 0 whose user data are `00`, and what is wrong if its lowest bit is flipped.
+/// A place in the sector of block 0 with user data `00`, and the defects if the lowest bit of the byte there is flipped.
 const FLIPPED: &[(usize, Wrong)] = &[
     (2351, (false, false, 0, 1, false)),
     (2068, (true, false, 1, 1, false)),
@@ -51,6 +51,6 @@ fn reports(rt: HostRuntime) {
         sector.put(place, sound.byte(place) ^ 0x01);
         expect_wrong(&rt, &sector, *due);
     }
-    // of no sync field, so of no kind that could be consistent
+    // without a sync field, so not of a kind that can be consistent
     expect_wrong(&rt, &Sector::default(), (false, false, 0, 0, false));
 }

@@ -31,7 +31,7 @@ slice_get-drop (suc n) (x ∷ xs) i =
     let e : suc (n + i) ≡ suc n + i = omega arith in
     slice_get-drop n xs i ∙ ap (slice_get (x ∷ xs)) e
 
--- an element of the front of a list, whatever is read past its end
+-- an element of the front of a list, whatever the default past its end
 pub get_or-take_default : {X : Type 0} (xs : List X) (n k : ℕ) (d e : X) → n ≤ length xs
     → k < length (take n xs)
     → get_or (take n xs) k d ≡ get_or xs k e
@@ -39,7 +39,7 @@ get_or-take_default xs n k d e room inside =
     let size = length-take-le n xs room in
     get_or-take n xs k d (omega arith) ∙ get_or_default xs k d e (omega arith)
 
--- the elements from n on stay if the first n are replaced by as many
+-- the elements from n on are unchanged if the first n are replaced by as many others
 pub slice_get-append_drop : {X : Type 0} (front xs : List X) (n k : ℕ) → length front ≡ n → n ≤ k
     → slice_get (front ++ drop n xs) k ≡ slice_get xs k
 slice_get-append_drop front xs n k long after =

@@ -2,7 +2,7 @@
 use Rattle.std.proofs.Common.{◌≡◌, ◌+◌, ◌≤◌, ℕ, List, [], ◌++◌, Option, None, Some, sym, ap, ◌∙◌, arith, append-nil, length, length-append}
 use Rattle.std.specs.Io.KnownBytes.{Appends, Consumes, IsAtEnd}
 
--- known bytes of which none is left were all read
+-- if none of the known bytes is left, all were read
 pub consumed_all : (old new : Option (List ℕ)) (read bytes : List ℕ) → Consumes old new read
     → IsAtEnd new → old ≡ Some bytes → (new ≡ Some []) × (read ≡ bytes)
 consumed_all None new read bytes consumed end known = cc
@@ -11,7 +11,7 @@ consumed_all (Some xs) (Some ys) read bytes consumed end known =
     let same : xs ≡ bytes = cc in
     (ap Some end, sym (append-nil read) ∙ ap (λ l. read ++ l) (sym end) ∙ sym consumed ∙ same)
 
--- what was read and what is left are all that there was
+-- the bytes read and the bytes left are all the bytes that there were
 pub consumed_length : (old new : Option (List ℕ)) (read bytes left : List ℕ) → Consumes old new read
     → old ≡ Some bytes → new ≡ Some left → length bytes ≡ length read + length left
 consumed_length None new read bytes left consumed known telling = cc
@@ -22,7 +22,7 @@ consumed_length (Some xs) (Some ys) read bytes left consumed known telling =
     ap length (sym given ∙ consumed) ∙ length-append read ys
     ∙ ap (λ l. length read + length l) still
 
--- what was read is no more than there was
+-- no more bytes were read than there were
 pub consumed_within : (old new : Option (List ℕ)) (read bytes : List ℕ) → Consumes old new read
     → old ≡ Some bytes → length read ≤ length bytes
 consumed_within None new read bytes consumed known = cc

@@ -1,4 +1,4 @@
--- The lines that the crate `bstr` gives are std's lines.
+-- The lines of the crate `bstr` are the lines of std.
 use Rattle.std.proofs.Common.{◌≡◌, ◌+◌, ◌-◌, ◌<◌, ◌≤◌, ℕ, zero, suc, Bool, false, ◌==◌, ◌&&◌, List, [], ◌∷◌, ◌++◌, length, length-append, length-drop, length-take, take, drop, slice_index, map, refl, sym, ap, ◌∙◌, arith, inl, inr, append_assoc}
 use Rattle.std.specs.Prelude.{All, nat_lt}
 use Rattle.std.specs.List.{slice_split, position_or_len, before_first, after_first}
@@ -13,11 +13,11 @@ use Rattle.std.proofs.lemmas.Bool.Decides.{nat_tests}
 use Rattle.bstr.specs.Text.{line_len, lines_of, no_cr, without_terminator}
 use Rattle.bstr.proofs.lemmas.LineLemmas.{lines-step, lines-nil, line_len-at, line_len-none}
 
--- the test at which lines are cut
+-- whether a byte ends a line
 abbrev pub is_feed : ℕ → Bool
 is_feed b = b == 10
 
--- no line feed stands in the bytes
+-- there is no line feed among the bytes
 abbrev pub NoFeed : List ℕ → Type 0
 NoFeed = All (λ b. is_feed b ≡ false)
 
@@ -37,7 +37,7 @@ lines-cut l rest none =
     ∙ lines_of_parts-cons l (slice_split is_feed rest)
     (omega (arith, length-slice_split is_feed rest))
 
--- what follows the last line feed
+-- a line without a line feed
 pub lines-last : (l : List ℕ) → NoFeed l → 0 < length l → lines l ≡ l ∷ []
 lines-last l none some =
     ap lines_of_parts (slice_split_none is_feed l none)
@@ -100,7 +100,7 @@ without_terminator-last l none some =
     (ap (λ (b : Bool). nat_lt 0 (length l) && b) (none (length l - 1) 0 (omega arith))
     ∙ and-false (nat_lt 0 (length l)))
 
--- where the first line feed is
+-- by the place of the first line feed
 by_first : (bs : List ℕ) (n : ℕ) → length bs ≤ n → map without_terminator (lines_of bs) ≡ lines bs
 by_first [] n le = ap (map without_terminator) lines-nil
 by_first (b ∷ bs) zero le = absurd (omega arith)

@@ -1,4 +1,4 @@
--- How many elements of a list have a property.
+-- The number of elements of a list that have a property.
 use Rattle.std.proofs.Common.{◌≡◌, ◌+◌, Bool, cond, count_by, List, [], ◌∷◌, ◌++◌}
 use Rattle.std.proofs.lemmas.List.Sums.{sum_by-append, sum_by-cons, sum_by_push}
 

@@ -1,24 +1,24 @@
-//! A sink that holds bytes back.
+//! A sink that holds bytes back before it writes them to another sink.
 
 ghost use Rattle.std.specs.Prelude.{◌≡◌, ◌+◌, ◌≤◌, ◌++◌, drop, length, take};
 ghost use Rattle.cd_stream.specs.Stream.{CanCountFailure};
 
 use crate::sink::{Sink, SinkFailed};
 
-/// Holds bytes back from another sink: they go out when a write finds no room, and at `finish`. Its
-/// space is as long as the bytes that it may hold back, so with a space of no bytes it passes on
-/// each write at once.
+/// A sink that holds bytes back before it passes them on to an inner sink. It passes them on when a
+/// write finds no room, and at `finish`. It holds back at most as many bytes as its space has, so
+/// with an empty space it passes on each write at once.
 ///
-/// A write or flush below that fails is a failure of the call that made it, and is made again only
-/// by a further call. What it still holds when it is dropped is lost.
+/// If a write or flush of the inner sink fails, the call that made it fails, and only a further
+/// call makes it again. Bytes that are still held when it is dropped are lost.
 ///
-/// It stands in the place of std's `BufWriter`, which repeats an interrupted write, and at a drop one
-/// that failed; std's contract does not say which calls it makes below.
+/// It replaces std's `BufWriter`, which repeats an interrupted write, and when dropped a failed
+/// one; std's contract does not say which calls a `BufWriter` makes of its inner writer.
 #[derive(Debug, Drop)]
 pub struct Buffered<S> {
     inner: S,
     space: Vec<u8>,
-    // What it holds lies from `start` to `end`.
+    // The held bytes are those from `start` to before `end`.
     start: usize,
     end: usize,
     finished: bool,
@@ -33,7 +33,7 @@ impl<S: Sink> Buffered<S> {
     ghost use Rattle.cd_stream.specs.Buffering.{space_of};
     ghost use Rattle.cd_stream.specs.Transfer.{Writes};
 
-    /// Stands over `inner`, and holds back at most as many bytes as `space` has.
+    /// Creates a sink over `inner` that holds back at most as many bytes as `space` has.
     ///
     /// # Examples
     ///
@@ -60,7 +60,7 @@ impl<S: Sink> Buffered<S> {
         }
     }
 
-    /// Puts `bytes`, for which there is room, after what it holds.
+    /// Appends `bytes`, for which there is room, to the held bytes.
     fn hold(&mut self, bytes: &[u8])
         requires { length bytes.now ≤ room_after self.old }
         ensures held { held_bytes self.new ≡ held_bytes self.old ++ bytes.now }
@@ -74,9 +74,8 @@ impl<S: Sink> Buffered<S> {
         self.end += bytes.len();
     }
 
-    /// Passes on all that it holds. If a write fails, it still holds, from where it lies, what that
-    /// write and those after it had to pass; the room before it is used again only when all has
-    /// gone out.
+    /// Passes on all held bytes. If a write fails, the bytes that were not written stay held, and
+    /// stay in their place; the room before them is used again only when all bytes were passed on.
     #[cold]
     #[inline(never)]
     fn drain(&mut self) -> Result<(), SinkFailed>
@@ -91,8 +90,8 @@ impl<S: Sink> Buffered<S> {
         Ok(())
     }
 
-    /// Writes bytes for which there was no room: passes on what it holds, and holds them then. Only
-    /// a write that is longer than its space goes straight to the sink below.
+    /// Writes bytes for which there was no room: passes on the held bytes, and then holds these.
+    /// Only if they are more than the space has are they written directly to the inner sink.
     #[cold]
     #[inline(never)]
     fn write_past(&mut self, bytes: &[u8]) -> Result<usize, SinkFailed>
@@ -113,8 +112,8 @@ impl<S: Sink> Buffered<S> {
     }
 }
 
-/// Proof step: writes `bytes` over those of `space` from `place` on, so that the bytes before and
-/// after are named in one clause.
+/// Proof step: copies `bytes` into `space` from `place` on, so that one clause names the bytes
+/// before and after them.
 fn copy_at(space: &mut [u8], place: usize, bytes: &[u8])
     requires { place + length bytes.now ≤ length space.old }
     ensures { space.new
@@ -182,7 +181,7 @@ impl<S: Sink> Sink for Buffered<S> {
         ensures finished { result ≡ (buffered_outgoing S.seen self.now).finished }
         ensures passed { IsTrue result → HasDrained S.seen self.now }
     {
-        // Its own flag, so that a new one over a finished sink is not finished.
+        // It has its own flag, so that a new `Buffered` over a finished sink is not finished.
         self.finished && self.inner.finished() && self.start == self.end
     }
 

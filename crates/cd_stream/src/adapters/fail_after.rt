@@ -1,4 +1,4 @@
-//! A source or a sink that fails from some byte on.
+//! A source or a sink that fails after a number of bytes.
 
 ghost use Rattle.std.specs.Prelude.{◌≡◌, ◌<◌};
 ghost use Rattle.cd_stream.specs.Stream.{CanCountFailure};
@@ -6,10 +6,10 @@ ghost use Rattle.cd_stream.specs.Stream.{CanCountFailure};
 use crate::sink::{Sink, SinkFailed};
 use crate::source::{Source, SourceFailed};
 
-/// Passes a number of bytes, and fails each call after them, which leaves the inner source or sink
-/// as it was.
+/// Passes a number of bytes, and then fails each call. These failed calls leave the inner source or
+/// sink unchanged.
 ///
-/// Its count of failures is the sum of the inner ones and its own, as far as 32 bits go.
+/// Its count of failures is the sum of the inner count and its own, but at most 4,294,967,295.
 #[derive(Debug, Drop)]
 pub struct FailAfter<S> {
     inner: S,
@@ -24,7 +24,7 @@ impl<S> FailAfter<S> {
     ghost use Rattle.cd_stream.specs.Adapters.{fail_after_finished, fail_after_inner, own_failures};
     ghost use Rattle.cd_stream.specs.Adapters.{still_passes};
 
-    /// Stands over `inner`, and passes `count` bytes.
+    /// Creates a source or a sink over `inner` that passes `count` bytes.
     ///
     /// # Examples
     ///
@@ -48,7 +48,7 @@ impl<S> FailAfter<S> {
         }
     }
 
-    /// What it stands over.
+    /// The inner source or sink.
     ///
     /// See the example of [`FailAfter::new`].
     pub fn get_ref(&self) -> &S

@@ -6,12 +6,12 @@ use crate::count::Count;
 use crate::source::{Source, SourceFailed};
 use std::io::Read;
 
-/// Gives the bytes of a reader. Each error is a failure, an interrupted read too, and nothing is
-/// tried again.
+/// A source of the bytes of a std reader. Each error is a failure, even of an interrupted read, and
+/// nothing is tried again.
 ///
-/// Of an `Err` std's contract says only that no known byte moved. So no clause says that it fails
-/// only if the reader does, nor that a call is one call of the reader: tests with readers that
-/// count their calls show it.
+/// For an `Err`, std's contract says only that no known byte moved. So no clause says that a read
+/// fails only if the reader fails, or that a call is one call of the reader. Tests with readers
+/// that count their calls show both.
 #[derive(Debug, Drop)]
 pub struct FromRead<R> {
     reader: R,
@@ -21,7 +21,7 @@ pub struct FromRead<R> {
 }
 
 impl<R: Read> FromRead<R> {
-    /// Stands over `reader`.
+    /// Creates a source over `reader`.
     ///
     /// # Examples
     ///

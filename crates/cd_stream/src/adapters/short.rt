@@ -1,4 +1,4 @@
-//! A source or a sink that moves few bytes a call.
+//! A source or a sink that moves few bytes per call.
 
 ghost use Rattle.std.specs.Prelude.{◌<◌};
 ghost use Rattle.cd_stream.specs.Stream.{CanCountFailure};
@@ -6,8 +6,8 @@ ghost use Rattle.cd_stream.specs.Stream.{CanCountFailure};
 use crate::sink::{Sink, SinkFailed};
 use crate::source::{Source, SourceFailed};
 
-/// Passes at most a number of bytes in each call. Its count of failures is that of the inner source
-/// or sink.
+/// Passes at most a fixed number of bytes in each call. Its count of failures is the count of the
+/// inner source or sink.
 #[derive(Debug, Drop)]
 pub struct Short<S> {
     inner: S,
@@ -20,8 +20,8 @@ impl<S> Short<S> {
     ghost use Rattle.std.specs.Prelude.{◌≡◌, false, max};
     ghost use Rattle.cd_stream.specs.Adapters.{passes_at_most, short_finished, short_inner};
 
-    /// Stands over `inner`, and passes at most `most` bytes a call: 1 if that is 0, since a call
-    /// has to move one.
+    /// Creates a source or a sink over `inner` that passes at most `most` bytes per call, or 1 if
+    /// `most` is 0, since a call has to move one byte.
     ///
     /// # Examples
     ///
@@ -43,7 +43,7 @@ impl<S> Short<S> {
         }
     }
 
-    /// What it stands over.
+    /// The inner source or sink.
     ///
     /// See the example of [`Short::new`].
     pub fn get_ref(&self) -> &S

@@ -1,4 +1,4 @@
-//! Memory as a sink.
+//! A slice of memory as a sink.
 
 ghost use Rattle.std.specs.Prelude.{◌≡◌, ◌≢◌, ◌≤◌, [], Some, drop, false, length, take};
 ghost use Rattle.std.specs.Mem.{manually_drop_value};
@@ -10,26 +10,27 @@ use std::fmt::{self, Debug, Formatter, Write};
 use std::mem::ManuallyDrop;
 use std::snapshot::Snapshot;
 
-/// A slice as it was lent.
+/// The slice as it was lent.
 #[derive(Drop)]
 struct Lent<'a> {
     slice: &'a mut [u8],
 }
 
-/// Writes to the front of a slice, and fails if that is full.
+/// A sink that fills a slice from its front, and fails when the slice is full.
 ///
-/// What a contract sees of it names the slice as it was lent, and each call of a sink leaves that.
-/// So after a call that takes any sink a caller finds his slice again, once he has moved it out.
+/// In contracts its state names the slice as it was lent, and no call of a sink changes this name.
+/// So a caller that passes it to a function over any sink, and then moves the slice out, knows that
+/// it is the same slice.
 #[derive(Drop)]
 pub struct SliceSink<'a> {
-    /// What was lent. Its first `used` bytes were written, and the rest is as it was.
+    /// The slice. Its first `used` bytes were written, and the rest is unchanged.
     pub space: &'a mut [u8],
-    /// How many bytes were written.
+    /// The number of bytes that were written.
     pub used: usize,
     flushes: Count,
     failures: u32,
     finished: bool,
-    // Nothing is to be dropped, so that the slice can be moved out.
+    // Nothing is dropped, so that the slice can be moved out.
     lent: ManuallyDrop<Snapshot<Lent<'a>>>,
     ghost within: { used ≤ length space.now },
     ghost same_slice: { space.ghost_name ≡ (manually_drop_value lent).value.slice.ghost_name },
@@ -49,7 +50,7 @@ impl<'a> SliceSink<'a> {
     ghost use Rattle.cd_stream.specs.Adapters.{lent_to, room_of, rest_of_slice, slice_ghost_name};
     ghost use Rattle.cd_stream.specs.Adapters.{slice_written};
 
-    /// Stands over `space`, from its front.
+    /// Creates a sink over `space`, which is filled from its front.
     ///
     /// # Examples
     ///
@@ -88,7 +89,7 @@ impl<'a> SliceSink<'a> {
         }
     }
 
-    /// The bytes that were written, in their order: the front of the slice.
+    /// The bytes that were written, in order: the front of the slice.
     ///
     /// See the example of [`SliceSink::new`].
     pub fn written(&self) -> &[u8]

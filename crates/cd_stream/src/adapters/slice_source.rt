@@ -1,11 +1,11 @@
-//! Bytes in memory as a source.
+//! A slice of memory as a source.
 
 ghost use Rattle.std.specs.Prelude.{◌≡◌, Some, false};
 
 use crate::count::Count;
 use crate::source::{Source, SourceFailed};
 
-/// Gives the bytes of a slice, and never fails.
+/// A source of the bytes of a slice. It never fails.
 #[derive(Debug, Drop)]
 pub struct SliceSource<'a> {
     rest: &'a [u8],
@@ -14,7 +14,7 @@ pub struct SliceSource<'a> {
 }
 
 impl<'a> SliceSource<'a> {
-    /// Stands over `bytes`.
+    /// Creates a source over `bytes`.
     ///
     /// # Examples
     ///

@@ -6,12 +6,12 @@ use crate::count::Count;
 use crate::sink::{Sink, SinkFailed};
 use std::io::Write;
 
-/// Passes its bytes to a writer. An error is a failure, an interrupted write too, and so is a write
-/// that accepts no byte.
+/// A sink that passes its bytes to a std writer. Each error is a failure, even of an interrupted
+/// write, and so is a write that accepts no byte.
 ///
-/// Of an `Err` std's contract says only that no known byte moved. So tests with writers that count
-/// their calls show that it fails only if the writer does, and that a call is one call of the
-/// writer.
+/// For an `Err`, std's contract says only that no known byte moved. So tests with writers that
+/// count their calls show that a call fails only if the writer fails, and that it is one call of
+/// the writer.
 #[derive(Debug, Drop)]
 pub struct ToWrite<W> {
     writer: W,
@@ -22,7 +22,7 @@ pub struct ToWrite<W> {
 }
 
 impl<W: Write> ToWrite<W> {
-    /// Stands over `writer`.
+    /// Creates a sink over `writer`.
     ///
     /// # Examples
     ///
@@ -53,7 +53,7 @@ impl<W: Write> ToWrite<W> {
         }
     }
 
-    /// The writer that it stands over.
+    /// Returns the inner writer.
     ///
     /// # Examples
     ///

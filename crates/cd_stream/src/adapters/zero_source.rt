@@ -1,11 +1,11 @@
-//! Zeros as a source.
+//! A source of bytes `00`.
 
 ghost use Rattle.std.specs.Prelude.{◌≡◌, Some, false, replicate};
 
 use crate::count::Count;
 use crate::source::{Source, SourceFailed};
 
-/// Gives a number of bytes `00`, and never fails.
+/// A source of a given number of bytes `00`. It never fails.
 #[derive(Debug, Drop)]
 pub struct ZeroSource {
     left: u64,
@@ -14,7 +14,7 @@ pub struct ZeroSource {
 }
 
 impl ZeroSource {
-    /// Gives `count` bytes.
+    /// Creates a source of `count` bytes `00`.
     ///
     /// # Examples
     ///

@@ -5,7 +5,7 @@ use Rattle.clap.specs.Words.{Text, first_of, found_of, rows_of}
 use Rattle.clap.proofs.WalkLemmas.{first_value-rows}
 use Rattle.cd_args.proofs.parse.text_of.Goals as goal
 
--- there is a value if what it is mapped to is there
+-- there is a value if it is mapped to a value
 IsSome-from_map : {X Y : Type 0} (f : X → Y) (o : Option X) (r : Option Y) → option_map f o ≡ r
     → IsSome r → IsSome o
 IsSome-from_map f None r e h = subst IsSome (sym e) h

@@ -1,5 +1,5 @@
 -- The state's cell is read as a hasher's: both types have the same fields in the same order, and
--- what lies in memory does not depend on a type's name.
+-- the contents of memory do not depend on the name of a type.
 use Rattle.cd_c.proofs.Walking.{[], ◌∷◌, refl, proved, ftrue, tables, ‵, raw, at_ret, ◌$◌}
 use Rattle.cd_c.proofs.Walking.{◌∵◌, !, qed, done, drop, join, suffices, enter, of_opd}
 use Rattle.cd_c.proofs.Walking.{addr, from, load, look_raw, stop, first, blocks, exec}
@@ -39,7 +39,7 @@ hasher_of_spec 𝓤 𝓛 𝓜 𝓡 wired =
     sets ! (of_opd ! (get ! refl)) refl typed $
     first ! $ blocks ! $
     sets ! (addr ! (from ! (stop !))) refl (tt, tt) $
-    -- the local's cell comes to the head, where it is read as one of the other type
+    -- the local's cell is moved to the head, and read as the other type
     take_at ! 2 $ unnamed 𝓛 taken_laws.mir (l 2) v $
     sets_last ! (of_opd ! (load ! (through ! refl (stop !)) (look_raw ! 0 refl))) refl typed $
     named_again 𝓛 taken_laws.mir (l 2) v $ give_at ! 2 $

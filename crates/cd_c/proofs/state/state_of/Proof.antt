@@ -37,7 +37,7 @@ state_of_spec 𝓤 𝓛 𝓜 𝓡 wired =
     sets ! (of_opd ! (get ! refl)) refl typed $
     first ! $ blocks ! $
     sets ! (addr ! (from ! (stop !))) refl (tt, tt) $
-    -- the local's cell comes to the head, where it is read as one of the other type
+    -- the local's cell is moved to the head, and read as the other type
     take_at ! 2 $ unnamed 𝓛 taken_laws.mir (l 2) v $
     sets_last ! (of_opd ! (load ! (through ! refl (stop !)) (look_raw ! 0 refl))) refl typed $
     named_again 𝓛 taken_laws.mir (l 2) v $ give_at ! 2 $

@@ -3,7 +3,7 @@ use Rattle.std.proofs.lemmas.Bool.{cases_lt}
 use Rattle.cd_code.specs.Field.{double}
 use Rattle.cd_code.proofs.columns.row_sums.Goals as goal
 
--- a row that is added in three parts, each to sums that the other parts leave
+-- a row that is added in three parts, none of which changes the sums of the other parts
 in_three_parts : (f : ℕ → ℕ) (old one two new row : List ℕ) → length row ≡ 86
     → ((c : ℕ) → 0 ≤ c → c < 32 → get_or one c 0 ≡ bit_xor (f (get_or old c 0)) (get_or row c 0))
     → ((c : ℕ) → 32 ≤ c → get_or one c 0 ≡ get_or old c 0)

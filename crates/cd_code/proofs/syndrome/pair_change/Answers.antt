@@ -4,7 +4,7 @@ use Rattle.cd_code.proofs.FieldTableLemmas.{product-pair}
 use Rattle.cd_code.proofs.SyndromeLemmas.{SameSums-change, pair-nonzero}
 use Rattle.cd_code.proofs.syndrome.pair_change.Goals as goal
 
--- the first byte of the pair, as the definition has it
+-- the first byte of the pair, as in the definition
 first_is : (c : goal.After-exponent-first)
     → c.exponent-first.result
     ≡ product 244 (bit_xor (product (power (c.args.len - 1 - c.args.place)) c.args.d) c.args.d)

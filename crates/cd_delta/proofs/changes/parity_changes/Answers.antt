@@ -5,7 +5,7 @@ use Rattle.cd_delta.proofs.KeepLemmas.{AreCarried, Eight, IsDistinct-carried}
 use Rattle.cd_delta.proofs.KeepLemmas.{SameSyndromes-carried, parity_places-carried}
 use Rattle.cd_delta.proofs.changes.parity_changes.Goals as goal
 
--- one record of all that the helpers ensure serves three clauses
+-- one record of everything that the helpers ensure is used for three clauses
 pub returns : goal.returns
 returns c =
     let byte : Change = record { place = c.args.place; d = c.args.d } in

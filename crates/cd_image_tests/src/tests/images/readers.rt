@@ -2,11 +2,11 @@
 
 use std::io::{self, Read};
 
-/// A reader that returns 0 once, after so many bytes `00`, and then gives bytes `00` without an end, as a terminal can. Who has
-/// met the end sees none of those after it.
+/// A reader that returns 0 once, after a number of bytes `00`, and then returns bytes `00` without an end, as a terminal can. A caller that
+/// stops at the end sees none of the later bytes.
 #[derive(Drop)]
 pub struct Resuming {
-    /// How many bytes there are before the end, if it has not come.
+    /// The number of bytes before the end; `None` after it.
     left: Option<usize>,
 }
 

@@ -7,19 +7,19 @@ use std::alloc::{AllocError, Global};
 /// A sector in short form.
 #[derive(Clone, Copy)]
 pub enum Sample {
-    /// The consistent sector of a block, its user data all `00`.
+    /// The consistent sector of a block with user data `00`.
     Zeros(u32),
-    /// The same, but for the user bytes from one offset up to another, which are of one value.
+    /// The same, except that the user bytes from one offset up to another have this value.
     Filled(u32, usize, usize, u8),
     /// The first, with a difference added to the byte at a place.
     Damaged(u32, usize, u8),
-    /// A sync field, the address of 00:02:00, this mode byte, and all else `00`.
+    /// A sync field, the address of 00:02:00, this mode byte, and `00` everywhere else.
     Mode(u8),
     /// All `00`.
     Blank,
 }
 
-/// The sector itself.
+/// The sector of a sample.
 pub fn sector_of(sample: &Sample) -> Sector {
     match *sample {
         Sample::Zeros(block) => encoded_at(block, &[0; USER_SIZE]),
@@ -34,7 +34,7 @@ pub fn sector_of(sample: &Sample) -> Sector {
     }
 }
 
-/// User data, but for the bytes from one offset up to another, which are of one value.
+/// User data in which the bytes from one offset up to another have this value.
 fn filled(mut user: [u8; USER_SIZE], first: usize, end: usize, value: u8) -> [u8; USER_SIZE] {
     for (place, byte) in user.iter_mut().enumerate() {
         if first <= place && place < end {
@@ -44,7 +44,7 @@ fn filled(mut user: [u8; USER_SIZE], first: usize, end: usize, value: u8) -> [u8
     user
 }
 
-/// A sector with a sync field, the address of 00:02:00 and this mode byte, all else `00`.
+/// A sector with a sync field, the address of 00:02:00, this mode byte, and `00` everywhere else.
 fn of_mode(mode: u8) -> Sector {
     let mut sector = Sector::default();
     for place in 1..11 {
@@ -64,7 +64,7 @@ pub fn image_of(alloc: Global, samples: &[Sample]) -> Result<Vec<u8>, AllocError
     Ok(bytes)
 }
 
-/// The first of these bytes, up to a number.
+/// The first `size` bytes of the sectors.
 pub fn cut_image(alloc: Global, samples: &[Sample], size: usize) -> Result<Vec<u8>, AllocError> {
     let mut bytes = image_of(alloc, samples)?;
     bytes.truncate(size);

@@ -1,4 +1,4 @@
-//! Sectors made of user data and of other sectors.
+//! Builds sectors from user data and from other sectors.
 
 use cd_address::address_of;
 use cd_sector::{Sector, encode, sum_of};
@@ -9,7 +9,7 @@ pub fn encoded_at(block: u32, user: &[u8; 2048]) -> Sector {
     encode(address_of(block).unwrap_or([0, 0, 0]), user)
 }
 
-/// The sector that a sector's header and user data are encoded to.
+/// The sector that results from encoding the header and the user data of a sector.
 pub fn encoded_again(sector: &Sector) -> Sector {
     let [minute, second, fraction, _] = sector.header();
     let mut user = [0; 2048];
@@ -26,7 +26,7 @@ pub fn with_added(sector: &Sector, place: usize, difference: u8) -> Sector {
     other
 }
 
-/// The sector with these bytes from a place on, as far as it has places.
+/// The sector with these bytes from a place on. Bytes after the end of the sector are left out.
 pub fn with_bytes(sector: &Sector, place: usize, bytes: &[u8]) -> Sector {
     let mut other = *sector;
     let mut next = place;
@@ -44,8 +44,8 @@ pub fn flipped(sector: &Sector, place: usize) -> Sector {
     with_added(sector, place, 1)
 }
 
-/// What a sector is carried to: to it is added what two consistent sectors differ in, the one with its content and the
-/// one with that of another.
+/// A sector after a change that carries its damage: to it is added the difference between two consistent sectors, one with its content, and
+/// one with the content of the new sector.
 pub fn carried(old: &Sector, new: &Sector) -> Sector {
     sum_of(old, &sum_of(&encoded_again(old), &encoded_again(new)))
 }

@@ -2,7 +2,7 @@
 
 use std::io::{self, Write};
 
-/// A writer that takes no bytes.
+/// A writer that accepts no bytes.
 #[derive(Drop)]
 pub struct Full;
 

@@ -1,21 +1,21 @@
-//! Bytes that were written to memory, with those that should have been.
+//! Compares bytes that were written to memory with the expected bytes.
 
-/// What memory holds before something is written to it.
+/// The value of each byte of memory before something is written to it.
 pub const UNTOUCHED: u8 = 238;
 
-/// What stands in memory that was filled with `UNTOUCHED`, with a whole of which it should be a front.
+/// The bytes in memory that was filled with `UNTOUCHED`, compared with the expected bytes: they should be a prefix of these.
 #[derive(Clone, Copy, Debug, PartialEq, Eq)]
 pub struct Written {
-    /// How many bytes were written.
+    /// The number of bytes that were written.
     pub count: usize,
-    /// The first of them that is not that of the whole.
+    /// The index of the first of them that is wrong.
     pub wrong_at: Option<usize>,
     /// Whether nothing was written to the memory after them.
     pub rest_untouched: bool,
 }
 
 impl Written {
-    /// So many bytes, all of them right.
+    /// This number of bytes, all of them correct.
     pub fn right(count: usize) -> Self {
         Written {
             count,
@@ -25,7 +25,7 @@ impl Written {
     }
 }
 
-/// What stands in memory to which a number of bytes were written.
+/// Compares memory to which `count` bytes were written with the expected bytes.
 pub fn written_in(space: &[u8], count: usize, whole: &[u8]) -> Written {
     let front = space.get(..count).unwrap_or(&[]);
     let rest = space.get(count..).unwrap_or(&[]);
@@ -36,7 +36,7 @@ pub fn written_in(space: &[u8], count: usize, whole: &[u8]) -> Written {
     }
 }
 
-/// The first place at which bytes are not those of the whole, or are too many.
+/// The first index at which bytes are not the expected ones, or are too many.
 fn first_wrong(front: &[u8], whole: &[u8]) -> Option<usize> {
     if whole.get(..front.len()) == Some(front) {
         return None;

@@ -1,4 +1,4 @@
-//! The command line: what its arguments ask for, what refuses them, and help.
+//! Tests of the command line: its jobs, its errors, and help.
 
 use super::holds;
 use cd_args::{Job, LineFault, job_of, refusal_line};
@@ -13,7 +13,7 @@ pub fn args_of(alloc: Global, line: &str) -> Result<Vec<String>, AllocError> {
     Ok(args)
 }
 
-/// What a job asks for: its command, its names, the base, and whether damage is carried.
+/// The contents of a job: its command, its names, the base, and whether damage is carried.
 type Asked<'a> = (&'a str, [&'a str; 3], u32, bool);
 
 fn asked(job: &Job) -> Asked<'_> {
@@ -38,7 +38,7 @@ fn asked(job: &Job) -> Asked<'_> {
     }
 }
 
-/// Whether a line asks for this.
+/// Whether a line gives this job.
 fn asks(alloc: Global, line: &str, due: &Asked) -> Result<bool, AllocError> {
     Ok(match &job_of(alloc, args_of(alloc, line)?) {
         Ok(job) => asked(job) == *due,
@@ -46,7 +46,7 @@ fn asks(alloc: Global, line: &str, due: &Asked) -> Result<bool, AllocError> {
     })
 }
 
-/// A line, and what it asks for.
+/// A line, and its job.
 const JOBS: &[(&str, Asked)] = &[
     ("", ("list", ["-", "", ""], 0, false)),
     ("list -- --base", ("list", ["--base", "", ""], 0, false)),
@@ -84,15 +84,19 @@ const PARSER_TEXTS: &[(&str, u8, &str)] = &[
     ("--help", 0, "Usage: cdpatch"),
     ("list --help", 0, "at most 449849"),
     ("audit a -h", 0, "at most 449849"),
-    ("check --help", 0, "With --carry patches on damaged sectors"),
+    (
+        "check --help",
+        0,
+        "With --carry, patches on damaged sectors",
+    ),
     (
         "apply a --help b c",
         0,
-        "With --carry patches on damaged sectors",
+        "With --carry, patches on damaged sectors",
     ),
 ];
 
-/// Whether a fault is the parser's, and has this status and this part of a text.
+/// Whether a fault is the parser's, and has this status, and this part of a text.
 fn is_told(alloc: Global, fault: &LineFault, status: u8, part: &str) -> bool {
     let text = fault.parser_text(alloc);
     matches!(fault, LineFault::Parser(_))
@@ -100,7 +104,7 @@ fn is_told(alloc: Global, fault: &LineFault, status: u8, part: &str) -> bool {
         && refusal_line(text.as_deref()).contains(part)
 }
 
-/// The same of the fault of a line.
+/// The same for the fault of a line.
 fn tells(alloc: Global, line: &str, status: u8, part: &str) -> Result<bool, AllocError> {
     Ok(match &job_of(alloc, args_of(alloc, line)?) {
         Err(fault) => is_told(alloc, fault, status, part),

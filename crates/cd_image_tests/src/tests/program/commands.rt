@@ -1,4 +1,4 @@
-//! The commands on images: a row for each status, and for each line of a fault after what went out.
+//! Tests of the commands on images: a row for each status, and for each line of a fault after the output before it.
 
 use super::holds;
 use super::messages::{
@@ -18,7 +18,7 @@ use std::test::Fail;
 /// All bytes pass.
 pub const ALL: u64 = u64::MAX;
 
-/// A status, and the front of a text that a number of bytes of it make.
+/// Asserts a status, and that the output is the first `passing` bytes of a text.
 pub fn expect_ended(rt: &impl Abort, came: (u8, &[u8]), due: (u8, &str), passing: u64) {
     let text = due.1.as_bytes();
     let count = usize::try_from(passing).unwrap_or(usize::MAX);
@@ -26,7 +26,8 @@ pub fn expect_ended(rt: &impl Abort, came: (u8, &[u8]), due: (u8, &str), passing
     holds(rt, came.0 == due.0 && came.1 == text, due.1);
 }
 
-/// How many bytes `00` an image has, how many of them can be read and how many of a text written; the status, and the text.
+/// The number of bytes `00` of an image, the number of them that can be read, and the number of bytes of a text that can be written; the
+/// status, and the text.
 type Listing = (u64, u64, u64, u8, &'static str);
 
 const LISTINGS: &[Listing] = &[
@@ -57,7 +58,7 @@ fn a_byte_too_many(rt: HostRuntime) {
     expect_listing(&rt, &(2_352_000_001, ALL, ALL, 2, LONG_IMAGE));
 }
 
-/// An image, the number of its first block, and how many of its bytes can be read; the status, and the text.
+/// An image, the number of its first block, and the number of its bytes that can be read; the status, and the text.
 type Audit = (&'static [Sample], u32, u64, u8, &'static str);
 
 const AUDITS: &[Audit] = &[
@@ -118,8 +119,8 @@ fn audits(rt: HostRuntime) -> Result<(), AllocError> {
     Ok(())
 }
 
-/// How many bytes pass from an image of three sectors whose second one is patched, to the output and to the log; the status, and
-/// the lines of which as many go to the log as pass.
+/// The numbers of bytes that pass from an image of three sectors whose second one is patched, to the output and to the log; the status, and
+/// the lines, of which the log gets as many bytes as pass.
 type Patching = (u64, u64, u64, u8, &'static str);
 
 const PATCHINGS: &[Patching] = &[
@@ -141,7 +142,7 @@ const PATCHINGS: &[Patching] = &[
     (ALL, ALL, ALL, 0, APPLIED),
 ];
 
-/// An image of three sectors, a script of one patch, and what it makes of the image.
+/// An image of three sectors, a script of one patch, and the patched image.
 #[derive(Drop)]
 struct Parts {
     image: Vec<u8>,
@@ -157,7 +158,7 @@ fn make_parts(alloc: Global) -> Result<Parts, Fail> {
     })
 }
 
-/// Applies the script. The output is a front of the patched image, of as many bytes as pass if it fails.
+/// Applies the script. The output is a prefix of the patched image: as many bytes as pass, if it fails.
 fn expect_applied(rt: &impl Abort, parts: &Parts, row: &Patching) {
     let (read, sent, logged, status, lines) = *row;
     let (mut space, mut text) = ([0; 7056], [0; 128]);
@@ -193,7 +194,7 @@ fn one_of_the_three_fails(rt: HostRuntime) -> Result<(), Fail> {
     Ok(())
 }
 
-/// The output fails at once, and the log after each number of bytes of the line that says so.
+/// The output fails at once, and the log after each number of bytes of the line that reports this.
 #[test]
 fn the_log_fails_in_the_line_of_a_fault(rt: HostRuntime) -> Result<(), Fail> {
     let parts = make_parts(rt.alloc())?;

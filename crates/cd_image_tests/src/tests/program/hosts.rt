@@ -1,4 +1,4 @@
-//! A host in memory: what it is asked for, in which order, and what is printed if it gives no file or finds no memory.
+//! Tests with a host in memory: the requests to it, their order, and the output if it has no file or finds no memory.
 
 ghost use Rattle.cd_program.specs.Hosting.{any_answers};
 
@@ -14,8 +14,8 @@ use cd_program::{Host, OpenFault, run_args};
 use std::alloc::{AllocError, Global};
 use std::process::Abort;
 
-/// Has an image and a script, makes a file that cannot pass anything on, and writes down what it is asked for. The
-/// question with the number `failing` finds no memory.
+/// A host that has an image and a script, creates a file that cannot pass its bytes on, and records the requests. The request with the
+/// number `failing` finds no memory.
 #[derive(Drop)]
 struct Memory<'a> {
     image: &'a [u8],
@@ -69,7 +69,7 @@ impl<'a> Host for Memory<'a> {
     }
 }
 
-/// Arguments, the number of the question that finds no memory, what is asked, the status, and what is printed.
+/// Arguments, the number of the request that finds no memory, the requests, the status, and the output.
 type Asking = (&'static str, u32, &'static str, u8, &'static str);
 
 const ASKED: &[Asking] = &[
@@ -121,12 +121,12 @@ const ASKED: &[Asking] = &[
     ),
 ];
 
-/// The host is asked for this by a line.
+/// Asserts the requests of a line to the host.
 fn expect_asked(rt: &impl Abort, came: &str, due: &str, line: &str) {
     holds(rt, came == due, line);
 }
 
-/// Gives the arguments of a row to the program, on a host that has this image.
+/// Runs the program with the arguments of a row, on a host that has this image.
 fn expect_row(
     rt: &impl Abort,
     alloc: Global,

@@ -1,4 +1,4 @@
-//! The program's own lines, as its users read them: each stands here once for all tests of this crate.
+//! The program's own lines, as its users read them. Each is here once, for all tests of this crate.
 
 pub const NO_IMAGE: &str = "cdpatch: cannot open the image\n";
 
@@ -14,13 +14,13 @@ pub const READ_FAILED: &str = "cdpatch: reading the image failed\n";
 
 pub const WRITE_FAILED: &str = "cdpatch: writing the output failed\n";
 
-/// What `apply` prints of the patch in line 2 if nothing fails.
+/// The lines that `apply` prints for the patch in line 2 if nothing fails.
 pub const APPLIED: &str = "line 2: applied\napplied 1 refused 0\n";
 
-/// If the image's last read fails after that patch's line.
+/// The same, if the last read of the image fails after the line of the patch.
 pub const APPLIED_READ_FAILED: &str = "line 2: applied\ncdpatch: reading the image failed\n";
 
-/// If the output fails after that patch's line, and after the counts.
+/// The same, if the output fails after the line of the patch, and after the counts.
 pub const APPLIED_WRITE_FAILED: &str = "line 2: applied\ncdpatch: writing the output failed\n";
 
 pub const COUNTED_WRITE_FAILED: &str =

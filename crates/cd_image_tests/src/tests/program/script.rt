@@ -1,4 +1,4 @@
-//! The lines of a script's faults, and how its file is read.
+//! Tests of the lines for errors in scripts, and of reading the file of a script.
 
 use super::commands::ALL;
 use super::holds_at;
@@ -13,7 +13,7 @@ use cd_script::{MAX_BYTES, MAX_PATCHES, MAX_TEXT, ScriptFault};
 use std::alloc::{AllocError, Global};
 use std::process::Abort;
 
-/// The line of a fault, empty for none.
+/// The line for a fault; empty if there is none.
 fn line_of(fault: Option<ScriptFault>) -> Line {
     match fault {
         None => Line::new(),
@@ -21,7 +21,7 @@ fn line_of(fault: Option<ScriptFault>) -> Line {
     }
 }
 
-/// Reads a text as a script: it gives the line of this fault and the status 2, none if it is one.
+/// Asserts that reading a text as a script gives the line for this fault and the status 2, or no line if there is no fault.
 fn expect_line(rt: &impl Abort, alloc: Global, text: &[u8], fault: Option<ScriptFault>) {
     assert!(rt; text.len() <= MAX_TEXT);
     let mut space = [0; 64];
@@ -61,12 +61,12 @@ fn texts_have_their_lines(rt: HostRuntime) {
     }
 }
 
-/// The most digits of bytes, and the most patches.
+/// The largest number of digits of bytes, and the largest number of patches.
 const DIGITS: u32 = 2 * MAX_BYTES as u32;
 
 const PATCHES: u32 = MAX_PATCHES as u32;
 
-/// A text, a number of copies of a part after it, and the fault of both.
+/// A text, a part after it, the number of its copies, and the fault of the result.
 const LONG: &[(&str, &str, u32, Option<ScriptFault>)] = &[
     ("cdpatch 1\nset 0 0 ", "0", DIGITS, None),
     ("cdpatch 1\nset 0 0 ", "0", DIGITS + 1, Some(Hex(2))),
@@ -90,7 +90,7 @@ fn long_texts_have_their_lines(rt: HostRuntime) -> Result<(), AllocError> {
     Ok(())
 }
 
-/// As many of a byte as a text may have have no head line until this one.
+/// Asserts that a text of the largest size, filled with one byte, has no head line until this line.
 fn expect_longest(rt: &impl Abort, alloc: Global, byte: u8, line: u32) -> Result<(), AllocError> {
     let text = vec![in alloc; byte; MAX_TEXT]?;
     expect_line(rt, alloc, &text, Some(Head(line)));
@@ -107,7 +107,7 @@ fn the_most_lines(rt: HostRuntime) -> Result<(), AllocError> {
     expect_longest(&rt, rt.alloc(), b'\n', MAX_TEXT as u32 + 1)
 }
 
-/// A log that passes only a number of bytes: they are the front of the line. The last passes all, and fails to finish.
+/// A log that passes only a number of bytes: they are a prefix of the line. The last log passes all, and fails to finish.
 #[test]
 fn a_log_that_fails(rt: HostRuntime) {
     let line = script_fault_line(Hex(2));
@@ -121,7 +121,7 @@ fn a_log_that_fails(rt: HostRuntime) {
     }
 }
 
-/// By as many bytes a call as there are, and by few.
+/// With any number of bytes per call, and with few.
 #[test]
 fn files_are_read(rt: HostRuntime) {
     const TEXT: &[u8] = b"cdpatch 1\nset 0 0 41\n";
@@ -135,10 +135,10 @@ fn files_are_read(rt: HostRuntime) {
     }
 }
 
-/// How many bytes `00` a file has and how many of them can be read; how many are read, or the status.
+/// The number of bytes `00` of a file, and the number of them that can be read; the number that is read, or the status.
 type File = (u64, u64, Result<usize, u8>);
 
-/// Files, of which each that is not read has the line for that.
+/// Files. For each file that is not read, the line for this is printed.
 const FILES: &[File] = &[
     (0, ALL, Ok(0)),
     (30_000, 0, Err(2)),
@@ -146,7 +146,7 @@ const FILES: &[File] = &[
     (30_000, 30_000, Err(2)),
 ];
 
-/// A file is read, or gives this line.
+/// Asserts that a file is read, or gives this line.
 fn expect_file(rt: &impl Abort, alloc: Global, row: &File, line: &[u8]) {
     let (size, read, due) = *row;
     let mut space = [0; 64];
@@ -192,7 +192,7 @@ fn a_file_that_fails_and_a_full_log(rt: HostRuntime) {
     );
 }
 
-/// The file of a script that gives bytes again after its end is read to that end, which no contract says.
+/// A script file that returns bytes again after its end is read up to this end. No contract says this.
 #[test]
 fn a_file_that_goes_on_after_its_end(rt: HostRuntime) {
     for count in [0, 1, 16_384, 16_385] {

@@ -1,4 +1,4 @@
-//! Listings and audits of readers of std, and to writers of std, that fail.
+//! Listings and audits with readers and writers of std that fail.
 
 use super::holds;
 use super::messages::READ_FAILED;
@@ -7,7 +7,7 @@ use cd_program::{run_audit, run_list};
 use std::io::{self, ErrorKind, Read, Write};
 use std::process::Abort;
 
-/// A writer that takes all, and cannot pass it on, as on a full disk.
+/// A writer that accepts all bytes, and cannot pass them on, as on a full disk.
 #[derive(Drop)]
 pub struct Unflushed;
 
@@ -33,7 +33,7 @@ fn a_failed_flush(rt: HostRuntime) {
     assert!(rt; [listed, audited, unread] == [2, 2, 2]);
 }
 
-/// A reader that has nothing, or fails.
+/// A reader that has no bytes, or fails.
 #[derive(Drop)]
 struct Nothing {
     fails: bool,
@@ -48,7 +48,7 @@ impl Read for Nothing {
     }
 }
 
-/// A listing of such a reader has this status and this text.
+/// Asserts the status and the text of a listing of such a reader.
 fn expect_listed(rt: &impl Abort, fails: bool, status: u8, text: &str) {
     let mut space = [0; 64];
     let mut out = SliceSink::new(&mut space);

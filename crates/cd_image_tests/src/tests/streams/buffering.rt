@@ -1,4 +1,4 @@
-//! A sink that holds bytes back: when they go to the writer below, and what is made again after a failure.
+//! Tests of a sink that buffers bytes: when they are passed to the writer below, and which calls are repeated after a failure.
 
 use super::steps::Step::{self, Flush, Write as Put};
 use super::steps::{Writer, all_answer};
@@ -9,12 +9,12 @@ use std::io::ErrorKind;
 
 const FLUSHED: Step = Flush(Some(()));
 
-/// The space of a sink, its calls, and those of the writer below.
+/// The space of a sink, its calls, and the calls of the writer below.
 #[derive(Clone, Copy)]
 struct Held(usize, &'static [Step], &'static [Step]);
 
-/// One write below for each space that is full; without space, each write at once. More than the space goes past it. Nothing goes
-/// out after a failure by itself.
+/// One write below for each space that is full; without space, each write at once. More bytes than the space are not buffered. After a
+/// failure, nothing is sent without a call.
 const HELD: &[Held] = &[
     Held(
         5,
@@ -66,7 +66,7 @@ const HELD: &[Held] = &[
     ),
 ];
 
-/// A call that the writer is not given is seen at the last flush.
+/// Whether the writer gets these calls. A call that it does not get is noticed at the last flush.
 fn goes_out_so(alloc: Global, row: &Held) -> Result<bool, AllocError> {
     let Held(space, calls, below) = *row;
     let writer = ToWrite::new(Writer {

@@ -1,4 +1,4 @@
-//! The forms over one another, through their bounds, and a caller's slice.
+//! Tests of sources and sinks over one another, through their bounds, and of a caller's slice.
 
 ghost use Rattle.std.specs.Prelude.{◌≡◌, ◌≤◌, ◌++◌, [], ◌∷◌, drop, length};
 
@@ -27,7 +27,7 @@ fn a_source_that_ends(rt: HostRuntime) {
     assert!(rt; fill_buffer(&mut source, &mut into) == Ok(0) && source.failures() == 0);
 }
 
-/// Calls of a sink that passes two bytes a call and five in all.
+/// Calls of a sink that passes two bytes per call, and five in all.
 const SHORT: &[Step] = &[
     Put(b"abcd", Some(2)),
     Put(b"cd", Some(2)),
@@ -37,7 +37,7 @@ const SHORT: &[Step] = &[
     Flush(None),
 ];
 
-/// Calls of a sink over three bytes of memory that passes one byte a call.
+/// Calls of a sink over three bytes of memory that passes one byte per call.
 const FULL: &[Step] = &[
     Put(b"abcd", Some(1)),
     Put(b"bcd", Some(1)),
@@ -60,14 +60,14 @@ fn a_sink_that_is_full(rt: HostRuntime) {
     assert!(rt; all_answer(&mut sink, FULL) && space == *b"abc");
 }
 
-/// Writes two bytes by a sink over a slice: a caller knows all of the slice afterwards.
+/// Writes two bytes by a sink over a slice. The caller knows the whole slice afterwards.
 fn put_two(space: &mut [u8])
     requires { 2 ≤ length space.old }
     ensures { space.new ≡ 1 ∷ 2 ∷ drop 2 space.old }
 {
     let mut sink = SliceSink::new(space);
     let _ = sink.write(&[1, 2]);
-    let _space = sink.space; // so that the contract can name what it holds
+    let _space = sink.space; // so that the contract can refer to its contents
 }
 
 #[test]

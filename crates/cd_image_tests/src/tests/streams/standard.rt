@@ -1,5 +1,5 @@
-//! Readers and writers of std: a read, a write and a `finish` are one call below, and return what that did, by whichever kind of error
-//! it failed. The next call is made all the same.
+//! Tests of readers and writers of std: a read, a write and a `finish` are one call below each, and return its result, whatever the kind of
+//! its error. The next call is made nevertheless.
 
 use super::steps::Step::{self, Flush, Write as Put};
 use super::steps::{Writer, all_answer};
@@ -7,7 +7,7 @@ use crate::tests::holds;
 use cd_stream::{FromRead, Source, SourceFailed, ToWrite};
 use std::io::{self, ErrorKind, Read};
 
-/// Kinds of error of which a program could make something else than a failure: it could call again, or take it for an end.
+/// Kinds of error that a program could distinguish from a failure: it could call again, or treat the error as an end.
 const KINDS: &[ErrorKind] = &[
     ErrorKind::Interrupted,
     ErrorKind::WouldBlock,
@@ -19,7 +19,7 @@ const KINDS: &[ErrorKind] = &[
     ErrorKind::Other,
 ];
 
-/// Gives so many bytes `41` a call, or fails by an error of this kind, and then has no more.
+/// A reader that returns a number of bytes `41` per call, or fails with an error of this kind, and then has no more bytes.
 #[derive(Drop)]
 struct Reader {
     left: &'static [Option<usize>],
@@ -41,7 +41,7 @@ impl Read for Reader {
     }
 }
 
-/// What reads of a number of bytes give; None if they fail.
+/// The results of reads of a number of bytes; `None` if they fail.
 const READS: &[(usize, &[Option<usize>])] = &[
     (1, &[Some(1), None, Some(1)]),
     (3, &[None, Some(3)]),
@@ -52,7 +52,7 @@ const READS: &[(usize, &[Option<usize>])] = &[
     (2352, &[Some(2352), None, Some(2352), Some(100), Some(0)]),
 ];
 
-/// Whether a read to the whole of `into` gives so many bytes.
+/// Whether a read to `into` returns this number of bytes.
 fn gives<S: Source>(source: &mut S, into: &mut [u8], due: Option<usize>) -> bool {
     if into.is_empty() || source.failures() == u32::MAX {
         return false;
@@ -117,7 +117,7 @@ const CALLS: &[&[Step]] = &[
     &[NOT_ABC, Flush(None), ABC, FLUSHED],
 ];
 
-/// Whether each is made just once.
+/// Whether each call is made just once.
 fn are_made_once(kind: ErrorKind, steps: &'static [Step]) -> bool {
     let mut sink = ToWrite::new(Writer { left: steps, kind });
     let so = all_answer(&mut sink, steps);

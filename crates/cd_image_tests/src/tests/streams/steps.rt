@@ -1,17 +1,17 @@
-//! Calls of a sink in a row, each with what it returns, and a writer of std that is given calls in a row.
+//! Sequences of calls of a sink, each with its result, and a writer of std that expects a sequence of calls.
 
 use cd_stream::{Sink, SinkFailed};
 use std::io::{self, ErrorKind, Write};
 
-/// A call of a sink or of a writer: a write of bytes of which so many are taken, or a flush. None if it fails.
+/// A call of a sink or a writer: a write with the number of bytes that are accepted, or a flush; `None` if it fails.
 #[derive(Clone, Copy)]
 pub enum Step {
     Write(&'static [u8], Option<usize>),
     Flush(Option<()>),
 }
 
-/// Whether the call returns so, and leaves the sink finished only if it is a `finish` that succeeds. A write of which nothing is
-/// taken fails.
+/// Whether the call has this result, and leaves the sink finished only if it is a `finish` that succeeds. A write of which no byte is
+/// accepted fails.
 fn answers<S: Sink>(sink: &mut S, step: Step) -> bool {
     if sink.failures() == u32::MAX {
         return false;
@@ -33,7 +33,7 @@ fn fails(step: Step) -> bool {
     matches!(step, Step::Write(_, Some(0) | None) | Step::Flush(None))
 }
 
-/// Whether a sink returns these from the calls, one after the other, and counts one failure for each that fails.
+/// Whether a sink returns these results for the calls, one after the other, and counts one failure for each call that fails.
 pub fn all_answer<S: Sink>(sink: &mut S, steps: &[Step]) -> bool {
     let mut failures = 0u32;
     let mut so = sink.failures() == failures;
@@ -44,7 +44,7 @@ pub fn all_answer<S: Sink>(sink: &mut S, steps: &[Step]) -> bool {
     so
 }
 
-/// A writer that is given these calls, of which some fail by an error of one kind, as any other call does.
+/// A writer that expects these calls. Some of them, and any other call, fail with an error of one kind.
 #[derive(Drop)]
 pub struct Writer {
     pub left: &'static [Step],

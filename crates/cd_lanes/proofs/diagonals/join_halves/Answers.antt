@@ -2,7 +2,7 @@ use Rattle.std.proofs.Common.{inl, ◌∙◌, arith}
 use Rattle.std.proofs.Math.Nat.{zero-add}
 use Rattle.cd_lanes.proofs.diagonals.join_halves.Goals as goal
 
--- the first 20 of 32 lanes stay if others are put after them
+-- the first 20 of 32 lanes do not change if other lanes are written after them
 pub returns : goal.returns
 returns c =
     let plain = simp zero-add at c.put_lanes.ensures.inside in

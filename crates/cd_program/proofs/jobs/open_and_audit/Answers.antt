@@ -6,7 +6,7 @@ use Rattle.cd_report.specs.Report.{ReportSpec}
 use Rattle.cd_stream.specs.Stream.{Incoming, Outgoing}
 use Rattle.cd_program.proofs.jobs.open_and_audit.Goals as goal
 
--- in this form `search` finds what was left of the image, and no name of the code is cited
+-- in this form `search` finds the state of the image afterwards, and no name of the code is cited
 reported : {H I O T : Type 0} {come : I → Incoming} {gone : O → Outgoing} {on : Hosting H I O}
     {host host' : H} {before after : Outgoing} {status : ℕ} {spec : ReportSpec T}
     {status_of : T → ℕ} {name : List ℕ}

@@ -6,7 +6,7 @@ use Rattle.cd_script.specs.declared.fault.ScriptFault.TheVariants as script_faul
 use Rattle.cd_run.specs.Messages.{numbered_line, script_fault_line}
 use Rattle.cd_run.proofs.messages.script_fault_line.Goals as goal
 
--- the line of a fault that is in a line
+-- the line for an error that is in a line of the script
 in_line : (fault : ScriptFault) → (fault ≡ script_fault.NoMemory → ⊥)
     → numbered_line (line_of fault) (fault_text fault) ≡ script_fault_line fault
 unfolding script_fault_line

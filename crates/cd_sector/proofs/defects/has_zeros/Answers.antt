@@ -7,11 +7,11 @@ use Rattle.std.proofs.lemmas.List.{take_all}
 use Rattle.std.proofs.lemmas.Bool.Decides.{nat_tests}
 use Rattle.cd_sector.proofs.defects.has_zeros.Goals as goal
 
--- zero on either side of the comparison
+-- a comparison with zero is the same from either side
 same : (x : ℕ) → nat_eq 0 x ≡ (x == 0)
 same x = grind (arith, nat_tests)
 
--- a list that is compared with zeros, of its own length, is tested for zeros
+-- to compare a list with zeros of its own length is to test it for zeros
 zeros : (n : ℕ) (xs : List ℕ) → length xs ≡ n
     → pointwise nat_eq (replicate n 0) xs ≡ list_all (λ b. b == 0) xs
 zeros zero [] is = refl

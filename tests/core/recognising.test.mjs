@@ -4,14 +4,14 @@ import assert from 'node:assert/strict';
 import { test } from 'node:test';
 import { core, diceOf, encoded } from './common.mjs';
 
-const { TextTeller } = await core('texts/telling.js');
+const { TextRecogniser } = await core('texts/recognising.js');
 const { allScores, tableScores } = await core('texts/scores.js');
 const { cellOf } = await core('texts/codes.js');
-const { keptOf } = await core('texts/told.js');
+const { keptOf } = await core('texts/overlap.js');
 const { encodingOf, tableOf } = await core('encodings/encodings.js');
 const { encodeText } = await core('encodings/encoding.js');
 
-const teller = new TextTeller();
+const recogniser = new TextRecogniser();
 
 /** The properties of an encoding other than its bytes. */
 const SHARED = { end: 0, space: ' ', hasCharacters: true };
@@ -20,7 +20,7 @@ const noise = (size, seed) => {
     return Buffer.from(Uint8Array.from({ length: size }, () => dice(256)));
 };
 const bytesOf = (name, text) => Buffer.from(encodeText(encodingOf(name), text));
-const found = bytes => teller.tell(bytes).map(({ start, end, scores }) => [start, end, scores.encoding.name]);
+const found = bytes => recogniser.recognise(bytes).map(({ start, end, scores }) => [start, end, scores.encoding.name]);
 
 test('a sentence in noise is found in each encoding, at its place', () => {
     for (const name of ['CP932', 'EUC-JP', 'UTF-8', 'UTF-16LE', 'UTF-16BE']) {
@@ -173,7 +173,7 @@ test('bytes are decoded once to be told as a text, and its cell is not read char
     const watched = encoding => ({ ...SHARED, name: encoding.name, text: counted(encoding, 'text'), characterAt: counted(encoding, 'characterAt') });
     const all = allScores().map(scores => ({ ...scores, encoding: watched(scores.encoding) }));
     const text = bytesOf('CP932', '城の地下に宝があるらしい。');
-    const [place, ...others] = new TextTeller(all).tell(Buffer.concat([Buffer.alloc(300, 0x15), text, Buffer.alloc(300, 0x15)]));
+    const [place, ...others] = new TextRecogniser(all).recognise(Buffer.concat([Buffer.alloc(300, 0x15), text, Buffer.alloc(300, 0x15)]));
     assert.deepEqual([place.start, place.end, others, counts], [300, 300 + text.length, [], { text: 1, characterAt: 0 }]);
     assert.equal(cellOf(place.scores.encoding, text, place.text), '城の地下に宝があるらしい。');
     assert.deepEqual(counts, { text: 1, characterAt: 0 });
@@ -213,8 +213,8 @@ test('the characters of a game\'s own table score as they do elsewhere, Latin le
 });
 
 test('of a file in one encoding others are kept only if they are surer', () => {
-    const [cp932, euc] = teller.all;
-    const made = (scores, score) => ({ start: 0, end: 2, score, scores, before: true, after: true, near: false });
+    const [cp932, euc] = recogniser.all;
+    const made = (scores, score) => ({ start: 0, end: 2, score, scores, before: true, after: true, isBeside: false });
     const many = Array.from({ length: 10 }, () => made(cp932, 60));
     assert.equal(keptOf([...many, made(euc, 30)]).length, 10);
     assert.equal(keptOf([...many, made(euc, 36)]).length, 11);
@@ -225,8 +225,8 @@ test('of a file in one encoding others are kept only if they are surer', () => {
 const endedBy = (name, texts, byte) => Buffer.concat(texts.flatMap(text => [bytesOf(name, text), Buffer.of(byte)]));
 
 /** The texts recognised in an encoding, as hexadecimal bytes. */
-const foundIn = (name, bytes) => new TextTeller(allScores().some(it => it.encoding.name === name) ? allScores() : [tableScores(encodingOf(name))])
-    .tell(bytes).map(({ start, end }) => bytes.subarray(start, end).toString('hex'));
+const foundIn = (name, bytes) => new TextRecogniser(allScores().some(it => it.encoding.name === name) ? allScores() : [tableScores(encodingOf(name))])
+    .recognise(bytes).map(({ start, end }) => bytes.subarray(start, end).toString('hex'));
 
 const SENTENCES = {
     'CP932': ['城の地下に宝があるらしい！', '旅の商人からそう聞いた…', '扉を開けますか？', 'ここは港町です。', '「だれもいない。」'],

@@ -13,7 +13,7 @@ const MAIN_SHARE = 0.8;
 
 /**
  * The texts of a file to keep: those in the encoding of most of it, and others only if they are surer.
- * @template {{ score: number, scores: unknown, near: boolean }} T
+ * @template {{ score: number, scores: unknown, isBeside: boolean }} T
  * @param {T[]} texts
  */
 export function keptOf(texts) {
@@ -24,5 +24,5 @@ export function keptOf(texts) {
     const whole = strong.reduce((sum, it) => sum + it.score, 0);
     const [main] = [...shares.keys()].filter(it => (shares.get(it) || 0) >= MAIN_SHARE * whole);
     if (main === undefined) return texts;
-    return texts.filter(it => it.scores === main || (!it.near && it.score >= SURE + FOREIGN));
+    return texts.filter(it => it.scores === main || (!it.isBeside && it.score >= SURE + FOREIGN));
 }

@@ -4,7 +4,7 @@ import { MOST_SCRIPT_BYTES } from '../module/index.js';
 import { LINE_FEED, endsOfLines } from './line_words.js';
 
 /** @typedef {import('./script_writer.js').Script} Script */
-/** @typedef {{ line: number, base: number }} BaseSaid the comment's line, and the base that it names */
+/** @typedef {{ line: number, base: number }} NamedBase the comment's line, and the base that it names */
 
 const BASE_COMMENT = /^# base (\d{1,6})\s*$/;
 const LONGEST_BASE_COMMENT = 21;
@@ -35,19 +35,19 @@ export function scriptForBase({ pieces: [head, ...lines], ...script }, base) {
  * The bases that comments of a text name.
  * @param {Uint8Array} text
  */
-export function basesSaid(text) {
-    /** @type {BaseSaid[]} */
+export function basesNamed(text) {
+    /** @type {NamedBase[]} */
     const found = [];
     let [line, counted] = [1, 0];
     for (let at = text.indexOf(HASH); at >= 0; at = text.indexOf(HASH, at + 1)) {
         if (text[at + 2] !== LETTER_B || at > 0 && text[at - 1] !== LINE_FEED) continue;
         const end = text.indexOf(LINE_FEED, at);
         const comment = text.subarray(at, end < 0 ? text.length : end);
-        const said = comment.length <= LONGEST_BASE_COMMENT && BASE_COMMENT.exec(String.fromCharCode(...comment));
-        if (!said) continue;
+        const match = comment.length <= LONGEST_BASE_COMMENT && BASE_COMMENT.exec(String.fromCharCode(...comment));
+        if (!match) continue;
         line += endsOfLines(text, counted, at);
         counted = at;
-        found.push({ line, base: Number(said[1]) });
+        found.push({ line, base: Number(match[1]) });
     }
     return found;
 }

@@ -1,11 +1,11 @@
 // The context of a job: its arguments, files, output, messages, calls of libcdpatch, and threads.
 
 import { gunzipSync } from 'node:zlib';
-import { joinedBytes, watchedReader } from '../core/bytes.js';
+import { watchedReader } from '../core/bytes.js';
 import { KnownDumps } from '../core/disc/index.js';
 import { Fault, failedBy } from '../core/faults.js';
 import { Calls, SECTOR_SIZE, sectorCount } from '../core/module/index.js';
-import { addToRuns } from '../core/sectors/index.js';
+import { CollectedSurvey } from '../core/tasks/index.js';
 import { ownFault, sentenceOf } from '../sentences/index.js';
 import { visible } from './printed.js';
 import { Output } from './stdout.js';
@@ -33,7 +33,7 @@ export function takeModule(module) {
 }
 
 /** The arguments of a job, and the objects with which it works. */
-export class Run {
+export class Job {
     /**
      * @param {Given} given
      * @param {Streams} streams
@@ -46,7 +46,7 @@ export class Run {
         this.files = files;
         this.messages = messages;
         /** @type {Set<string>} */
-        this.said = new Set();
+        this.saidOnce = new Set();
         this.output = new Output(streams.output, () => messages.hideProgress());
         this.calls = new Calls(compiledModule());
         /** Shows the progress of a task that does not share its work. */
@@ -68,8 +68,8 @@ export class Run {
      * @param {string} line
      */
     sayOnce(line) {
-        if (!this.said.has(line)) this.say(line);
-        this.said.add(line);
+        if (!this.saidOnce.has(line)) this.say(line);
+        this.saidOnce.add(line);
     }
 
     /**
@@ -113,17 +113,11 @@ export class Run {
      * @param {Reader} reader
      * @param {number} base
      * @param {'survey' | 'kinds'} [job] what to find out
-     * @param {number} [shift] the number of blocks by which the addresses of the sectors are later than their blocks
+     * @param {import('../core/sectors/survey.js').SurveyArgs} [args]
      */
-    async survey(reader, base, job = 'survey', shift = 0) {
-        /** @type {Uint8Array[]} */
-        const parts = [];
-        /** @type {import('../core/sectors/survey.js').FilledRun[]} */
-        const filled = [];
-        await this.crew.share(job, [reader], { shift }, { base }, answer => {
-            parts.push(answer.records);
-            if ('filled' in answer) answer.filled.forEach(run => addToRuns(filled, run));
-        });
-        return { block: base, records: joinedBytes(parts), filled };
+    async survey(reader, base, job = 'survey', args = {}) {
+        const collected = new CollectedSurvey(base);
+        await this.crew.share(job, [reader], args, { base }, answer => collected.add(answer));
+        return collected.whole();
     }
 }

@@ -6,7 +6,7 @@ import { ASCII, BAD, KANJI, USUAL_KANJI, codeAt } from './scores.js';
 import { withLengths } from './lengths.js';
 import { withRecords } from './records.js';
 import { joinedTexts, piecesOf } from './runs.js';
-import { SURE } from './told.js';
+import { SURE } from './overlap.js';
 
 /** @typedef {import('./candidates.js').Candidate} Candidate */
 /** @typedef {import('./scores.js').Scores} Scores */
@@ -38,13 +38,13 @@ const KANJI_BESIDE = 8;
 const RARE_BESIDE = -8;
 
 /** Recognises the texts of a stretch, in their order. */
-export class TextTeller extends CandidateFinder {
+export class TextRecogniser extends CandidateFinder {
     /**
      * @param {Uint8Array} bytes
      * @param {number} [shift] how many bytes of the file come before them
      * @param {boolean} [byLines] whether each line is a text
      */
-    tell(bytes, shift = 0, byLines = false) {
+    recognise(bytes, shift = 0, byLines = false) {
         const sure = acceptedOf(bytes, withoutOverlaps(this.find(bytes)));
         const whole = joinedTexts(bytes, withEdges(bytes, withNeighbours(bytes, sure)), shift);
         return withRecords(bytes, withLengths(bytes, whole)).flatMap(it => piecesOf(bytes, it, shift, byLines));
@@ -146,8 +146,8 @@ function acceptedOf(bytes, candidates) {
         const last = new Map();
         for (let i = step > 0 ? 0 : candidates.length - 1; i >= 0 && i < candidates.length; i += step) {
             const { start, end, scores, zeros } = candidates[i];
-            const near = last.get(scores);
-            const distance = near ? Math.max(start - near.end, near.start - end) : Infinity;
+            const isBeside = last.get(scores);
+            const distance = isBeside ? Math.max(start - isBeside.end, isBeside.start - end) : Infinity;
             accepted[i] = accepted[i] || distance <= (zeros > 0 ? REACH : REACH_WITHOUT_ZERO);
             if (accepted[i]) last.set(scores, candidates[i]);
         }
@@ -192,16 +192,16 @@ function textsBeside(bytes, { start, end, scores }, limit, isAfter) {
     /** @type {Candidate[]} */
     const found = [];
     for (let edge = isAfter ? end : start; ;) {
-        let near = edge;
-        while (isFilling(near) && Math.abs(near - edge) <= BETWEEN * unit) near += step;
-        let far = near;
-        while (isIn(far) && !isFilling(far) && Math.abs(far - near) < LONGEST_BESIDE) far += step;
-        const isBound = near !== edge && Math.abs(near - edge) <= BETWEEN * unit && (isFilling(far) || (!isAfter && !isIn(far)));
-        const from = Math.min(near, far);
-        const to = Math.max(near, far);
+        let isBeside = edge;
+        while (isFilling(isBeside) && Math.abs(isBeside - edge) <= BETWEEN * unit) isBeside += step;
+        let far = isBeside;
+        while (isIn(far) && !isFilling(far) && Math.abs(far - isBeside) < LONGEST_BESIDE) far += step;
+        const isBound = isBeside !== edge && Math.abs(isBeside - edge) <= BETWEEN * unit && (isFilling(far) || (!isAfter && !isIn(far)));
+        const from = Math.min(isBeside, far);
+        const to = Math.max(isBeside, far);
         const score = isBound ? bitsOf(scores, bytes, from, to) : -1;
         if (score < (scores.own ? 0 : LEAST_BESIDE)) return found;
-        found.push({ start: from, end: to, from, to, score, scores, zeros: 2, near: true, text: '' });
+        found.push({ start: from, end: to, from, to, score, scores, zeros: 2, isBeside: true, text: '' });
         edge = far;
     }
 }

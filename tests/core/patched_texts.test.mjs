@@ -1,0 +1,62 @@
+// The new texts that a script writes, in an exported list.
+
+import assert from 'node:assert/strict';
+import { test } from 'node:test';
+import { calls, core, decoded, encoded, readerOf } from './common.mjs';
+import { localCrew } from './crews.mjs';
+import { openedDisc } from './opened.mjs';
+
+const { applyInMemory, exportTable, importTable, patchedTexts, validScript } = await core('tasks/index.js');
+const { pieceReader } = await core('piece_reader.js');
+const { encodeText } = await core('encodings/encoding.js');
+const { SEARCHED, encodingOf } = await core('encodings/encodings.js');
+
+const engine = { calls, crew: localCrew() };
+
+const TEXT = 'はじめから';
+/** A disc with this text in block 36, and over the border of two extents. */
+const disc = () => openedDisc(undefined, encodeText(encodingOf('CP932'), TEXT));
+
+/** The pieces of the script of a list. */
+async function scriptOf(opened, list) {
+    const lists = [{ name: 'list', reader: readerOf(encoded(list)) }];
+    const { script, left } = await importTable(engine, opened, { lists, encodings: SEARCHED, isAsked: false, partial: false });
+    assert.deepEqual(left, []);
+    return script.pieces;
+}
+
+/** The list of the texts, with the new texts that a script writes. */
+async function exported(opened, pieces, options) {
+    const { reader, base } = opened.image;
+    const patched = await applyInMemory(engine, { reader, base }, await validScript(calls, pieces));
+    const freshOf = await patchedTexts(opened, pieceReader(reader, patched.pieces), { isWritten: () => true });
+    const texts = [];
+    for await (const { text } of exportTable(engine, opened, { ...options, freshOf })) texts.push(text);
+    return texts.join('');
+}
+
+for (const [name, block, offset, fresh] of [
+    ['shorter, filled up with spaces', 36, 100, 'PRESS'],
+    ['as long', 36, 100, 'PRESS NEXT'],
+    ['over the border of two extents', 31, 2043, 'PRESS NEXT'],
+    ['of one letter', 31, 2043, 'P'],
+]) {
+    test(`an exported list has the new texts of the script, and gives it again: a text ${name}`, async () => {
+        const { opened } = await disc();
+        const pieces = await scriptOf(opened, `block\toffset\ttext\tnew\n${block}\t${offset}\t${TEXT}\t${fresh}\n`);
+        const lines = decoded(Buffer.concat(pieces)).split('\n');
+        for (const form of ['tsv', 'csv', 'po']) {
+            const again = decoded(Buffer.concat(await scriptOf(opened, await exported(opened, pieces, { form })))).split('\n');
+            // An entry of a PO file has all places of a text, so the other one is translated too.
+            assert.deepEqual(again.filter(it => form !== 'po' || lines.includes(it)), lines, form);
+        }
+    });
+}
+
+test('texts that the script does not write have no new text', async () => {
+    const { opened } = await disc();
+    const pieces = await scriptOf(opened, `block\toffset\ttext\tnew\n36\t100\t${TEXT}\tPRESS\n`);
+    const list = await exported(opened, pieces, {});
+    const rows = list.split('\n').slice(1, -1).map(row => row.split('\t'));
+    assert.deepEqual(rows.filter(row => row[7] !== '').map(row => [row[0], row[1], row[7]]), [['36', '100', 'PRESS']]);
+});

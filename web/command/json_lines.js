@@ -1,0 +1,98 @@
+// The output of --json: one JSON object a line. The man page documents the keys, which stay.
+
+import { basename } from 'node:path';
+import { bytesOfLines } from '../core/bytes.js';
+import { SECTOR_KIND } from '../core/module/index.js';
+import { blocksIn, wrongRuns } from '../core/sectors/index.js';
+import { nameOfUntested } from './printed.js';
+
+/** @typedef {import('../core/disc/dat.js').Hashes} Hashes */
+/** @typedef {import('../core/disc/dat.js').KnownDumps} KnownDumps */
+/** @typedef {import('../core/disc/disc.js').DiscTrack} DiscTrack */
+/** @typedef {import('../core/disc/lost.js').KindRun} KindRun */
+/** @typedef {import('../core/sectors/runs.js').Run} BlockRun */
+/** @typedef {import('../core/tasks/repair.js').Repair} Repair */
+/** @typedef {import('../core/tasks/file_summary.js').FileSummary} FileSummary */
+/** @typedef {import('../core/tasks/file_summary.js').FileFound} FileFound */
+
+/** @param {object} object */
+export function jsonLine(object) {
+    return bytesOfLines([JSON.stringify(object)]);
+}
+
+/**
+ * The name, the hashes, and the verdict of a DAT, null without a DAT.
+ * @param {{ name: string, size: number, hashes: Required<Hashes> }} file
+ * @param {KnownDumps | null} known
+ */
+function hashKeys({ name, size, hashes: { crc32, md5, sha1 } }, known) {
+    const found = known && known.find(size, { crc32, md5, sha1 }, basename(name));
+    const verdict = found === null ? 'unknown' : found.isBad ? 'bad' : 'verified';
+    const dat = known === null ? null : { verdict, name: found && found.name, others: found ? found.others : 0 };
+    return { name, bytes: size, crc32, md5, sha1, dat };
+}
+
+/**
+ * The object of a file, for `scan` and `info`. What was not tested is null.
+ * @param {FileSummary} file
+ * @param {KnownDumps | null} known
+ */
+export function fileObject(file, known) {
+    const { changed, kind, sectors, tail, short, tested, addressed, damaged, elsewhere, lost, untested, findings } = file;
+    const isSurveyed = sectors !== null;
+    return {
+        ...hashKeys(file, known), changed: changed || null, kind, sectors: isSurveyed ? Object.fromEntries(sectors) : null, tail, short,
+        damaged: tested > 0 ? damaged : null, wrongAddress: addressed > 0 ? elsewhere : null, lost: isSurveyed ? lost : null,
+        untested: isSurveyed ? untested : null, findings,
+    };
+}
+
+/** @param {BlockRun[]} runs */
+function pairs(runs) {
+    return runs.map(({ first, last }) => [first, last]);
+}
+
+/** @param {KindRun[]} runs */
+function kindTriples(runs) {
+    return runs.map(({ first, last, kind }) => [first, last, nameOfUntested(kind)]);
+}
+
+/**
+ * The object of a file with the places of its findings, for `info`.
+ * @param {FileSummary} file
+ * @param {FileFound['surveys']} surveys
+ * @param {DiscTrack[]} tracks those in the file
+ * @param {KnownDumps | null} known
+ */
+export function infoObject(file, surveys, tracks, known) {
+    const parts = surveys.map(({ number, image: { base }, survey, mode2Found, lost, untested, lack }) => {
+        const { damaged, elsewhere } = wrongRuns(survey, mode2Found);
+        const missing = lack === null ? null : [lack.missing.first, lack.missing.last];
+        return { track: number, base, damaged: pairs(damaged), wrongAddress: pairs(elsewhere), lost: pairs(lost),
+            untested: kindTriples(untested), missing };
+    });
+    const trackOf = (/** @type {DiscTrack} */ { number, type, block, sectors }) => ({ number, type: type || null, block, sectors });
+    return { ...fileObject(file, known), tracks: tracks.map(trackOf), parts };
+}
+
+/**
+ * The object of a merge: of each finding, the number of sectors and their runs.
+ * @param {{ name: string, size: number, hashes: Required<Hashes> }} out
+ * @param {KnownDumps | null} known
+ * @param {Repair} repair
+ * @param {{ name: string }[]} others
+ */
+export function mergeObject(out, known, repair, others) {
+    const { sectors, taken, doubtful, damaged, alike, disputed, different, differing, lost, untested, unlike } = repair;
+    const named = (/** @type {(BlockRun & { other: number })[]} */ runs) =>
+        runs.map(({ first, last, other }) => [first, last, others[other].name]);
+    const audio = (/** @type {KindRun[]} */ runs) => blocksIn(runs.filter(({ kind }) => kind === SECTOR_KIND.NOSYNC));
+    const unequal = differing.flatMap((runs, other) => runs.map(run => ({ ...run, other })));
+    return {
+        ...hashKeys(out, known), sectors, taken: blocksIn(taken), doubtful: blocksIn(doubtful), damaged: blocksIn(damaged),
+        alike: blocksIn(alike), lost: blocksIn(lost), disputed: blocksIn(disputed), different: different.reduce((sum, it) => sum + it, 0),
+        untested: blocksIn(untested), untestedDifferent: blocksIn(unlike), audio: audio(untested), audioDifferent: audio(unlike),
+        blocks: { taken: named(taken), doubtful: named(doubtful), damaged: pairs(damaged), lost: pairs(lost), disputed: pairs(disputed),
+            different: named(unequal), untestedDifferent: kindTriples(unlike) },
+    };
+}

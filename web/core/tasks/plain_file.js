@@ -1,0 +1,76 @@
+// A plain file: its texts are listed, found, and replaced as if its bytes were the user data of an image.
+
+import { readBytes } from '../bytes.js';
+import { newBytes } from '../faults.js';
+import { SECTOR_SIZE, USER_SIZE } from '../module/index.js';
+import { USER_OFFSET } from '../sectors/index.js';
+import { codesLeftOut } from '../texts/index.js';
+import { changesOfList, encodingsOfRows } from './list.js';
+import { rowsOfLists } from './list_rows.js';
+
+/** @typedef {import('../bytes.js').Reader} Reader */
+/** @typedef {import('../disc/disc.js').DiscFile} DiscFile */
+/** @typedef {import('./engine.js').Watch} Watch */
+/** @typedef {import('./list.js').FileChange} FileChange */
+/** @typedef {import('./opened.js').OpenedTrack} OpenedTrack */
+/** @typedef {import('./opened.js').TrackContents} TrackContents */
+/** @typedef {Omit<import('./table.js').ImportOptions, 'isAlso'>} ImportOptions */
+/**
+ * The changes of the file in the order of their places, null if some rows do not fit and all are needed; and what `importTable` reports.
+ * @typedef {{ changes: FileChange[] | null } & Omit<import('./table.js').ImportedTable, 'script' | 'old'>} FileImport
+ */
+
+/**
+ * A reader of raw sectors whose user data are the bytes of a file. All other bytes are 00, also those after the end of the file.
+ * @param {Reader} reader
+ * @returns {Reader}
+ */
+export function sectorsOfFile(reader) {
+    const sectors = Math.ceil(reader.size / USER_SIZE);
+    return {
+        size: sectors * SECTOR_SIZE,
+        async read(at, length) {
+            const first = Math.floor(at / SECTOR_SIZE);
+            const end = Math.min(Math.ceil((at + length) / SECTOR_SIZE), sectors);
+            const from = first * USER_SIZE;
+            const user = await readBytes(reader, from, Math.max(Math.min(end * USER_SIZE, reader.size) - from, 0));
+            const bytes = newBytes(Math.max(end - first, 0) * SECTOR_SIZE);
+            for (let i = 0; i < end - first; i++) {
+                bytes.set(user.subarray(i * USER_SIZE, (i + 1) * USER_SIZE), i * SECTOR_SIZE + USER_OFFSET);
+            }
+            return bytes.subarray(at - first * SECTOR_SIZE).subarray(0, length);
+        },
+    };
+}
+
+/**
+ * Opens a plain file. The tasks that only read user data accept it in place of a track.
+ * @param {DiscFile} file
+ * @returns {Pick<OpenedTrack, 'part' | 'contents'>}
+ */
+export function openPlainFile({ name, reader }) {
+    const { size } = reader;
+    const sectors = Math.ceil(size / USER_SIZE);
+    const part = { name, reader: sectorsOfFile(reader), base: 0, addressed: 0, sectors, tail: 0, order: undefined, fileSize: size };
+    const files = [{ path: name, block: 0, size, fault: null, before: 0, record: { block: 0, offset: 0 } }];
+    /** @type {TrackContents} */
+    const contents = { volume: null, fault: null, files, image: part, part };
+    return { part, contents: async () => contents };
+}
+
+/**
+ * Finds the changes of a plain file that write the new texts of lists. Throws a Fault if they have no row with a new text or cannot
+ * be read, or `cancelled`.
+ * @param {Pick<OpenedTrack, 'contents'>} opened
+ * @param {ImportOptions} options
+ * @param {Watch} [watch] receives the number of rows
+ * @returns {Promise<FileImport>}
+ */
+export async function importIntoFile(opened, { lists, encodings, isAsked, fill = null, partial }, watch = {}) {
+    const { part } = await opened.contents();
+    const encodingsFor = encodingsOfRows(encodings, isAsked);
+    const { rows, fuzzy, glyphs } = await rowsOfLists(lists, undefined, watch.signal);
+    const { changes, left } = await changesOfList(part, rows, encodingsFor, fill, watch);
+    const codes = await codesLeftOut(rows, encodingsFor, watch.signal);
+    return { count: rows.length, changes: partial || left.length === 0 ? changes : null, left, codes, fuzzy, glyphs };
+}

@@ -1,0 +1,148 @@
+// Lists the records of a table of fixed width: one row for each, whether it is likely to be a text or not.
+
+import { fillerOf, fillerSizeAt, sizeBeforeFilling } from '../encodings/index.js';
+import { hexText } from '../hex_digits.js';
+import { readerOfFile, wholeFile } from '../iso/index.js';
+import { ReadAhead } from '../read_ahead.js';
+import { EncodingChooser, cellOf, shownPlace, visible } from '../texts/index.js';
+import { isTurnDue, letOthersIn } from '../turns.js';
+import { exportedPieces } from './table.js';
+
+/** @typedef {import('../encodings/encoding.js').Encoding} Encoding */
+/** @typedef {import('../iso/files.js').FileEntry} FileEntry */
+/** @typedef {import('../texts/all_texts.js').ListedText} ListedText */
+/** @typedef {import('./engine.js').Watch} Watch */
+/** @typedef {import('./opened.js').OpenedTrack} OpenedTrack */
+/** @typedef {import('./table.js').ExportOptions} ExportOptions */
+/**
+ * The records of a file: each begins `every` bytes after the one before it, the first one after `skip` bytes, and its text has up to
+ * `length` bytes. `limit` is how many there are at most.
+ * @typedef {{ every: number, length: number, skip?: number, limit?: number }} Layout
+ */
+/**
+ * The file, and the encoding, or null for the usual one in which the records read best.
+ * @typedef {Layout & { entries: FileEntry[], encoding: Encoding | null } & Pick<ExportOptions, 'form' | 'freshOf'>} RecordOptions
+ */
+/** @typedef {{ at: number, bytes: Uint8Array }} TableRecord where its text begins in the file, and the bytes of the text */
+
+/** How many records are read in all usual encodings. */
+const MOST_RECORDS_COMPARED = 1 << 16;
+
+/** How many rows are formatted at a time. */
+const ROWS_AT_ONCE = 1024;
+
+/**
+ * The table of the records of a file, with a row for each record that is whole. `encoding` is the one in which they are read, and `filler`
+ * has the bytes of the most frequent character after their texts. Throws what the reader throws, and a Fault: `path` or `extents` if the
+ * bytes of the file are not simply those of its blocks, `cancelled`.
+ * @param {Pick<OpenedTrack, 'contents'>} opened
+ * @param {RecordOptions} options
+ * @param {Watch} [watch]
+ */
+export async function exportRecords(opened, { entries, form, freshOf, ...options }, watch = {}) {
+    const { part } = await opened.contents();
+    const file = wholeFile(entries);
+    const { reader, placeOf } = readerOfFile(part, file);
+    const records = () => recordsIn(reader, options, watch);
+    const encoding = options.encoding || await bestEncoding(records());
+    const filler = await usualFiller(encoding, records());
+    const fill = codeOfBytes(filler);
+    const listed = (/** @type {TableRecord} */ { at, bytes }) => {
+        const [place, text] = [shownPlace(part, placeOf(at)), textOf(encoding, bytes)];
+        return { ...place, ...text, room: options.length, encoding: encoding.name, file: `${visible(file.path)}+${at}`, fill };
+    };
+    return { encoding, filler, table: exportedPieces(listedIn(records(), listed), { form, freshOf }, true) };
+}
+
+/**
+ * The text of a record, and its size. An empty record is the code of its first filler, so that it can have a new text.
+ * @param {Encoding} encoding
+ * @param {Uint8Array} bytes
+ */
+function textOf(encoding, bytes) {
+    const size = sizeBeforeFilling(encoding, bytes);
+    if (size > 0) return { bytes: size, text: cellOf(encoding, bytes.subarray(0, size)) };
+    const filler = fillerSizeAt(encoding, bytes, 0, bytes.length);
+    return { bytes: filler, text: codeOfBytes(bytes.subarray(0, filler)) };
+}
+
+/** @param {Uint8Array} bytes */
+function codeOfBytes(bytes) {
+    return `{${hexText(bytes)}}`;
+}
+
+/**
+ * Yields the records of a file. The bytes of each are valid until the next one.
+ * @param {import('../bytes.js').Reader} reader of the file
+ * @param {Layout} layout
+ * @param {Watch} watch
+ * @returns {AsyncGenerator<TableRecord>}
+ */
+async function* recordsIn(reader, { every, length, skip = 0, limit = Infinity }, { signal, progress }) {
+    const ahead = new ReadAhead(reader);
+    const count = Math.min(Math.floor((reader.size - skip - length) / every) + 1, limit);
+    for (let i = 0; i < count; i++) {
+        if (isTurnDue()) await letOthersIn(signal);
+        if (progress && i % ROWS_AT_ONCE === 0) progress(i, count);
+        const at = skip + i * every;
+        yield { at, bytes: await ahead.bytesAt(at, length) };
+    }
+}
+
+/**
+ * The usual encoding in which the first records read best.
+ * @param {AsyncIterable<TableRecord>} records
+ */
+async function bestEncoding(records) {
+    const chooser = new EncodingChooser();
+    let count = 0;
+    for await (const { bytes } of records) {
+        chooser.add(bytes);
+        count += 1;
+        if (count === MOST_RECORDS_COMPARED) break;
+    }
+    return chooser.best();
+}
+
+/**
+ * The most frequent filler directly after the texts of records; that of empty records if no text has any; 00 if these have none either.
+ * @param {Encoding} encoding
+ * @param {AsyncIterable<TableRecord>} records
+ */
+async function usualFiller(encoding, records) {
+    /** @type {Map<string, { bytes: Uint8Array, texts: number, empty: number }>} by digits */
+    const fillers = new Map();
+    for await (const { bytes } of records) {
+        const from = sizeBeforeFilling(encoding, bytes);
+        const filler = bytes.slice(from, from + fillerSizeAt(encoding, bytes, from, bytes.length));
+        const known = fillers.get(hexText(filler)) || { bytes: filler, texts: 0, empty: 0 };
+        if (filler.length > 0) fillers.set(hexText(filler), known);
+        known[from > 0 ? 'texts' : 'empty'] += 1;
+    }
+    const [first] = [...fillers.values()].sort((a, b) => b.texts - a.texts || b.empty - a.empty);
+    return first ? first.bytes : fillerIfNone(encoding);
+}
+
+/**
+ * The filler of a table whose records have none: 00 with the bytes of a character, or the space if 00 is a visible character.
+ * @param {Encoding} encoding
+ */
+function fillerIfNone(encoding) {
+    const size = fillerSizeAt(encoding, new Uint8Array(2), 0, 2);
+    return fillerOf(encoding, size > 0 ? new Uint8Array(size) : null) || Uint8Array.of(0);
+}
+
+/**
+ * Yields records as listed texts.
+ * @param {AsyncIterable<TableRecord>} records
+ * @param {(record: TableRecord) => ListedText} listed
+ */
+async function* listedIn(records, listed) {
+    let some = [];
+    for await (const record of records) {
+        if (some.push(listed(record)) < ROWS_AT_ONCE) continue;
+        yield some;
+        some = [];
+    }
+    yield some;
+}

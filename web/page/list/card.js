@@ -1,0 +1,206 @@
+// The card with the list of several files: what was found in each, in the columns of `cdscript scan`.
+
+import { bytesOfLines } from '../../core/bytes.js';
+import { KnownDumps } from '../../core/disc/index.js';
+import { COLUMN, NOT_TESTED, NO_IMAGE, listedColumns } from '../../core/tasks/index.js';
+import { sentenceOf } from '../../sentences/index.js';
+import { dumpWords } from '../disc/index.js';
+import { downloadBytes } from '../save/index.js';
+import * as texts from '../texts/index.js';
+import { format, playerTexts, remarkText } from '../texts/index.js';
+import { announce, button, byId, capital, copyButton, countsRow, element, endMessages, fill, focusAgain, hashParts } from '../ui/index.js';
+import { isCancelled, jobBar, nameOf, noteLongJob, notice, oneTabStop, sentence } from '../ui/index.js';
+import { examineFiles } from './examine.js';
+
+/** @typedef {import('../app/state.js').App} App */
+/** @typedef {import('./examine.js').Examined} Examined */
+
+/** The name of the file in which a list is saved. */
+const SAVED_AS = 'list.tsv';
+
+/** The columns with numbers, and their labels. */
+const NUMBERS = [
+    { column: COLUMN.DAMAGED, label: texts.discIsDamaged },
+    { column: COLUMN.FINDINGS, label: texts.listFindings },
+    { column: COLUMN.ELSEWHERE, label: texts.otherAddress },
+];
+
+/** The list of files, which is shown with the panel Disc until it is closed. */
+class FileList {
+    /** @param {App} app */
+    constructor(app) {
+        this.app = app;
+        /** @type {Examined[]} */
+        this.found = [];
+        this.running = new AbortController();
+        this.part = byId('list');
+        this.job = element('div', { class: 'stack' });
+        this.counts = element('div');
+        this.rows = element('tbody');
+        const head = element('tr', {}, element('th', {}, texts.textColumnFile), element('th', {}, capital(texts.discSectorsLabel)),
+            ...NUMBERS.map(({ label }) => element('th', { class: 'n' }, capital(label))), element('th', {}, 'SHA-1'),
+            element('th', {}, 'DAT'));
+        const table = element('div', { class: 'scroll fit' }, element('table', {}, element('thead', {}, head), this.rows));
+        oneTabStop(table, 'tbody button');
+        fill(this.part, element('header', {}, element('h2', {}, texts.listTitle),
+            copyButton('slim bare', () => this.text(), texts.textCopyAsTable), button('slim', () => this.save(), texts.listSave),
+            button('slim bare', () => this.close(), playerTexts.close)),
+        element('div', { class: 'pad stack' }, this.job, this.counts), table);
+        app.on('dumps', () => this.draw());
+        app.on('panel', () => this.show());
+    }
+
+    show() {
+        this.part.hidden = this.found.length === 0 && this.job.childElementCount === 0 || this.app.panel !== 'disc';
+    }
+
+    /** The lists of known dumps in one, null if there is none. */
+    known() {
+        const { dumps } = this.app;
+        if (dumps.length < 2) return dumps[0] || null;
+        const all = new KnownDumps();
+        dumps.forEach(it => all.addAll(it));
+        return all;
+    }
+
+    /**
+     * The columns of a file. Hashes that no list of known dumps needs are left out.
+     * @param {import('../../core/tasks/file_summary.js').FileSummary} file
+     * @param {KnownDumps | null} known
+     */
+    columns(file, known) {
+        const { sha1, crc32, md5 } = file.hashes;
+        const needs = known ? known.needs : { crc32: false, md5: false };
+        const hashes = { sha1, crc32: needs.crc32 ? crc32 : '', md5: needs.md5 ? md5 : '' };
+        return listedColumns({ ...file, hashes }, known, file.name, sentenceOf);
+    }
+
+    /** The lines as `cdscript scan` prints them. */
+    bytes() {
+        const known = this.known();
+        return bytesOfLines(this.found.flatMap(({ summary }) => summary ? this.columns(summary, known).join('\t') : []));
+    }
+
+    text() {
+        return new TextDecoder().decode(this.bytes());
+    }
+
+    save() {
+        downloadBytes([this.bytes()], SAVED_AS);
+    }
+
+    close() {
+        this.running.abort();
+        this.found = [];
+        fill(this.job);
+        noteLongJob(texts.listExamining, null);
+        this.show();
+        focusAgain(null);
+    }
+
+    /**
+     * Examines files, and lists them in place of earlier ones.
+     * @param {File[]} files
+     */
+    async examine(files) {
+        this.running.abort();
+        const running = new AbortController();
+        const { signal } = running;
+        [this.running, this.found] = [running, []];
+        const all = files.reduce((sum, { size }) => sum + size, 0);
+        const ended = (/** @type {Node | null} */ words) => {
+            if (this.running !== running) return;
+            fill(this.job, words);
+            noteLongJob(texts.listExamining, null);
+        };
+        const cancel = () => {
+            running.abort();
+            ended(notice('plain', texts.discJobCancelled, format(texts.listExamined, { done: this.done(), n: files.length })));
+        };
+        const bar = jobBar(texts.listExamining, cancel, { isNoted: true });
+        fill(this.job, ...bar.parts);
+        this.draw();
+        this.app.showPanel('disc');
+        this.part.scrollIntoView({ block: 'nearest' });
+        try {
+            const needsMd5 = this.known()?.needs.md5 === true;
+            const watch = { signal, progress: (/** @type {number} */ done) => bar.at(done, all), take: (/** @type {Examined} */ it) =>
+                this.add(it, signal) };
+            await examineFiles(this.app, files, needsMd5, watch);
+            ended(null);
+            announce(format(texts.listExamined, { done: this.done(), n: files.length }));
+        } catch (error) {
+            if (!isCancelled(error)) ended(notice('bad', sentence(error)));
+        }
+    }
+
+    /** How many files were examined. */
+    done() {
+        return new Set(this.found.map(({ name }) => name)).size;
+    }
+
+    /**
+     * @param {Examined} examined
+     * @param {AbortSignal} signal of its examination
+     */
+    add(examined, signal) {
+        if (signal.aborted) return;
+        this.found.push(examined);
+        this.rows.append(this.row(examined));
+        this.drawCounts();
+    }
+
+    draw() {
+        fill(this.rows, ...this.found.map(it => this.row(it)));
+        this.drawCounts();
+        this.show();
+    }
+
+    drawCounts() {
+        const counts = { sound: 0, wrong: 0, untested: 0, other: 0, fault: 0 };
+        for (const { summary } of this.found) counts[summary ? resultOf(this.columns(summary, null)) : 'fault'] += 1;
+        /** @type {[number, string, string][]} */
+        const shown = [[counts.sound, texts.listWithout, 'good-ink'], [counts.wrong, texts.listWith, 'bad-ink'],
+            [counts.untested, texts.listUntested, ''], [counts.other, format(texts.listOther, { n: counts.other }), ''],
+            [counts.fault, texts.listNotRead, 'bad-ink']];
+        fill(this.counts, countsRow(shown.filter(([count]) => count > 0)));
+    }
+
+    /** @param {Examined} examined */
+    row({ name, files, summary, fault }) {
+        const open = element('button', { type: 'button', class: 'plain-link', title: texts.listOpenIt, click: () => this.app.open(files) },
+            nameOf(name));
+        if (summary === null) {
+            return element('tr', {}, element('td', {}, nameOf(name)), element('td', { class: 'wide bad-ink', colspan: 6 }, fault));
+        }
+        const { kind, size, hashes } = summary;
+        const columns = this.columns(summary, null);
+        const kinds = columns[COLUMN.KINDS];
+        const what = kind === 'image' ? [element('td', {}, open), element('td', { class: 'report' }, kinds.replace(/,/g, ', '))]
+            : [element('td', {}, nameOf(name)), element('td', {}, remarkText({ code: 'kind/what', facts: { kind } }))];
+        return element('tr', {}, ...what,
+            ...NUMBERS.map(({ column, label }) => element('td', { class: `n ${Number(columns[column]) > 0 ? 'bad-ink' : ''}`.trim(),
+                'data-l': label }, columns[column])),
+            element('td', { class: 'mono small wide' }, ...hashParts(hashes.sha1)),
+            element('td', {}, dumpWords(this.app, { name, reader: { size }, ...hashes })));
+    }
+}
+
+/**
+ * What the columns of a file say of it. What was not tested is not sound.
+ * @param {string[]} columns
+ */
+function resultOf(columns) {
+    if (columns[COLUMN.KINDS].startsWith(NO_IMAGE)) return 'other';
+    if (columns[COLUMN.FINDINGS] === NOT_TESTED) return 'untested';
+    return columns[COLUMN.FINDINGS] === '0' ? 'sound' : 'wrong';
+}
+
+/** @param {App} app */
+export function mountList(app) {
+    const list = new FileList(app);
+    app.serve({ list: files => {
+        endMessages();
+        void list.examine(files);
+    } });
+}

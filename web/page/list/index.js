@@ -1,0 +1,3 @@
+// The list of several files.
+
+export { mountList } from './card.js';

@@ -1,0 +1,80 @@
+// Keeps the title, author, and note of a patcher as comments of its script, and reads them from there.
+
+import { linesOfText } from '../../core/script/index.js';
+import * as texts from '../texts/index.js';
+import { button, element, messageArea, notice, showMessageAt } from '../ui/index.js';
+
+/** @typedef {import('../app/state.js').App} App */
+/** @typedef {{ title: string, author: string, note: string }} Entries */
+
+const KEPT = /^# patcher (title|by|note):(?: (.*))?$/;
+
+/**
+ * The entries that comments of a script keep, each '' if there is none.
+ * @param {string} text
+ * @returns {Entries}
+ */
+export function keptEntries(text) {
+    /** @type {Record<string, string[]>} */
+    const found = { title: [], by: [], note: [] };
+    for (const line of text.includes('# patcher ') ? linesOfText(text) : []) {
+        const [, name = '', value = ''] = KEPT.exec(line) || [];
+        if (name !== '') found[name].push(value);
+    }
+    return { title: found.title.join(' '), author: found.by.join(' '), note: found.note.join('\n') };
+}
+
+/**
+ * The text of a script with comments that keep the entries, in place of earlier ones. They are after its head line.
+ * @param {Pick<import('../app/script_lines.js').ScriptLines, 'text' | 'head'>} script
+ * @param {Entries} entries
+ */
+export function withEntries(script, { title, author, note }) {
+    const lines = linesOfText(script.text());
+    const [before, after] = [lines.slice(0, script.head + 1), lines.slice(script.head + 1)].map(some => some.filter(it => !KEPT.test(it)));
+    const comments = [['title', title], ['by', author], ['note', note]].flatMap(([name, value]) =>
+        value === '' ? [] : linesOfText(value).map(line => `# patcher ${name}: ${line}`.trimEnd()));
+    return [...before, ...comments, ...after].join('\n');
+}
+
+/** The fields of these entries, and the button that keeps them. */
+export class KeptEntries {
+    /**
+     * @param {App} app
+     * @param {(HTMLInputElement | HTMLTextAreaElement)[]} fields of the title, the author, and the note
+     * @param {() => void} kept is called when the script has the entries
+     */
+    constructor(app, fields, kept) {
+        this.app = app;
+        this.fields = fields;
+        this.kept = kept;
+        /** The entries that the script has given. */
+        this.given = '';
+        this.message = messageArea();
+        this.parts = [element('div', { class: 'row' }, button('slim', () => this.keep(), texts.publishKeepInScript)), this.message];
+        app.on('script', change => change && this.restore());
+    }
+
+    /** @returns {Entries} */
+    entries() {
+        const [title, author, note] = this.fields.map(({ value }) => value);
+        return { title: title.trim(), author: author.trim(), note };
+    }
+
+    keep() {
+        const entries = this.entries();
+        this.app.changeScript(script => script.take(withEntries(script, entries), script.name));
+        this.given = JSON.stringify(entries);
+        this.kept();
+        showMessageAt(this.message, notice('good', texts.publishKeptInScript));
+    }
+
+    /** Fills in the entries that the script keeps, unless the form has others. */
+    restore() {
+        const has = this.entries();
+        if (JSON.stringify(has) !== this.given && Object.values(has).some(it => it !== '')) return;
+        const { title, author, note } = keptEntries(this.app.script.text());
+        [title, author, note].forEach((value, i) => { this.fields[i].value = value; });
+        this.given = JSON.stringify(this.entries());
+    }
+}
