@@ -230,6 +230,7 @@ class Kept(PageTest):
         self.browser.wait('#panel-script .progress')
         self.browser.run('held = 0')
         self.open_script(files['other'])
+        self.browser.wait('#panel-script header h2', 'other.txt')
         self.browser.wait('#panel-script .progress')
         self.assertEqual(self.browser.run('return document.querySelectorAll("#messages .progress").length'), 0)
         self.browser.run('openGate()')
