@@ -123,10 +123,9 @@ class Chromium:
     """One browser window. `downloads` is the directory where it saves files."""
 
     def __init__(self, width: int = 1280, height: int = 900) -> None:
-        self.downloads, profile = folder('downloads'), folder('chromium')
+        profile = folder('chromium')
         (profile / 'Default').mkdir()
-        places = {'download': {'default_directory': str(self.downloads), 'prompt_for_download': False}}
-        (profile / 'Default/Preferences').write_text(json.dumps({**PREFERENCES, **places}))
+        (profile / 'Default/Preferences').write_text(json.dumps(PREFERENCES))
         (profile / 'Local State').write_text(json.dumps(LOCAL_STATE))
         self.noted: list[tuple[str, str]] = []
         self.devtools = DevTools(['/usr/bin/chromium', *FLAGS, f'--user-data-dir={profile}', 'about:blank'], self.heard)
@@ -135,6 +134,7 @@ class Chromium:
         for domain in ('Page', 'Network', 'Log', 'Runtime'):
             self.cdp(f'{domain}.enable')
         self.cdp('Page.addScriptToEvaluateOnNewDocument', source=TRAP)
+        self.empty_downloads()
         self.emulated: dict[str, dict[str, Any]] = {}
         self.size(width, height)
         self.url = ''
@@ -142,6 +142,11 @@ class Chromium:
 
     def quit(self) -> None:
         self.devtools.end()
+
+    def empty_downloads(self) -> None:
+        """Saves files in a new directory from now on. A download that the previous page began still goes to the previous one."""
+        self.downloads = folder('downloads')
+        self.cdp('Browser.setDownloadBehavior', behavior='allow', downloadPath=str(self.downloads))
 
     def heard(self, event: str, given: dict[str, Any]) -> None:
         """Records an event if the page reaches for something or reports an error. Confirms each question whether to leave the page."""
@@ -421,6 +426,5 @@ def shared(before_pages: str = '') -> Chromium:
     browser = window()
     browser.before_pages(before_pages)
     browser.noted.clear()
-    for path in browser.downloads.iterdir():
-        path.unlink()
+    browser.empty_downloads()
     return browser

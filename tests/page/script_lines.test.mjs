@@ -142,12 +142,13 @@ test('a script is in no file from its first edit until it is saved, and again af
 });
 
 test('outcomes stand at their lines as what fits and what does not, until an edit', () => {
-    const lines = linesOf('cdpatch 1\nrebuild 1\n# note\nset 4713 608 41 was 42');
-    lines.setOutcomes([{ number: 2, result: 0, block: 1, offset: 0 }, { number: 4, result: 5, block: 4713, offset: 608 }]);
-    assert.deepEqual(words(lines), ['', 'matches', '', 'refused: old bytes differ at block 4713 offset 608']);
+    const lines = linesOf('cdpatch 1\nrebuild 1\n# note\nset 4713 608 41 was 42\nset 7 8 41 was 42');
+    lines.setOutcomes([{ number: 2, result: 0, block: 1, offset: 0 }, { number: 5, result: 0, block: 7, offset: 8 },
+        { number: 4, result: 5, block: 4713, offset: 608 }]);
+    assert.deepEqual(words(lines), ['', 'not compared', '', 'refused: old bytes differ at block 4713 offset 608', 'matches']);
     assert.deepEqual([lines.nextWrong(0, 1), lines.nextWrong(3, 1), lines.nextWrong(0, -1)], [3, 3, 3]);
     lines.edit(1, 1, ['rebuild 2']);
-    assert.deepEqual(words(lines), ['', '', '', '']);
+    assert.deepEqual(words(lines), ['', '', '', '', '']);
     assert.equal(lines.nextWrong(0, 1), -1);
 });
 

@@ -10,7 +10,7 @@ from sector import SYNC
 from states import another
 
 SAID = '#panel-script .say'
-ALL_FIT = 'english.txt: 6 patches, which all match game.bin.'
+ALL_FIT = 'english.txt: 4 of 6 patches match game.bin, 2 name no old bytes.'
 
 
 # The labels of the main buttons beside the editor.
@@ -42,7 +42,7 @@ class Next(PageTest):
         self.browser.wait(f'{SAID}.good', ALL_FIT)
         self.browser.click('#tab-disc')
         self.browser.drop('#main', [files['refused']])
-        self.browser.wait(f'{SAID}.warn', 'refused.txt: 6 of 8 patches match game.bin, 2 do not.')
+        self.browser.wait(f'{SAID}.warn', 'refused.txt: 4 of 8 patches match game.bin, 2 do not.')
 
     def test_a_script_that_is_opened_is_read_drawn_and_checked_in_turns_of_their_own(self) -> None:
         files = self.files()
@@ -84,7 +84,7 @@ class Next(PageTest):
     def test_how_many_changes_fit_is_said(self) -> None:
         files = {**self.files(), **discs.written(one='cdpatch 1\nrebuild 1\n', none='cdpatch 1\nset 9999 0 41\n')}
         self.open_image(files['scratched'])
-        for name, said in (('refused', 'refused.txt: 5 of 8 patches match scratched.bin, 3 do not.'), ('one', 'Nothing shows whether the patch of one.txt fits scratched.bin.'),
+        for name, said in (('refused', 'refused.txt: 3 of 8 patches match scratched.bin, 3 do not.'), ('one', 'Nothing shows whether the patch of one.txt fits scratched.bin.'),
                            ('none', 'none.txt: 1 patch, which does not match scratched.bin.')):
             self.open_files(files[name])
             self.browser.wait(SAID, said)
@@ -108,7 +108,7 @@ class Next(PageTest):
         self.open_script(files['some'])
         self.browser.wait(f'{SAID}.warn', '1 of 4 places holds other bytes. 1 of 4 places is damaged. Repair the image first')
         self.browser.wait(f'{SAID}.warn', 'A new image can be saved without those patches.')
-        self.browser.wait(f'{SAID}.warn .btn', 'Save with the 2 patches that fit…')
+        self.browser.wait(f'{SAID}.warn .btn', 'Save with the other 2 patches…')
 
     def test_a_script_of_which_nothing_shows_that_it_fits_is_not_presented_as_one_that_does(self) -> None:
         files = discs.written(other=another(), game=discs.game(), english=discs.script(), refused=discs.refused(),
@@ -116,7 +116,7 @@ class Next(PageTest):
         cases = [('other', 'english', 'bad', 'None of the 4 patches of english.txt that name old bytes fits other.bin.', 'Save with the other 2 patches…', 'Go to line 4'),
                  ('other', 'unnamed', 'warn', 'Nothing shows whether the 2 patches of unnamed.txt fit other.bin.', 'Apply and save…', 'Check again'),
                  ('other', 'few', 'warn', 'Nothing shows whether the 2 patches of few.txt fit other.bin.', 'Save with the other patch…', 'Go to line 3'),
-                 ('game', 'refused', 'warn', 'refused.txt: 6 of 8 patches match game.bin, 2 do not.', 'Save with the 6 patches that fit…', 'Go to line 11')]
+                 ('game', 'refused', 'warn', 'refused.txt: 4 of 8 patches match game.bin, 2 do not.', 'Save with the other 6 patches…', 'Go to line 11')]
         for image, script, tone, words, save, focused in cases:
             with self.subTest(script):
                 self.setUp()
@@ -198,7 +198,7 @@ class Next(PageTest):
         self.open_image(files['game'])
         self.browser.run(f'{GATE} held = 0')
         self.open_script(files['refused'])
-        self.browser.wait(SAID, 'refused.txt: 6 of 8 patches match game.bin')
+        self.browser.wait(SAID, 'refused.txt: 4 of 8 patches match game.bin')
         self.browser.run('Object.assign(globalThis, { reads: 0, held: Infinity, least: 0 })')
         self.press('Check again')
         self.browser.wait('#panel-script .side .progress')

@@ -42,7 +42,7 @@ class Publish(PageTest):
         self.wait_for_hash()
         self.open_script(paths['english'])
         self.browser.click('#tab-publish')
-        self.browser.wait('#panel-publish', 'english.txt: 6 patches, which all match game.bin.')
+        self.browser.wait('#panel-publish', 'english.txt: 4 of 6 patches match game.bin, 2 name no old bytes.')
         self.browser.type('#patcher-title', HOSTILE)
 
     def test_a_patcher_is_the_page_byte_for_byte_and_data_after_it(self) -> None:
@@ -116,7 +116,7 @@ class Publish(PageTest):
         comments = ['title: Starlit', 'by: Team Comet, é', 'note: All menus.', 'note:', 'note:   Chapter 1: 星空']
         self.assertEqual(kept, head + ''.join(f'# patcher {it}\n' for it in comments) + ''.join(lines))
         self.press('Check')
-        self.browser.wait('#panel-script .verdict', '6 patches, which all match')
+        self.browser.wait('#panel-script .verdict', '4 of 6 patches match')
         self.setUp()
         self.open_image(paths['game'])
         paths['english'].write_text(kept)
@@ -196,7 +196,7 @@ class Publish(PageTest):
     def test_it_is_refused_while_a_patch_is_refused(self) -> None:
         self.open_both(discs.game(), discs.refused())
         self.browser.click('#tab-publish')
-        self.browser.wait('#panel-publish', 'english.txt: 6 of 8 patches match game.bin, 2 do not.')
+        self.browser.wait('#panel-publish', 'english.txt: 4 of 8 patches match game.bin, 2 do not.')
         self.browser.type('#patcher-title', 'Title')
         self.assertTrue(self.is_off('Save as a patcher') and self.is_off('Preview as a player'))
         self.press('Go to line 11')
@@ -259,7 +259,7 @@ class Player(PageTest):
         self.press('Details')
         self.browser.wait('.hashes', f'refused: old bytes differ at block {block} offset 0')
         self.assertEqual(list(self.browser.downloads.iterdir()), [])
-        self.press('Save with the 5 patches that fit')
+        self.press('Save with the other 5 patches')
         files = discs.written(other=other, english=discs.script())
         self.assertEqual(self.browser.downloaded('Starlit (English).bin').read_bytes(), applied(files['other'], files['english'])[2])
 

@@ -32,10 +32,15 @@ class Script(PageTest):
         _, text = common.run_program('check', files['game'], files['english'])
         self.assertEqual(self.browser.run('return document.querySelector("pre.log").textContent'), text)
         self.assertNotIn('status', self.browser.text('#panel-script .side'))
-        said = {line.split(': ', 1)[0]: line.split(': ', 1)[1].replace('applied', 'matches') for line in text.split('\n')[:-2]}
+        lines = files['english'].read_text().splitlines()
+        said = {}
+        for line in text.split('\n')[:-2]:
+            where, outcome = line.split(': ', 1)
+            is_compared = ' was ' in lines[int(where.split()[1]) - 1]
+            said[where] = outcome.replace('applied', 'matches' if is_compared else 'not compared')
         shown = {f"line {row.split('|')[0]}": row.split('|')[2] for row in self.rows() if row.split('|')[2]}
         self.assertEqual(shown, said)
-        self.assertIn('english.txt: 5 of 8 patches match game.bin, 3 do not.', self.browser.text('#panel-script .side'))
+        self.assertIn('english.txt: 3 of 8 patches match game.bin, 3 do not.', self.browser.text('#panel-script .side'))
 
     def texts(self) -> list[str]:
         """The texts that the drawn lines of the editor set."""
@@ -61,9 +66,9 @@ class Script(PageTest):
     def test_a_line_fits_or_does_not_before_it_is_saved(self) -> None:
         self.open_both(discs.game(), discs.refused())
         self.press('Check')
-        self.browser.wait('#panel-script .verdict', '6 of 8 patches match game.bin, 2 do not.')
+        self.browser.wait('#panel-script .verdict', '4 of 8 patches match game.bin, 2 do not.')
         words = [row.split('|')[2] for row in self.rows() if row.split('|')[2]]
-        self.assertEqual([it.split(':')[0] for it in words], ['matches'] * 6 + ['refused'] * 2)
+        self.assertEqual([it.split(':')[0] for it in words], ['matches'] * 4 + ['not compared'] * 2 + ['refused'] * 2)
         shown = self.browser.text('#panel-script .two')
         for word in ('applied', 'status'):
             self.assertNotIn(word, shown)

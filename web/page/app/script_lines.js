@@ -2,7 +2,7 @@
 
 import { RESULT, isFault } from '../../core/module/index.js';
 import { ScriptModel, afterColon, baseComment, countOld, headLine, linesOfText, oldBytesOf, wordsOn } from '../../core/script/index.js';
-import { format, lineDoesNotFit, lineFits } from '../texts/index.js';
+import { format, lineDoesNotFit, lineFits, lineNotCompared } from '../texts/index.js';
 import { MOST_LINES, MOST_SHOWN, isLong } from './script_long.js';
 
 /** @typedef {import('../../core/module/calls.js').Calls} Calls */
@@ -256,6 +256,15 @@ export class ScriptLines extends ScriptModel {
     }
 
     /**
+     * Whether the patch of a line names old bytes, and the image has them there.
+     * @param {number} i
+     */
+    isMatched(i) {
+        const [{ patch }, outcome] = [this.lines[i], this.outcomes.get(i + 1)];
+        return outcome !== undefined && outcome.result === RESULT.OK && patch !== null && patch.old !== null;
+    }
+
+    /**
      * The message for a line, in the program's words: its fault, or whether its patch matches; '' if there is neither.
      * @param {number} i
      */
@@ -266,7 +275,8 @@ export class ScriptLines extends ScriptModel {
             this.faultWords.set(content, words);
             return words;
         }
-        if (!outcome || outcome.result === RESULT.OK) return outcome ? lineFits : '';
+        if (!outcome) return '';
+        if (outcome.result === RESULT.OK) return this.isMatched(i) ? lineFits : lineNotCompared;
         const words = wordsOn(this.calls.outcomeLine(number, outcome.result, outcome.block, outcome.offset), number);
         return format(lineDoesNotFit, { why: afterColon(words) });
     }

@@ -181,7 +181,7 @@ export class Player {
         const box = element('div', { class: 'say bad' }, verdictWords(verdict, 'verdict').words, ...why,
             element('div', { class: 'row' }, button('main', () => this.input.click(), texts.playerChooseAnotherImage)));
         const fitting = patches - refused.length;
-        const some = button('slim bare', () => this.patch(image, judged, first), format(texts.playerSaveWithFitting, { n: fitting }));
+        const some = button('slim bare', () => this.patch(image, judged, first), format(texts.playerSaveWithOthers, { n: fitting }));
         const details = detailsOf(this.data.image, image.reader.size, judged);
         if (fitting > 0) details.append(element('p', { class: 'small' }, some, ' ', texts.playerGameMayStop));
         this.show(step('1', 'now', texts.playerYourDisc, this.nameLine(image, false), box, details));

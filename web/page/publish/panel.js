@@ -1,6 +1,5 @@
 // The panel Publish, which saves a copy of this page with the script, for players.
 
-import { RESULT } from '../../core/module/index.js';
 import { OWN, sha1Of } from '../app/index.js';
 import { isImageName, isPlainSheet, isSeen, patcherText, publishedSource, showPlayer } from '../player/index.js';
 import { download, sheetNaming } from '../save/index.js';
@@ -185,13 +184,12 @@ class PublishPanel {
      * @param {Tried} tried
      * @returns {Row}
      */
-    fitRow({ name }, { patches, refused, first, damaged }) {
-        // The row under this one counts the changes that name no old bytes.
-        const fit = { all: patches, named: patches, refused: new Array(refused).fill(RESULT.DIFFERS), namedRefused: refused };
+    fitRow({ name }, { fit, first, damaged }) {
         const { head } = fitWords(this.app.script.name, name, fit);
         const go = first > 0 && button('slim bare tiny', () => this.app.goToLine(first - 1),
             format(texts.scriptGoToLine, { line: String(first) }));
-        return [patches > 0 && refused === 0 ? 'good' : 'bad', ...head, ' ', go,
+        const isWhole = fit.all > 0 && fit.refused.length === 0;
+        return [!isWhole ? 'bad' : fit.named === 0 ? 'warn' : 'good', ...head, ' ', go,
             damaged > 0 && ` ${format(texts.publishChangesForDamage, { n: damaged })}`];
     }
 

@@ -3,14 +3,15 @@
 import { RESULT } from '../../core/module/index.js';
 import { isImageName } from '../player/index.js';
 import { patchedName, patchedWork } from '../save/index.js';
+import { fitOf, namingOld } from '../script/index.js';
 import { stemOf } from '../ui/index.js';
 
 /** @typedef {import('../app/state.js').App} App */
 /** @typedef {import('../app/state.js').Image} Image */
 /**
- * The result of a script on the image: how many patches are `refused`, the line of the `first` of them or 0, and how many of them for
- * damage; how many patches are `without` old bytes, and how many `old` bytes there are; and the patched image.
- * @typedef {{ script: string, patches: number, refused: number, first: number, damaged: number, without: number, old: number,
+ * The result of a script on the image: how its patches match, the line of the `first` refused patch or 0, and how many patches are refused
+ * for damage; how many patches are `without` old bytes, and how many `old` bytes there are; and the patched image.
+ * @typedef {{ script: string, fit: import('../script/fit_words.js').Fit, first: number, damaged: number, without: number, old: number,
  *     result: import('../../core/bytes.js').Reader }} Tried
  */
 
@@ -51,8 +52,7 @@ export async function triedOn(app, image, carry) {
     const refused = outcomes.filter(it => it.result !== RESULT.OK);
     return {
         script,
-        patches: outcomes.length,
-        refused: refused.length,
+        fit: fitOf(outcomes, namingOld(app.calls, app.script), false),
         first: refused.reduce((first, { number }) => first === 0 ? number : Math.min(first, number), 0),
         damaged: outcomes.filter(it => it.result === RESULT.DAMAGED).length,
         ...app.script.oldBytes(),

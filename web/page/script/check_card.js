@@ -97,9 +97,9 @@ export class CheckCard {
         const fit = this.patched && this.fit(this.patched);
         const apply = () => this.apply();
         if (fit === null || fit.refused.length === fit.all) return button('', apply, texts.scriptApplyAndSave);
-        const [isShown, n] = [isShownToFit(fit), fit.all - fit.refused.length];
-        if (n === fit.all) return button(isShown ? 'main next' : '', apply, texts.scriptApplyAndSave);
-        return button('', apply, format(isShown ? playerTexts.playerSaveWithFitting : texts.scriptSaveWithOthers, { n }));
+        const n = fit.all - fit.refused.length;
+        if (n === fit.all) return button(isShownToFit(fit) ? 'main next' : '', apply, texts.scriptApplyAndSave);
+        return button('', apply, format(playerTexts.playerSaveWithOthers, { n }));
     }
 
     faults() {
@@ -146,9 +146,7 @@ export class CheckCard {
         const applied = outcomes.filter(it => it.result === RESULT.OK).length;
         if (this.already || (applied === 0 && outcomes.length > 0)) return [];
         const name = this.app.image ? this.app.image.name : '';
-        const isWhole = applied === outcomes.length || (this.patched !== null && !isShownToFit(this.fit(this.patched)));
-        const saves = isWhole ? texts.scriptSavesNewImage : format(texts.scriptSavesWhatFits, { n: applied });
-        return [`${saves} `, ...say(texts.scriptStaysAsItIs, { name: element('b', {}, nameOf(name)) })];
+        return [`${texts.scriptSavesNewImage} `, ...say(texts.scriptStaysAsItIs, { name: element('b', {}, nameOf(name)) })];
     }
 
     /** Whether the script can be checked and saved: it has no error, and no check or save is running. */

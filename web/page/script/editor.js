@@ -157,11 +157,16 @@ export class ScriptEditor {
     /** @param {number} i */
     margin(i) {
         const wrong = this.lines.isWrong(i);
-        const tried = this.lines.outcomes.has(i + 1);
-        const fits = tried && !wrong;
-        const mark = fits ? '✓' : !wrong ? '' : tried ? '✕' : '!';
-        return [element('span', { class: 'ln' }, i + 1),
-            element('span', { class: `mk ${fits ? 'good-ink' : 'bad-ink'}`, 'aria-hidden': 'true' }, mark)];
+        const mark = this.lines.isMatched(i) ? '✓' : !wrong ? '' : this.lines.outcomes.has(i + 1) ? '✕' : '!';
+        return [element('span', { class: 'ln' }, i + 1), element('span', { class: `mk ${this.ink(i)}`, 'aria-hidden': 'true' }, mark)];
+    }
+
+    /**
+     * The class for the colour of a line's message.
+     * @param {number} i
+     */
+    ink(i) {
+        return this.lines.isWrong(i) ? 'bad-ink' : this.lines.isMatched(i) ? 'good-ink' : 'quiet';
     }
 
     /**
@@ -171,7 +176,7 @@ export class ScriptEditor {
     messagesAt(i) {
         const words = this.lines.wordsAt(i);
         return [element('span', { class: 'texts' }, ...this.owner.texts(i)),
-            element('span', { class: `out ${this.lines.isWrong(i) ? 'bad-ink' : 'good-ink'}`, title: words || null }, words)];
+            element('span', { class: `out ${this.ink(i)}`, title: words || null }, words)];
     }
 
     /** @param {number} i */

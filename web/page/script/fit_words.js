@@ -72,7 +72,7 @@ function whyNot(fit) {
  * @returns {{ tone: Tone, head: Child[], rest: Child[] }}
  */
 export function fitWords(name, image, fit) {
-    const { all, refused: { length: left }, named, already } = fit;
+    const { all, refused: { length: left }, named, namedRefused, already } = fit;
     const parts = { script: name === '' ? texts.scriptTheScript : nameOf(name), image: nameOf(image) };
     if (all === 0) return { tone: 'plain', head: say(texts.scriptHasNoChange, parts), rest: [texts.scriptWouldBeCopy] };
     if (already) {
@@ -89,7 +89,14 @@ export function fitWords(name, image, fit) {
         return { tone: 'bad', head: say(texts.scriptNoNamedFits, { ...parts, n: named }),
             rest: [`${whyNot(fit)} ${format(texts.scriptOthersNameNone, { n: all - named })}`] };
     }
-    if (left === 0) return { tone: 'good', head: say(texts.scriptAllChangesFit, { ...parts, n: all }), rest: [] };
-    return { tone: 'warn', head: say(texts.scriptSomeChangesFit, { ...parts, fitting: all - left, all, n: left }),
-        rest: [without.join(' ')] };
+    const fitting = named - namedRefused;
+    const others = all - left - fitting;
+    if (left === 0) {
+        const head = others === 0 ? say(texts.scriptAllChangesFit, { ...parts, n: all })
+            : say(texts.scriptSomeNotCompared, { ...parts, fitting, all, n: others });
+        return { tone: 'good', head, rest: [] };
+    }
+    const unsure = others === 0 ? [] : [format(texts.scriptOthersNameNone, { n: others })];
+    return { tone: 'warn', head: say(texts.scriptSomeChangesFit, { ...parts, fitting, all, n: left }),
+        rest: [[...without, ...unsure].join(' ')] };
 }

@@ -1,4 +1,4 @@
 // The panel Script.
 
-export { fitWords } from './fit_words.js';
+export { fitOf, fitWords, namingOld } from './fit_words.js';
 export { mountScript } from './panel.js';

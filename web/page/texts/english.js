@@ -35,6 +35,7 @@ export const syncOrModeLost = 'sync or mode lost';
 
 // a line of the script, after “It”
 export const lineFits = 'matches';
+export const lineNotCompared = 'not compared';
 export const lineDoesNotFit = 'refused: {why}';
 export const scriptIsLong = 'It is larger than 4 MB or longer than 150,000 lines. Check, Apply, Publish, and Save work with all of it. ' +
     'The other panels do not highlight its changes.';
@@ -810,7 +811,6 @@ export const scriptCheckAgain = 'Check again';
 export const scriptApplyAndSave = 'Apply and save…';
 export const scriptFixErrors = 'Fix the errors to continue.';
 export const scriptSavesNewImage = 'Saves a new image.';
-export const scriptSavesWhatFits = 'Saves a new image with the {n} patch that fits.|Saves a new image with the {n} patches that fit.';
 export const scriptStaysAsItIs = '{name} is not changed.';
 export const scriptCheckingScript = 'Checking';
 export const scriptNothingSavedOpenAgain = 'Nothing was saved. Open it again.';
@@ -826,6 +826,8 @@ export const scriptChangesStandThere = 'It holds what the patch of {script} writ
 export const scriptAnotherRelease = 'Another release, another disc, or another base?';
 export const scriptSomeChangesFit =
     '{script}: {fitting} of {all} patches match {image}, {n} does not.|{script}: {fitting} of {all} patches match {image}, {n} do not.';
+export const scriptSomeNotCompared = '{script}: {fitting} of {all} patches match {image}, {n} names no old bytes.|\
+{script}: {fitting} of {all} patches match {image}, {n} name no old bytes.';
 export const scriptNothingShowsFit =
     'Nothing shows whether the patch of {script} fits {image}.|Nothing shows whether the {n} patches of {script} fit {image}.';
 export const scriptNamesNone = 'It names no old bytes.|None of them names old bytes.';
@@ -833,7 +835,6 @@ export const scriptNoNamedFits = 'The patch of {script} that names old bytes doe
 None of the {n} patches of {script} that name old bytes fits {image}.';
 export const scriptOthersNameNone = 'The other patch names no old bytes, so nothing shows whether it fits.|\
 The other {n} patches name no old bytes, so nothing shows whether they fit.';
-export const scriptSaveWithOthers = 'Save with the other patch…|Save with the other {n} patches…';
 export const scriptRepairOrCarry = 'Repair the image first, or tick “Patch damaged sectors too”.';
 export const scriptAnotherTrack = 'Only Mode 1 sectors are patched. Another track, or another disc?';
 export const scriptAnotherTrackOrBase = 'Another track, or another base?';

@@ -186,7 +186,7 @@ Alle {n} Stellen stimmen überein, aber nichts zeigt, ob der Rest von derselben 
         'nicht überein.',
     playerAuthorPatchesDamaged: 'Der Autor lässt auch beschädigte Sektoren patchen: sie bleiben beschädigt.',
     playerNothingWasSaved: 'Es wurde nichts gespeichert.',
-    playerSaveWithFitting: 'Mit dem passenden Patch speichern…|Mit den {n} passenden Patches speichern…',
+    playerSaveWithOthers: 'Mit dem anderen Patch speichern…|Mit den anderen {n} Patches speichern…',
     playerGameMayStop: 'Das Spiel kann dann beide Sprachen mischen oder abstürzen.',
     playerDetailsOfImage: 'Einzelheiten',
     playerMadeFor: 'erstellt für',

@@ -185,7 +185,7 @@ Les {n} endroits correspondent tous, mais rien ne montre si le reste vient du m�
     playerNotAuthorsResult: 'Il n’y a rien à patcher. Mais ce n’est pas l’image que l’auteur a faite\u00a0: son SHA-1 ne correspond pas.',
     playerAuthorPatchesDamaged: 'L’auteur fait aussi patcher les secteurs endommagés\u00a0: ils restent endommagés.',
     playerNothingWasSaved: 'Rien n’a été enregistré.',
-    playerSaveWithFitting: 'Enregistrer avec le patch compatible…|Enregistrer avec les {n} patchs compatibles…',
+    playerSaveWithOthers: 'Enregistrer avec l’autre patch…|Enregistrer avec les {n} autres patchs…',
     playerGameMayStop: 'Le jeu peut alors mélanger les deux langues, ou planter.',
     playerDetailsOfImage: 'Détails',
     playerMadeFor: 'fait pour',

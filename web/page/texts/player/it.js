@@ -183,7 +183,7 @@ Tutti i {n} punti corrispondono, ma nulla mostra se il resto è dello stesso dis
     playerNotAuthorsResult: 'Non c’è nulla da modificare. Ma questa non è l’immagine fatta dall’autore: il suo SHA-1 non corrisponde.',
     playerAuthorPatchesDamaged: 'L’autore fa modificare anche i settori danneggiati: restano danneggiati.',
     playerNothingWasSaved: 'Non è stato salvato nulla.',
-    playerSaveWithFitting: 'Salva con la patch compatibile…|Salva con le {n} patch compatibili…',
+    playerSaveWithOthers: 'Salva con l’altra patch…|Salva con le altre {n} patch…',
     playerGameMayStop: 'Il gioco può allora mescolare le due lingue, o bloccarsi.',
     playerDetailsOfImage: 'Dettagli',
     playerMadeFor: 'fatto per',
