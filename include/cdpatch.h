@@ -44,7 +44,7 @@ extern "C" {
 #endif
 
 /** The version of this header as text. */
-#define CDPATCH_VERSION "1.3.0"
+#define CDPATCH_VERSION "1.4.0"
 /** The same as a number: 10000 times its first number, plus 100 times its second, plus its third. */
 #define CDPATCH_VERSION_NUMBER 10300
 

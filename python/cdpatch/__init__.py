@@ -63,7 +63,7 @@ from ._reports import Report
 from ._sectors import (KINDS, Broken, Defect, address, broken, defect, edc, encode, is_consistent, kind, rebuild, survey, with_address,
                        with_parity, with_user)
 
-__version__ = '1.3.0'
+__version__ = '1.4.0'
 __all__ = [
     'KINDS', 'LAST_BASE', 'SECTOR_SIZE', 'USER_SIZE', 'Broken', 'Damaged', 'Defect', 'Failed', 'NotMode1', 'OutOfRange', 'Patched',
     'Reader', 'Record', 'Refused', 'Report', 'Writer', 'address', 'apply', 'audit', 'audit_end', 'audit_line', 'broken', 'check', 'defect',
@@ -73,6 +73,6 @@ __all__ = [
 
 
 def library_version() -> str:
-    """Returns the version of the library that this package has loaded, for example '1.3.0'."""
+    """Returns the version of the library that this package has loaded, for example '1.4.0'."""
     number = library.cdpatch_version()
     return f'{number // 10000}.{number // 100 % 100}.{number % 100}'

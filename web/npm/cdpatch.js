@@ -44,7 +44,7 @@ export class Cdpatch {
         this.calls = new Calls(module);
     }
 
-    /** The version of the library, for example '1.3.0'. */
+    /** The version of the library, for example '1.4.0'. */
     get version() {
         const number = this.calls.version();
         return [number / 10000, number / 100 % 100, number % 100].map(Math.floor).join('.');
