@@ -90,8 +90,8 @@ test('a failure without a translation is said in English', () => {
 });
 
 test('the language of a patcher decides the forms and the numbers', () => {
-    assert.deepEqual([1, 2].map(n => format(playerTexts.playerPlacesOfPatch, { n })), ['1 place', '2 places']);
-    assert.deepEqual(inLanguage('fr', () => [0, 1, 2].map(n => format(playerTexts.playerPlacesOfPatch, { n }))), ['0 endroit', '1 endroit', '2 endroits']);
+    assert.deepEqual([1, 2].map(n => format(playerTexts.playerPlacesOfPatch, { n })), ['1 place to patch', '2 places to patch']);
+    assert.deepEqual(inLanguage('fr', () => [0, 1, 2].map(n => format(playerTexts.playerPlacesOfPatch, { n }))), ['0 endroit à modifier', '1 endroit à modifier', '2 endroits à modifier']);
     assert.deepEqual(['en', 'de', 'pt-BR'].map(tag => inLanguage(tag, () => counted(1234567))), ['1,234,567', '1.234.567', '1.234.567']);
 });
 

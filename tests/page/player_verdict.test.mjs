@@ -65,8 +65,8 @@ test('a verdict says whether other bytes or damage refuse the patches', async ()
 
 test('each reason that refuses a place has its own words', () => {
     const words = reasonsOf(9, [5, 5, 2, 1, 4]);
-    assert.deepEqual(words.map(it => it.split('. ')[0]), ['2 of 9 places hold other bytes', '1 of 9 places is damaged',
-        '1 of 9 places is not in a data sector here', '1 of 9 places is not in this image']);
+    assert.deepEqual(words.map(it => it.split('. ')[0]), ['2 of 9 places to patch hold other bytes', '1 of 9 places to patch is damaged',
+        '1 of 9 places to patch is not in a data sector here', '1 of 9 places to patch is not in this image']);
     assert.deepEqual(reasonsOf(2, [2]).filter(it => it.includes('release')), []);
 });
 

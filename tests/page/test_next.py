@@ -96,17 +96,17 @@ class Next(PageTest):
                               sound=f'cdpatch 1\nset {len(discs.game()) // 2352} 0 41\n', other='cdpatch 1\nset 61 0 4141 was 9F9F\n',
                               some='cdpatch 1\nset 60 0 41\nset 61 0 42\nset 61 1 4343 was 9F9F\nset 61 9 41 was 00\n')
         self.open_image(files['game'])
-        for name, why in (('hurt', '1 of 1 place is damaged. Repair the image first, or tick “Patch damaged sectors too”.'),
-                          ('far', '1 of 1 place is not in this image. Another track, or another base?'),
-                          ('sound', '1 of 1 place is not in a data sector here. Only Mode 1 sectors are patched.'),
-                          ('other', '1 of 1 place holds other bytes. Another release, another disc, or another base?')):
+        for name, why in (('hurt', '1 of 1 place to patch is damaged. Repair the image first, or tick “Patch damaged sectors too”.'),
+                          ('far', '1 of 1 place to patch is not in this image. Another track, or another base?'),
+                          ('sound', '1 of 1 place to patch is not in a data sector here. Only Mode 1 sectors are patched.'),
+                          ('other', '1 of 1 place to patch holds other bytes. Another release, another disc, or another base?')):
             self.open_script(files[name])
             self.browser.wait(f'{SAID}.bad', why)
             shown = self.browser.text('#panel-script .side')
             for words in ('Apply and save', 'Saves a new image', *([] if name == 'other' else ['Another release'])):
                 self.assertNotIn(words, shown)
         self.open_script(files['some'])
-        self.browser.wait(f'{SAID}.warn', '1 of 4 places holds other bytes. 1 of 4 places is damaged. Repair the image first')
+        self.browser.wait(f'{SAID}.warn', '1 of 4 places to patch holds other bytes. 1 of 4 places to patch is damaged. Repair the image first')
         self.browser.wait(f'{SAID}.warn', 'A new image can be saved without those patches.')
         self.browser.wait(f'{SAID}.warn .btn', 'Save with the other 2 patches…')
 
@@ -188,7 +188,7 @@ class Next(PageTest):
         self.press('Apply and save')
         self.wait_for_saved()
         side = self.browser.text('#panel-script .side')
-        self.assertIn('it still starts the old game.', side)
+        self.assertIn('it still names that image.', side)
         self.assertNotIn('cue sheet', side)
         self.assertEqual(self.browser.run("return document.querySelector('#panel-script .side .stack > .row .btn').innerText"), 'Open the new image')
         self.assertEqual(self.focused(), 'Check: Back to Check')

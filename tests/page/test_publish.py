@@ -254,7 +254,7 @@ class Player(PageTest):
         other = discs.game()[:block * 2352] + common.sector(block, bytes(user)) + discs.game()[(block + 1) * 2352:]
         self.play(other)
         self.browser.wait('#verdict', 'This is a different dump, and the patch does not fit it.')
-        self.assertIn('1 of 6 places holds other bytes.', self.browser.text('#player'))
+        self.assertIn('1 of 6 places to patch holds other bytes.', self.browser.text('#player'))
         self.assertIn(common.text('playerOlderPatchPerhaps'), self.browser.text('#player'))
         self.press('Details')
         self.browser.wait('.hashes', f'refused: old bytes differ at block {block} offset 0')
@@ -266,7 +266,7 @@ class Player(PageTest):
     def test_a_damaged_dump_is_not_called_another_release(self) -> None:
         self.play(common.damaged(discs.game(), discs.first_block() + 1))
         self.browser.wait('#verdict', 'This dump is damaged in places that the patch changes.')
-        self.assertIn('1 of 6 places is damaged.', self.browser.text('#player'))
+        self.assertIn('1 of 6 places to patch is damaged.', self.browser.text('#player'))
         self.assertNotIn('release', self.browser.text('#player'))
 
     def test_an_image_that_is_patched_already(self) -> None:

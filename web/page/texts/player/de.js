@@ -171,7 +171,7 @@ export const DE = {
     playerOtherTrackOrDisc: 'Es ist wahrscheinlich eine andere Spur oder eine andere Disc.',
     playerNotInThisImage: '{n} von {places} ist nicht in diesem Image.|{n} von {places} sind nicht in diesem Image.',
     playerOtherTrackOrCut: 'Es ist wahrscheinlich eine andere Spur, oder die Datei ist unvollständig.',
-    playerPlacesOfPatch: '{n} Stelle|{n} Stellen',
+    playerPlacesOfPatch: '{n} zu ändernder Stelle|{n} zu ändernden Stellen',
     playerPlacesMatch: 'Die Stelle stimmt überein.|Alle {n} Stellen stimmen überein.',
     playerRestDiffers: 'Der Rest der Disc ist anders als bei der des Autors.',
     playerMusicShiftedPerhaps: 'Der Rest der Disc ist anders als bei der des Autors: vielleicht ist ihre Musik verschoben.',

@@ -142,7 +142,7 @@ export const ENGLISH = /** @type {const} */ ({
     playerOtherTrackOrDisc: 'It is probably another track or another disc.',
     playerNotInThisImage: '{n} of {places} is not in this image.|{n} of {places} are not in this image.',
     playerOtherTrackOrCut: 'It is probably another track, or the file is incomplete.',
-    playerPlacesOfPatch: '{n} place|{n} places',
+    playerPlacesOfPatch: '{n} place to patch|{n} places to patch',
     playerPlacesMatch: 'The place matches.|All {n} places match.',
     playerRestDiffers: 'The rest of the disc differs from the author’s.',
     playerMusicShiftedPerhaps: 'The rest of the disc differs from the author’s: perhaps its music is shifted.',

@@ -169,7 +169,7 @@ export const ES = {
     playerOtherTrackOrDisc: 'Probablemente sea otra pista u otro disco.',
     playerNotInThisImage: '{n} de {places} no está en esta imagen.|{n} de {places} no están en esta imagen.',
     playerOtherTrackOrCut: 'Probablemente sea otra pista, o el archivo esté incompleto.',
-    playerPlacesOfPatch: '{n} lugar|{n} lugares',
+    playerPlacesOfPatch: '{n} lugar por cambiar|{n} lugares por cambiar',
     playerPlacesMatch: 'El lugar coincide.|Los {n} lugares coinciden.',
     playerRestDiffers: 'El resto del disco es distinto del disco del autor.',
     playerMusicShiftedPerhaps: 'El resto del disco es distinto del disco del autor: quizá su música esté desplazada.',

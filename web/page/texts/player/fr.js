@@ -171,7 +171,7 @@ export const FR = {
     playerOtherTrackOrDisc: 'C’est probablement une autre piste ou un autre disque.',
     playerNotInThisImage: '{n} sur {places} n’est pas dans cette image.|{n} sur {places} ne sont pas dans cette image.',
     playerOtherTrackOrCut: 'C’est probablement une autre piste, ou le fichier est incomplet.',
-    playerPlacesOfPatch: '{n} endroit|{n} endroits',
+    playerPlacesOfPatch: '{n} endroit à modifier|{n} endroits à modifier',
     playerPlacesMatch: 'L’endroit correspond.|Les {n} endroits correspondent tous.',
     playerRestDiffers: 'Le reste du disque est différent de celui de l’auteur.',
     playerMusicShiftedPerhaps: 'Le reste du disque est différent de celui de l’auteur\u00a0: sa musique est peut-être décalée.',

@@ -169,7 +169,7 @@ export const IT = {
     playerOtherTrackOrDisc: 'È probabilmente un’altra traccia o un altro disco.',
     playerNotInThisImage: '{n} di {places} non è in questa immagine.|{n} di {places} non sono in questa immagine.',
     playerOtherTrackOrCut: 'È probabilmente un’altra traccia, oppure il file è incompleto.',
-    playerPlacesOfPatch: '{n} punto|{n} punti',
+    playerPlacesOfPatch: '{n} punto da modificare|{n} punti da modificare',
     playerPlacesMatch: 'Il punto corrisponde.|Tutti i {n} punti corrispondono.',
     playerRestDiffers: 'Il resto del disco è diverso da quello dell’autore.',
     playerMusicShiftedPerhaps: 'Il resto del disco è diverso da quello dell’autore: forse la musica è spostata.',

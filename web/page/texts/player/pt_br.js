@@ -169,7 +169,7 @@ export const PT_BR = {
     playerOtherTrackOrDisc: 'É provavelmente outra faixa ou outro disco.',
     playerNotInThisImage: '{n} de {places} não está nesta imagem.|{n} de {places} não estão nesta imagem.',
     playerOtherTrackOrCut: 'É provavelmente outra faixa, ou o arquivo está incompleto.',
-    playerPlacesOfPatch: '{n} lugar|{n} lugares',
+    playerPlacesOfPatch: '{n} lugar a alterar|{n} lugares a alterar',
     playerPlacesMatch: 'O lugar confere.|Todos os {n} lugares conferem.',
     playerRestDiffers: 'O resto do disco é diferente do disco do autor.',
     playerMusicShiftedPerhaps: 'O resto do disco é diferente do disco do autor: talvez a música esteja deslocada.',
