@@ -98,9 +98,9 @@ class Firefox:
         self.command('WebDriver:ElementClick', id=self.element(css))
 
     def give(self, css: str, files: Sequence[Path]) -> None:
+        """Chooses files at once."""
         await_start(self.run)
-        for file in files:
-            self.command('WebDriver:ElementSendKeys', id=self.element(css), text=str(file))
+        self.command('WebDriver:ElementSendKeys', id=self.element(css), text='\n'.join(map(str, files)))
 
     def memory(self) -> int:
         """Memory in bytes of Firefox's first process, which saves files."""

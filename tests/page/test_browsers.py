@@ -1,5 +1,6 @@
-"""Firefox and WebKit, once each: opening the page from file://, audit, apply, a patcher, and the decoding of pairs of bytes."""
+"""Firefox and WebKit, once each: opening the page from file://, audit, apply, a patcher, the decoding of pairs of bytes, and lists."""
 
+import os
 import unittest
 from pathlib import Path
 
@@ -9,6 +10,7 @@ import discs
 import marionette
 import webkit
 from pages import NO_PICKER, applied, patcher
+from test_list import collection, scanned
 
 Browser = marionette.Firefox | webkit.WebKit
 
@@ -55,6 +57,29 @@ class Browsers(unittest.TestCase):
         browser.wait('#verdict', common.text('playerRightDisc'))
         self.press(browser, 'Patch and save')
         self.assertEqual(browser.downloaded('Starlit (English).bin').read_bytes(), out)
+
+    def lists(self, browser: Browser) -> None:
+        """Opens many files at once, and saves their list."""
+        self.addCleanup(browser.quit)
+        paths = collection()
+        for path in paths.values():
+            os.utime(path, (0, 1_600_000_000))  # WebKit gives the times of files in whole seconds
+        browser.open(common.PAGE)
+        browser.run(NO_PICKER)
+        browser.give('#files', [*paths.values()])
+        browser.wait('#list .tally', 'without findings')
+        browser.wait('#announced', 'were examined')
+        self.press(browser, common.text('listSave'))
+        saved = browser.downloaded('list.tsv').read_bytes().decode()
+        self.assertEqual(sorted(saved.splitlines(keepends=True)), scanned(paths))
+
+    @common.needs('firefox-esr', 'firefox-esr')
+    def test_firefox_lists_files_as_scan_does(self) -> None:
+        self.lists(marionette.Firefox())
+
+    @webkit.needs_webkit
+    def test_webkit_lists_files_as_scan_does(self) -> None:
+        self.lists(webkit.WebKit())
 
     @common.needs('firefox-esr', 'firefox-esr')
     def test_firefox_opens_audits_applies_and_plays(self) -> None:

@@ -49,9 +49,9 @@ class WebKit:
         self.driver.find_element('css selector', css).click()
 
     def give(self, css: str, files: Sequence[Path]) -> None:
+        """Chooses files at once."""
         await_start(self.run)
-        for file in files:
-            self.driver.find_element('css selector', css).send_keys(str(file))
+        self.driver.find_element('css selector', css).send_keys('\n'.join(map(str, files)))
 
     def downloaded(self, name: str, seconds: float = PATIENCE) -> Path:
         """Waits until a download's size no longer changes and returns its path."""
