@@ -6,7 +6,7 @@ from collections.abc import Callable
 import discs
 from common import waited
 from keys import Keys
-from pages import BUTTON
+from pages import BUTTON, HELD
 from states import States
 
 # The element that has the focus, by its name for screen readers.
@@ -65,6 +65,24 @@ class Access(States):
         self.reach('Save repaired image', Keys.ENTER)
         self.browser.wait('#second-body .say.good', 'Saved: ')
         self.assertEqual(self.chosen_bytes(), discs.game())
+
+    def test_the_focus_goes_to_the_job_of_a_second_image_and_stays_where_it_is_moved(self) -> None:
+        for moved in (False, True):
+            self.setUp()
+            self.to_second_asked()
+            self.browser.run(HELD)
+            self.browser.press(Keys.ENTER)
+            self.browser.wait('#second-body .progress')
+            self.wait_for_focus('#second-body')
+            if moved:
+                self.browser.focus('#map')
+            self.browser.run('letGo()')
+            self.browser.wait('.tally', 'can be repaired')
+            self.assertEqual(self.has_focus(), 'map' if moved else 'second-body')
+        self.setUp()
+        self.to_second_repair()
+        self.browser.press(Keys.TAB)
+        self.assertEqual(self.has_focus(), 'Save repaired image…')
 
     def test_a_file_is_extracted_by_the_keyboard_alone(self) -> None:
         self.begin(discs.game())

@@ -123,6 +123,40 @@ class Second(PageTest):
         self.press('Repair other.bin from game.bin')
         self.sees_swapped()
 
+    def test_a_sound_image_is_not_taken_for_the_same_as_one_that_differs(self) -> None:
+        files = discs.written(game=with_faults(), other=with_faults((40, 9)), copy=with_faults())
+        for name, count in (('other', f'1 of {SECTORS} sectors differs between the two images.'), ('copy', f'0 of {SECTORS} sectors differ')):
+            with self.subTest(name):
+                self.setUp()
+                self.browser.run('HTMLInputElement.prototype.click = () => {}; document.querySelector("[data-aim=repair]").click()')
+                self.open_files(files['game'], files[name])
+                self.browser.wait('#second-body .say', 'No damage was found in game.bin, so there is nothing to repair.')
+                self.browser.wait('#second-body .say', count)
+                self.assertEqual(self.browser.run('return [...document.querySelectorAll("#second-body .main")].map(it => it.innerText)'), ['Compare'])
+        self.browser.click('#second-body .main')
+        self.browser.wait('#second-body .say.good', text('secondBothSameBytes'))
+
+    def test_after_a_repair_its_cue_sheet_can_be_saved(self) -> None:
+        name = 'game (repaired).cue'
+        cases: list[dict[str, str]] = [{}, {'game': discs.DATA}, {'game': discs.DATA, 'song': 'AUDIO'}]
+        for tracks in cases:
+            with self.subTest(tracks):
+                self.setUp()
+                files = discs.written(game=damaged(discs.game(), 40), other=discs.game(), song=AUDIO)
+                sheet = files['game'].with_suffix('.cue')
+                sheet.write_text(discs.sheet_of(**tracks))
+                self.open_files(files['game'], *[sheet] if tracks else [], *[files[stem] for stem in tracks if stem == 'song'])
+                self.browser.wait('#disc-line .lead', 'Mode 1')
+                self.open_files(files['other'])
+                self.browser.answer()
+                self.press('Save repaired image')
+                self.press(text('saveCueSheet'))
+                saved = self.browser.downloaded(name)
+                due = {'game (repaired)' if stem == 'game' else stem: kind for stem, kind in (tracks or cases[1]).items()}
+                self.assertEqual(saved.read_text(), discs.sheet_of(**due))
+                self.browser.wait('#second-body', f'Saved. Now open {name} in your emulator.')
+                saved.unlink()
+
     def test_a_sector_whose_data_and_edc_are_others_is_named(self) -> None:
         self.pair(with_faults((40, 9), (40, 2048), (60, 9)), with_faults())
         self.browser.wait('#second-body .say.warn', 'look at block 40 first')
@@ -193,6 +227,7 @@ class Second(PageTest):
         self.sees_what_differs(first, bytes(second), 70)
         self.assertEqual(self.legend('differ'), 3)
         self.browser.wait('[aria-label="Bytes that differ, by field"]', '70')
+        self.browser.wait('#second-body p', 'The script turns game.bin into other.bin.')
         self.press('Save the script')
         script = self.browser.downloaded('other (changes).txt')
         self.browser.wait('#second-body .say.good', 'The script has 3 patches.')

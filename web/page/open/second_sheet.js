@@ -26,10 +26,10 @@ export async function takeSecond(app, given, aim) {
     const words = whyNoPair(image, second);
     const answer = aim === 'repair' && words.length === 0 ? 'repair' : await askFor(app, image, second, words);
     if (answer === '' || app.image !== image || refuseWhileSaving(app, [second.name])) return;
+    app.showPanel('disc');
     if (answer === 'instead') readImage(app, given);
     else if (answer === 'swap') swapImages(app, second);
     else app.setSecond(second, answer);
-    app.showPanel('disc');
 }
 
 /**

@@ -1,19 +1,16 @@
 // The card that shows the saving of a patched image: its progress, the saved file, and the remains after a cancel or a failure.
 
-import { isOneTrack, sheetOfOneTrack } from '../../core/disc/index.js';
 import { failedBy } from '../../core/faults.js';
 import { RESULT } from '../../core/module/index.js';
 import { sha1Of, sumsOf } from '../app/index.js';
 import { fileReader, readImage } from '../open/index.js';
 import * as texts from '../texts/index.js';
 import { counted, format, playerTexts, say } from '../texts/index.js';
-import { askBeforeLeaving, button, element, fill, hashParts, isCancelled, jobBar, messageOf, nameOf, namesOf } from '../ui/index.js';
-import { notice } from '../ui/index.js';
-import { otherFiles, sheetNaming } from './cue_rewrite.js';
+import { askBeforeLeaving, button, element, fill, hashParts, isCancelled, jobBar, messageOf, nameOf, notice } from '../ui/index.js';
 import { saveWork } from './patch_job.js';
 import { adviceOf } from './refused.js';
 import { patchedName } from './save.js';
-import { copyWords, savingSheet } from './sheet_words.js';
+import { isDiscOfOneTrack, sheetParts } from './sheet_words.js';
 
 /** @typedef {import('../app/state.js').App} App */
 /** @typedef {import('../app/state.js').Image} Image */
@@ -90,7 +87,7 @@ export class SaveCard {
     async save(image, work) {
         const name = patchedName(image.name);
         this.running = true;
-        const oneTrack = image.sheet === '' ? isOneTrack(this.app.calls, image.part).catch(() => false) : Promise.resolve(false);
+        const oneTrack = isDiscOfOneTrack(this.app.calls, image);
         try {
             const saved = await this.app.runSave((signal, cancel) => {
                 const bar = jobBar(playerTexts.saveSavingImage, cancel, { saves: true });
@@ -131,18 +128,16 @@ export class SaveCard {
         else fill(this.message, notice(tone, say(playerTexts.saveBrowserIsSaving, { name: what() }), texts.saveKeepPageOpenOnly,
             element('div', { class: 'row' }, button('slim', () => this.noteWhole(), texts.saveIsComplete))));
         this.app.noteSaved(image, name);
-        const sheet = oneTrack ? sheetOfOneTrack(name) : sheetNaming(image.sheet, image.renamed);
-        const { save, saved: sheetSaved } = savingSheet(sheet, image.disc.files.length > 1 ? patchedName(image.from)
-            : name.replace(/(\.[^.]*)?$/, '.cue'));
+        const sheet = sheetParts(image, name, oneTrack);
         fill(this.checked, !streamed && element('p', { class: 'small quiet' }, texts.saveDropToCheck));
         this.show(streamed ? texts.saveImageSaved : texts.saveSavingByBrowser, this.message,
             element('dl', { class: 'hashes' }, element('dt', {}, texts.saveSizeOfSaved), element('dd', {}, counted(size)),
                 ...this.sumsOf(saved)),
-            this.checked, ...sheetWords(image, name, sheet),
+            this.checked, ...sheet.words,
             element('div', { class: 'row' },
-                sheet !== '' && button('main next', save, playerTexts.saveCueSheet),
+                sheet.save && button('main next', sheet.save, playerTexts.saveCueSheet),
                 file && button('', () => this.openNew(file), texts.saveOpenNewImage),
-                button(sheet === '' ? 'next' : '', () => this.close(), texts.saveBackToCheck)), sheetSaved);
+                button(sheet.save ? '' : 'next', () => this.close(), texts.saveBackToCheck)), sheet.saved);
     }
 
     /**
@@ -211,23 +206,6 @@ export class SaveCard {
         this.title = [texts.saveImageSaved];
         this.drawTitle();
     }
-}
-
-/**
- * Explains the cue sheet of a saved image: its purpose, and the files that it names beside the image.
- * @param {Image} image
- * @param {string} name of the saved image
- * @param {string} sheet that names the saved image, or '' if there is none
- * @returns {Child[]}
- */
-function sheetWords({ sheet: own, renamed }, name, sheet) {
-    const quiet = (/** @type {Child[]} */ ...message) => element('p', { class: 'small quiet' }, ...message);
-    if (sheet === '') return [own === '' && quiet(texts.saveOldSheetNamesOld)];
-    const saved = [...renamed.values()].filter(it => it !== name);
-    return [element('p', {}, texts.saveEmulatorOpensSheet), own === '' && quiet(playerTexts.playerSheetOfOneTrack, ' ',
-        texts.saveOldSheetNamesOld),
-        saved.length > 0 && quiet(...say(texts.saveSheetNamesOthers, { names: namesOf(saved) })),
-        copyWords(otherFiles(sheet, name).filter(it => !saved.includes(it)))];
 }
 
 /**

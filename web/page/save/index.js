@@ -7,4 +7,4 @@ export { checkWork, isPatched, patchedWork, saveWork, tryWork } from './patch_jo
 export { givingAll, saveImage } from './pieces.js';
 export { adviceOf } from './refused.js';
 export { patchedName } from './save.js';
-export { copyWords, savingSheet } from './sheet_words.js';
+export { copyWords, isDiscOfOneTrack, savingSheet, sheetParts } from './sheet_words.js';

@@ -24,7 +24,7 @@ export class SecondCard {
         this.title = element('h2', { id: 'second-title' });
         this.tabs = element('div', { class: 'seg', role: 'tablist', 'aria-label': texts.secondWhatWithSecond });
         this.message = messageArea();
-        this.body = element('div', { class: 'stack', role: 'tabpanel', id: 'second-body' });
+        this.body = element('div', { class: 'stack', role: 'tabpanel', id: 'second-body', tabindex: -1 });
         this.table = element('div');
         this.jobs = { repair: new SecondRepair(app, changed), compare: new SecondCompare(app, changed) };
         oneTabStop(this.tabs, '[role=tab]', tab => this.choose(/** @type {Job} */ (tab.dataset.tab)));
@@ -55,7 +55,7 @@ export class SecondCard {
     }
 
     /**
-     * Starts again after the second image was replaced or closed.
+     * Starts again after the second image was replaced or closed. The focus goes to the job, so that its result is next to it.
      * @param {Job} job
      */
     begin(job) {
@@ -67,6 +67,7 @@ export class SecondCard {
         if (image !== null && second !== null) {
             fill(this.title, ...say(texts.secondImageIs, { name: element('span', { class: 'plain' }, nameOf(second.name)) }));
             this.choose(job);
+            this.body.focus({ preventScroll: true });
             requestAnimationFrame(() => this.part.scrollIntoView({ block: 'nearest' }));
         }
         this.changed();

@@ -3,7 +3,7 @@
 import { FIELD_COUNT, SECOND_STATE, findDifferences } from '../../core/tasks/index.js';
 import { downloadText, patchedName } from '../save/index.js';
 import * as texts from '../texts/index.js';
-import { format } from '../texts/index.js';
+import { format, say } from '../texts/index.js';
 import { button, countsRow, element, fill, keyed, nameOf, notice, tableCard, term } from '../ui/index.js';
 import { addDiffering, compareMarks } from './marks.js';
 import { PairJob } from './pair_job.js';
@@ -68,12 +68,19 @@ export class SecondCompare extends PairJob {
         const damaged = marks.count(1);
         const tally = countsRow([[all, all === 1 ? texts.secondSectorDiffers : texts.secondSectorsDiffer, ''],
             [onlyCodes, texts.secondDifferInCodesOnly, ''], [damaged, texts.secondDamagedInSecond, damaged > 0 ? 'bad-ink' : '']]);
-        const write = element('div', { class: 'row' }, button('main', () => this.write('save'), texts.secondSaveTheScript),
-            button('', () => this.write('open'), texts.secondOpenInScript));
+        const write = [element('p', {}, ...this.directionWords()), element('div', { class: 'row' },
+            button('main', () => this.write('save'), texts.secondSaveTheScript),
+            button('', () => this.write('open'), texts.secondOpenInScript))];
         const same = notice('good', tail ? texts.secondBothSameSectors : texts.secondBothSameBytes);
         const other = tail && notice('warn', texts.secondTailsDiffer, texts.secondNoScriptChangesThem);
-        fill(this.body, tally, other, all === 0 ? same : write, this.place);
+        fill(this.body, tally, other, ...all === 0 ? [same] : write, this.place);
         this.drawTable();
+    }
+
+    /** Says which image the script turns into which one. */
+    directionWords() {
+        const { image, second } = this.app;
+        return say(texts.secondScriptTurns, { image: image && nameOf(image.name), goal: second && nameOf(second.name) });
     }
 
     /** @param {import('./script.js').Then} then what to do with the script */

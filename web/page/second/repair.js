@@ -2,7 +2,7 @@
 
 import { pieceReader } from '../../core/piece_reader.js';
 import { blocksIn } from '../../core/sectors/index.js';
-import { repairTrack } from '../../core/tasks/index.js';
+import { isSameRange, repairTrack } from '../../core/tasks/index.js';
 import { swapImages } from '../open/index.js';
 import { patchedName } from '../save/index.js';
 import * as texts from '../texts/index.js';
@@ -65,19 +65,22 @@ export class SecondRepair extends PairJob {
         const { repair, unrepaired } = found;
         this.marks = repair.refused ? null : repairMarks(survey.marks, repair.taken, unrepaired);
         const words = repair.refused ? [refusedWords(repair, repair.refused, image)]
-            : [...foundWords(repair, unrepaired, this.otherWay(image, second)), this.buttons(image, found), this.place];
+            : [...foundWords(repair, unrepaired, image, this.otherJobs(image, second, unrepaired)), this.buttons(image, found), this.place];
         fill(this.body, ...words);
         this.changed();
     }
 
     /**
-     * The button that swaps the images, to repair the second image from the open one.
+     * The buttons that compare the images, if the open one has no damage, and that repair the second image from the open one.
      * @param {Image} image
      * @param {Image} second
+     * @param {Run[]} unrepaired
      */
-    otherWay(image, second) {
+    otherJobs(image, second, unrepaired) {
         const label = element('span', {}, ...say(texts.openRepairOtherFrom, { name: nameOf(second.name), other: nameOf(image.name) }));
-        return button('', () => !refuseWhileSaving(this.app, [second.name]) && swapImages(this.app, second), label);
+        return [unrepaired.length === 0 && isSameRange(image, second) &&
+            button('main', () => this.app.setSecond(second, 'compare'), texts.openCompareIt),
+        button('', () => !refuseWhileSaving(this.app, [second.name]) && swapImages(this.app, second), label)];
     }
 
     /**

@@ -4,18 +4,21 @@ import { blocksIn } from '../../core/sectors/index.js';
 import { blocksText } from '../../sentences/index.js';
 import { sha1Of } from '../app/index.js';
 import { fileReader, readImage } from '../open/index.js';
-import { failureOfSaving, givingAll, patchedName, saveImage } from '../save/index.js';
+import { failureOfSaving, givingAll, isDiscOfOneTrack, patchedName, saveImage, sheetParts } from '../save/index.js';
 import * as texts from '../texts/index.js';
 import { format, playerTexts, say } from '../texts/index.js';
 import { askBeforeLeaving, button, element, fill, hashParts, jobBar, megabytes, messageOf, nameOf, notice, runAt } from '../ui/index.js';
 
 /** @typedef {import('../app/state.js').App} App */
+/** @typedef {import('../app/state.js').Image} Image */
 /** @typedef {import('../../core/bytes.js').Piece} Piece */
 /** @typedef {import('../../core/sectors/runs.js').Run} Run */
 /** @typedef {import('../ui/fill.js').Child} Child */
 /** @typedef {import('../save/pieces.js').SavedFile} SavedFile */
 
 const MOST_RUNS_NAMED = 8;
+/** The remark in the names of files that are saved. */
+const REPAIRED = 'repaired';
 
 export class RepairSaver {
     /**
@@ -51,17 +54,19 @@ export class RepairSaver {
         const { app, place, app: { image, second } } = this;
         if (image === null || second === null) return;
         const { size } = image.reader;
+        const oneTrack = isDiscOfOneTrack(app.calls, image);
         try {
             const saved = await app.runSave((signal, cancel) => {
                 const bar = jobBar(playerTexts.saveSavingImage, cancel, { saves: true });
                 fill(place, ...bar.parts);
                 this.saving = true;
                 const watch = { signal, progress: (/** @type {number} */ at) => bar.at(at, size) };
-                const name = patchedName(image.name, 'repaired');
+                const name = patchedName(image.name, REPAIRED);
                 return saveImage([image.reader, second.reader], async () => givingAll(pieces), name, app.openFiles(), watch);
             });
             this.saving = saved !== null && !saved.streamed;
-            fill(place, ...saved ? this.savedWords(saved, size, done) : []);
+            if (saved !== null) app.noteSaved(image, saved.name);
+            fill(place, ...saved ? this.savedWords(saved, image, await oneTrack, done) : []);
         } catch (error) {
             this.saving = false;
             fill(place, failureOfSaving(error, size));
@@ -70,12 +75,14 @@ export class RepairSaver {
 
     /**
      * @param {SavedFile} saved
-     * @param {number} size
+     * @param {Image} image
+     * @param {boolean} oneTrack whether the image has no cue sheet, and looks like a whole disc of one track
      * @param {string} done
      * @returns {Child[]}
      */
-    savedWords({ name, streamed, file }, size, done) {
+    savedWords({ name, streamed, file }, image, oneTrack, done) {
         const { app } = this;
+        const { size } = image.reader;
         const what = element('p', {}, done);
         const whole = () => notice('good', say(texts.discFileSaved, { name: nameOf(name) }), what, texts.secondOthersAsBefore);
         const isComplete = () => {
@@ -85,13 +92,14 @@ export class RepairSaver {
         const message = element('div', {}, streamed ? whole() : notice('good', say(playerTexts.saveBrowserIsSaving, { name: nameOf(name) }),
             what, format(playerTexts.secondKeepPageOpen, { size: megabytes(size) }),
             element('div', { class: 'row' }, button('slim', isComplete, texts.saveIsComplete))));
-        if (file === null) return [message];
-        const open = button('', () => {
+        const sheet = sheetParts(image, name, oneTrack, REPAIRED);
+        const open = file && button('', () => {
             readImage(app, null);
             app.open([file], 'look');
         }, texts.saveOpenNewImage);
-        return [message, element('dl', { class: 'hashes' }, element('dt', {}, 'SHA-1'), hashOf(app, file, size)),
-            element('div', { class: 'row' }, open)];
+        return [message, file && element('dl', { class: 'hashes' }, element('dt', {}, 'SHA-1'), hashOf(app, file, size)), ...sheet.words,
+            (sheet.save || open) && element('div', { class: 'row' }, sheet.save && button('', sheet.save, playerTexts.saveCueSheet), open),
+            sheet.saved];
     }
 }
 

@@ -42,21 +42,37 @@ function shiftedWords({ by, first, isOther }, name) {
 }
 
 /**
+ * Says that nothing is repaired. Of an image without damage it also says how many sectors differ, so that nobody thinks that both images
+ * are the same.
+ * @param {Repair} repair
+ * @param {number} damaged the number of sectors that stay damaged
+ * @param {Image} image
+ * @param {Child[]} otherJobs the buttons of the jobs that are offered instead
+ */
+function nothingWords({ same: [same], ranges: [{ common }] }, damaged, { name }, otherJobs) {
+    const row = element('div', { class: 'row' }, ...otherJobs);
+    if (damaged > 0) return notice('plain', texts.secondRepairsNothing, texts.secondNoneSoundThere, row);
+    const all = blocksIn(common);
+    return notice(same < all ? 'warn' : 'plain', say(texts.secondNothingToRepair, { name: nameOf(name) }),
+        format(texts.secondSectorsDifferOf, { n: all - same, all }), row);
+}
+
+/**
  * The result of a repair, in words.
  * @param {Repair} repair
  * @param {Run[]} unrepaired
- * @param {Child} otherWay the button that starts the repair of the second image
+ * @param {Image} image
+ * @param {Child[]} otherJobs the buttons of the jobs that are offered if nothing is repaired
  * @returns {Child[]}
  */
-export function foundWords(repair, unrepaired, otherWay) {
+export function foundWords(repair, unrepaired, image, otherJobs) {
     const { doubtful, unlike, different: [different], tails: [tail], ranges: [{ missing }] } = repair;
     const [taken, damaged] = [repair.taken, unrepaired].map(blocksIn);
     const tally = countsRow([[taken, texts.secondCanBeRepaired, taken > 0 ? 'good-ink' : ''],
         [damaged, texts.secondCannotBeRepaired, damaged > 0 ? 'bad-ink' : ''], [different, texts.secondIntactButDifferent, '']]);
     return [tally,
         missing.length > 0 && notice('plain', format(texts.secondDumpLacksBlocks, { blocks: blocksText(missing) }), texts.secondTheseStay),
-        taken === 0 && notice('plain', texts.secondRepairsNothing, damaged === 0 ? texts.secondNoneDamagedHere : texts.secondNoneSoundThere,
-            element('div', { class: 'row' }, otherWay)),
+        taken === 0 && nothingWords(repair, damaged, image, otherJobs),
         doubtful.length > 0 && notice('warn', format(texts.secondOtherDataHere, { n: blocksIn(doubtful) }),
             format(texts.secondLookAtThemFirst, { blocks: blocksText(doubtful, MOST_RUNS_NAMED) })),
         different > 0 && notice('warn', format(texts.secondSoundInBoth, { n: different }), texts.secondPerhapsAnotherRelease),

@@ -866,8 +866,8 @@ export const saveHashPercent = '({percent} %)';
 export const saveSumNotRead = 'not available: the browser does not read the file back';
 export const saveDropToCheck = 'To check what was saved, drop the file on this page.';
 export const saveEmulatorOpensSheet = 'Your emulator opens a cue sheet: save one that names the new image, next to it.';
-export const saveOldSheetNamesOld = 'If you have a .cue of the old image, it still starts the old game. Open it here together with ' +
-    'that image, and you can save one for the new image.';
+export const saveOldSheetNamesOld = 'If you have a .cue of the old image, it still names that image. Open both here together, and you ' +
+    'can save one for the new image.';
 export const saveSheetNamesOthers = 'The cue sheet also names files that you saved before: {names}';
 export const saveOpenNewImage = 'Open the new image';
 export const saveBackToCheck = 'Back to Check';
@@ -908,7 +908,9 @@ export const secondIntactButDifferent = 'intact in both, but different';
 export const secondDumpLacksBlocks = 'The second image does not have {blocks}.';
 export const secondTheseStay = 'These stay as they are here.';
 export const secondRepairsNothing = 'This dump cannot repair anything here.';
-export const secondNoneDamagedHere = 'No sector here is damaged.';
+export const secondNothingToRepair = 'No damage was found in {name}, so there is nothing to repair.';
+export const secondSectorsDifferOf =
+    '{n} of {all} sectors differs between the two images.|{n} of {all} sectors differ between the two images.';
 export const secondNoneSoundThere = 'None of the sectors damaged here has a sound copy with the right address there.';
 export const secondOtherDataHere =
     '{n} sector has different data and a different EDC here.|{n} sectors have different data and a different EDC here.';
@@ -966,6 +968,7 @@ export const secondSectorDiffers = 'sector differs';
 export const secondSectorsDiffer = 'sectors differ';
 export const secondDifferInCodesOnly = 'only in EDC or parity';
 export const secondNoScriptChangesThem = 'A script cannot change them.';
+export const secondScriptTurns = 'The script turns {image} into {goal}.';
 export const secondSaveTheScript = 'Save the script…';
 export const secondOpenInScript = 'Open in Script';
 export const secondBytesThatDiffer = 'Bytes that differ, by field';
