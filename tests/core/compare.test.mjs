@@ -75,6 +75,7 @@ async function leavesOut(start) {
         assert.ok(due.length > 0 && due.every(it => it.why === 'damaged'));
         const { script, left } = await compared(old, fresh, { skipDamaged: true });
         assert.deepEqual(blocksOf(left), due);
+        assert.equal((await compared(old, fresh)).patches, script.patches);
         const wanted = fresh.slice();
         for (const { block } of due) wanted.set(sectorAt(old, block - BASE), (block - BASE) * RAW);
         sameBytes(await patchedBy(script, old, BASE), wanted, `seed ${seed}`);
@@ -93,7 +94,8 @@ test('damage of NEW is never written into good sectors of OLD', async () => {
     const old = soundImage(dice, 50, BASE);
     const fresh = old.slice();
     for (let i = 0; i < 50; i += 2) fresh.set(CHANGES.damaged(sectorAt(old, i), dice), RAW * i);
-    assert.equal((await compared(old, fresh)).script, null);
+    const refused = await compared(old, fresh);
+    assert.deepEqual([refused.script, refused.patches], [null, 0]);
     const { script } = await compared(old, fresh, { skipDamaged: true });
     assert.equal(textOf(script), head(1));
     sameBytes(await patchedBy(script, old, BASE), old, 'OLD');

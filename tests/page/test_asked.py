@@ -122,6 +122,7 @@ class Asked(PageTest):
         self.browser.type('#patcher-title', 'Mine')
         self.close()
         self.browser.wait('#sheet', 'Your script is not saved. Your entries under Publish have not been saved in a patcher yet.')
+        self.assertEqual(self.buttons(), ['Save the script and close', 'Close it anyway', 'Cancel'])
         self.browser.answer('Cancel')
         self.browser.wait('#disc-line .name', 'game.bin')
         self.assertTrue(self.browser.asks_before_leaving())
@@ -129,6 +130,30 @@ class Asked(PageTest):
         self.browser.answer('Close it anyway')
         self.browser.wait('#start h1')
         self.assertFalse(self.browser.asks_before_leaving())
+
+    def test_a_script_is_saved_before_its_image_is_closed(self) -> None:
+        self.begin(discs.game(), discs.game())
+        self.edit(Keys.ARROW_DOWN, 'rebuild 1')
+        script = self.script_text()
+        self.close()
+        self.browser.answer('Save the script and close')
+        self.browser.wait('#start h1')
+        saved = self.browser.downloaded('script.txt')
+        self.assertEqual(common.waited(saved.read_text, 'the script is empty'), script)
+        self.assertFalse(self.browser.asks_before_leaving())
+
+    def test_what_is_not_saved_with_the_script_is_asked_about(self) -> None:
+        self.begin(discs.game(), discs.game())
+        self.edit(Keys.ARROW_DOWN, 'rebuild 1')
+        self.browser.click('#tab-publish')
+        self.browser.type('#patcher-title', 'Mine')
+        self.close()
+        self.browser.answer('Save the script and close')
+        self.browser.downloaded('script.txt')
+        common.waited(lambda: self.buttons() == ['Close it anyway', 'Cancel'], 'the script is offered again')
+        self.assertNotIn('script', self.browser.text('#sheet'))
+        self.browser.answer('Close it anyway')
+        self.browser.wait('#start h1')
 
     def test_an_image_is_not_closed_while_it_is_saved(self) -> None:
         files = self.begin(discs.game(), discs.game())

@@ -532,7 +532,8 @@ class Disc(PageTest):
         browser.wait('.say.bad', 'edc p=1 q=1')
         outlined = browser.run("return [...document.querySelectorAll('.hex i.sus')].map(it => Number(it.dataset.at))")
         self.assertEqual(outlined, [16 + 75])
-        self.assertIn('they cross at the outlined byte, offset 75: it is probably the wrong one.', browser.text('.say.bad'))
+        self.assertIn('1 of 86 P columns (p=1) and 1 of 52 Q diagonals (q=1) do not match either; they cross at the outlined byte, offset 75: '
+                      'it is probably the wrong one.', browser.text('.say.bad'))
 
     def test_typed_bytes_become_lines_of_the_script_that_the_program_applies(self) -> None:
         image = discs.game()

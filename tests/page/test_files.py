@@ -161,7 +161,8 @@ class Files(PageTest):
 
     def test_a_file_of_the_same_or_another_length_is_replaced_as_by_cdscript(self) -> None:
         long = discs.messages().replace(discs.START, b'Start   ')
-        for fresh, said in ((long, ''), (long[:1500], f'{MESSAGES}: {len(long):,} bytes, now 1,500.'), (long + b'more', ' bytes, now ')):
+        shorter = f'{MESSAGES}: {len(long):,} bytes, now 1,500. The directory gets the new length, and the rest of the file’s sectors becomes 00.'
+        for fresh, said in ((long, ''), (long[:1500], shorter), (long + b'more', ' bytes, now ')):
             with self.subTest(size=len(fresh)):
                 self.setUp()
                 image = self.begin(discs.game())

@@ -203,11 +203,13 @@ class Publish(PageTest):
         label = 'return document.activeElement.getAttribute("aria-label")'
         self.assertIn('Script, line 11 of 13', self.browser.run(label))
 
-    def test_no_licence_is_said_beside_the_button(self) -> None:
+    def test_no_licence_is_said_above_the_button(self) -> None:
         self.publish()
         said = '' if (common.TOP / 'LICENSE').exists() else 'The publisher of this copy of cdpatch, which the patcher contains, has not given a licence yet: ' \
             'try it, but do not publish it before there is a release with a licence.'
         self.assertEqual(self.browser.text('#no-licence'), said)
+        tops = "return ['#no-licence', '.btn.main'].map(css => document.querySelector(`#panel-publish ${css}`)?.getBoundingClientRect().top ?? 0)"
+        self.assertEqual(self.browser.run(tops), sorted(self.browser.run(tops)))
         self.assertIn('The old bytes come from the game (32 bytes).', self.browser.text('#panel-publish'))
 
     def test_an_author_sees_it_as_a_player_and_goes_back(self) -> None:

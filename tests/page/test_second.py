@@ -311,9 +311,10 @@ class Second(PageTest):
         self.assertEqual(self.browser.run(tops), sorted(self.browser.run(tops)))
 
     def test_damage_of_the_second_is_named_and_left_out_only_if_asked(self) -> None:
-        first = with_faults()
-        path = self.pair(first, with_faults((33, 5), (44, 5)))
-        self.assertEqual(self.tally(), [2, 0, 2])
+        other = with_faults((33, 5), (44, 5))
+        other = other[:50 * SECTOR_SIZE] + sector(50, b'other') + other[51 * SECTOR_SIZE:]
+        self.pair(with_faults(), other)
+        self.assertEqual(self.tally(), [3, 0, 2])
         tagged = "return [...document.querySelectorAll('[aria-label^=Bytes] .tag')].map(it => [it.parentElement.matches(':last-child'), it.innerText])"
         waited(lambda: self.browser.run(tagged) == [[True, 'damaged in the second']] * 2, 'the tag is not in the column of files')
         self.press('Save the script')
@@ -322,8 +323,14 @@ class Second(PageTest):
         self.press('Leave these 2 out')
         self.browser.wait('#second-body .say.warn', 'gives other.bin, except for blocks 33 and 44, which it leaves as they are.')
         script = self.browser.downloaded('other (changes).txt')
-        self.assertEqual(script.read_text(), 'cdpatch 1\n')
+        self.assertEqual([line.split()[:2] for line in script.read_text().splitlines()], [['cdpatch', '1'], ['set', '50']])
         script.unlink()
+
+    def test_damage_is_not_left_out_if_nothing_else_differs(self) -> None:
+        self.pair(with_faults(), with_faults((33, 5), (44, 5)))
+        self.press('Save the script')
+        self.browser.wait('#second-body .say.bad', 'Without these blocks the script would have no patches.')
+        self.assertNotIn('Leave', self.browser.text('#second-body'))
 
     def test_a_tail_that_differs_is_said(self) -> None:
         image = with_faults()

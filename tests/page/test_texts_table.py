@@ -41,6 +41,22 @@ class TextsTable(PageTest):
         self.assertGreater(len(saved.splitlines()), len(SENTENCES))
         self.assertEqual(self.browser.attempts(), [])
 
+    def test_text_that_is_only_ascii_is_listed_with_its_table_as_is_said_beside_the_buttons(self) -> None:
+        ascii_text = b'Start of the game'
+        image = self.begin(spoken_texts())
+        self.assertIn(ascii_text, image.read_bytes())
+        self.browser.wait('#panel-text .texts-table + p', 'Text that is only ASCII is listed if a .tbl file with its letters is chosen.')
+        self.press('Export a table')
+        saved = self.browser.downloaded('game (texts).csv')
+        self.assertNotIn(ascii_text, common.waited(saved.read_bytes, 'the table is empty'))
+        saved.unlink()
+        tbl = image.with_name('ascii.tbl')
+        tbl.write_text(''.join(f'{code:02X}={chr(code)}\n' for code in range(0x20, 0x7F)))
+        self.browser.give('[aria-label="A table to load"]', [tbl])
+        self.browser.wait('#panel-text .say.good', 'Loaded: ascii.tbl')
+        self.press('Export a table')
+        self.assertIn(ascii_text, common.waited(self.browser.downloaded('game (texts).csv').read_bytes, 'the table is empty'))
+
     def test_new_texts_become_the_lines_that_cdscript_writes(self) -> None:
         image = self.begin(spoken_texts())
         table = self.table(image, {2: 'The game starts.', 3: 'Save?', 5: 'The end.'})
@@ -139,7 +155,7 @@ class TextsTable(PageTest):
         self.browser.click('#tab-text')
         corrected = self.table(image, {2: 'The game begins.', 3: 'Save?', 5: 'The end.'})
         self.give(corrected)
-        self.browser.wait('#panel-text .say.good', '1 line added to the script. 1 line replaced an earlier one. 1 line is in the script already.')
+        self.browser.wait('#panel-text .say.good', '1 line added to the script. 1 line replaced an earlier one. 1 line is unchanged.')
         self.press('Open Script')
         head, *lines = common.cdscript_prints('replace', image, '--list', corrected).splitlines()
         self.assertEqual(self.script_text().splitlines(), ['# mine', head, *lines])
@@ -168,7 +184,7 @@ class TextsTable(PageTest):
         mine = self.table(image, {2: 'The game begins.', 3: 'much too long ' * 9})
         mine.write_text(mine.read_text() + self.printed(image).splitlines()[1] + '\n')
         self.give(mine)
-        self.browser.wait('#panel-text .say.warn', '1 translation fits, 1 does not: 1 too long.')
+        self.browser.wait('#panel-text .say.warn', '1 translation fits. 1 translation does not fit: 1 too long.')
         self.browser.wait('#panel-text .say.warn', 'The table has no new text for the lines 4, 5 of the script.')
 
     def test_rows_that_do_not_fit_are_a_list_to_walk(self) -> None:
@@ -176,7 +192,7 @@ class TextsTable(PageTest):
         rows = self.printed(image).splitlines()
         self.give(self.table(image, {2: 'The game starts.', 3: 'much too long ' * 9, 4: 'also too long ' * 9}))
         self.browser.wait('#panel-text .say.warn', '1 line added to the script.')
-        self.browser.wait('#panel-text .say.warn', '1 translation fits, 2 do not: 2 too long.')
+        self.browser.wait('#panel-text .say.warn', '1 translation fits. 2 translations do not fit: 2 too long.')
         self.browser.wait('#panel-text h2', '2 rows do not fit')
         cells = "return [...document.querySelectorAll('[aria-label=\"2 rows do not fit\"] tbody tr')].map(row => [...row.cells].map(it => it.innerText))"
         (number, place, _, why), other = self.browser.run(cells)
@@ -196,7 +212,7 @@ class TextsTable(PageTest):
     def test_a_row_that_does_not_fit_is_corrected_where_it_is_listed(self) -> None:
         image = self.begin(spoken_texts())
         self.give(self.table(image, {2: 'The game starts.', 3: 'much too long ' * 9, 4: 'with a sign: é', 5: 'much too long ' * 9}))
-        self.browser.wait('#panel-text .say.warn', '1 translation fits, 3 do not: 2 too long, 1 with a character that the encoding lacks.')
+        self.browser.wait('#panel-text .say.warn', '1 translation fits. 3 translations do not fit: 2 too long, 1 with a character that the encoding lacks.')
         self.browser.wait('#row-length', 'too many: there is room for')
         self.assertTrue(self.is_off('Add to the script'))
         self.browser.type('#row-text', 'Save?')
@@ -225,7 +241,7 @@ class TextsTable(PageTest):
         table = image.with_name('mine.tsv')
         table.write_text('block\toffset\ttext\tnew\n1\t0\tはじめからスタート\tmuch too long for it\n1\t10\tスタート\tStart\n')
         self.give(table)
-        self.browser.wait('#panel-text .say.warn', '1 translation fits, 1 does not: 1 too long.')
+        self.browser.wait('#panel-text .say.warn', '1 translation fits. 1 translation does not fit: 1 too long.')
         self.browser.wait('#panel-text h2', 'Correct row 2')
         self.browser.type('#row-text', 'From the start')
         self.press('Add to the script')

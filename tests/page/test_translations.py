@@ -136,6 +136,19 @@ class Choice(PageTest):
             self.browser.wait('#verdict')
             self.assertIn(due, self.browser.run('return document.querySelector("#player dl").textContent'))
 
+    def test_the_line_of_the_program_is_quoted_in_english(self) -> None:
+        block = discs.first_block() + 1
+        damaged = discs.written(mine=common.damaged(discs.game(), block))['mine']
+        for language in NAMES:
+            self.opened('en', language=language)
+            self.browser.give('#player-files', [damaged])
+            self.browser.wait('#verdict')
+            before, after = common.text('playerProgramReports', language).split('{line}')
+            row = 'const it = document.querySelector("#player dl [lang=en]"); return [it.innerText, it.parentElement.textContent]'
+            line = f'refused: block {block} is damaged'
+            self.assertEqual(self.browser.run(row), [line, before + line + after])
+            self.assertRegex(before + after, '[“„«].*[”“»]$')
+
     def test_the_words_of_the_author_have_no_language_of_the_page(self) -> None:
         self.opened('es')
         self.assertEqual(self.browser.run('return [...document.querySelectorAll("#player h1, #player .author")].map(it => [it.lang, it.dir])'),

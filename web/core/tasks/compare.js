@@ -14,9 +14,9 @@ import { FIELDS, differingSectors, isSound, sectorOf, sectorsAt } from '../secto
 /** @typedef {import('./engine.js').Engine} Engine */
 /** @typedef {import('./opened.js').OpenedTrack} OpenedTrack */
 /**
- * The result of a comparison: the script, null if it would not produce the other image; the blocks that a script cannot express; and
- * whether the bytes after the last sector differ.
- * @typedef {{ script: Script | null, left: Left[], tail: boolean }} Comparison
+ * The result of a comparison: the script, null if it would not produce the other image; the number of its patches, also if it is null; the
+ * blocks that a script cannot express; and whether the bytes after the last sector differ.
+ * @typedef {{ script: Script | null, patches: number, left: Left[], tail: boolean }} Comparison
  */
 /**
  * How many sectors differ; how many of these only in EDC, zeros, or parity; and whether the bytes after the last sector differ.
@@ -68,12 +68,12 @@ export async function compareTrack({ calls, crew }, { image }, fresh, options = 
         parts.count(lines);
         return take(lines.text);
     });
-    const { left } = parts;
+    const { patches, left } = parts;
     const tail = await tailsDiffer(image.reader, fresh);
     const isSkipped = (/** @type {Left} */ run) => isToMode2(run) ? skipMode2 : skipDamaged && run.why === 'damaged';
-    const isEmpty = parts.patches === 0 && left.some(isToMode2);
+    const isEmpty = patches === 0 && left.some(isToMode2);
     const isWanted = partial || (!tail && !isEmpty && left.every(isSkipped));
-    return { script: isWanted ? scriptForBase(parts.script(calls), image.base) : null, left, tail };
+    return { script: isWanted ? scriptForBase(parts.script(calls), image.base) : null, patches, left, tail };
 }
 
 /**

@@ -1,6 +1,6 @@
 // The parts from which the page of a patcher is drawn.
 
-import { current, format, playerTexts as texts } from '../texts/index.js';
+import { current, format, playerTexts as texts, say } from '../texts/index.js';
 import { element, hashParts } from '../ui/index.js';
 
 /** @typedef {import('../ui/fill.js').Child} Child */
@@ -37,7 +37,7 @@ export function inLanguage(make) {
 }
 
 /**
- * The hashes and sizes of the author's image and of the player's, and the first place that does not match.
+ * The hashes and sizes of the author's image and of the player's, and the program's line on the first place that does not match.
  * @param {import('./patcher.js').PatcherData['image']} wanted
  * @param {number} size of the player's image
  * @param {Pick<import('./verdict.js').Judged, 'sha1' | 'words'>} judged
@@ -50,5 +50,6 @@ export function detailsOf(wanted, size, { sha1, words }) {
     return element('details', {}, element('summary', {}, texts.playerDetailsOfImage),
         element('dl', { class: 'hashes' }, ...row(texts.playerMadeFor, ...hashParts(wanted.sha1)),
         ...row(texts.playerYourImage, ...hashParts(sha1)), ...row(texts.playerSizeOfImage, sizes),
-        ...row(texts.playerFirstPlace, words)));
+        ...words === '' ? [] : row(texts.playerFirstPlace,
+            ...say(texts.playerProgramReports, { line: element('samp', { lang: 'en' }, words) }))));
 }

@@ -86,10 +86,10 @@ class PublishPanel {
         return element('section', { class: 'card', 'aria-label': texts.publishBeforeYouSave },
             element('header', {}, element('h2', {}, texts.publishBeforeYouSave)),
             element('div', { class: 'pad stack' },
-                this.list, this.state, element('div', { class: 'row' }, this.save, this.see), this.message,
-                this.about,
+                this.list, this.state,
                 !OWN.licensed && element('p', { class: 'say warn thin', id: 'no-licence' }, texts.publishNoLicenceYet),
-                element('p', { class: 'small quiet' }, texts.publishScriptSavedElsewhere)));
+                element('div', { class: 'row' }, this.save, this.see), this.message,
+                this.about, element('p', { class: 'small quiet' }, texts.publishScriptSavedElsewhere)));
     }
 
     /** @param {...Child} parts that show the progress of a patcher */

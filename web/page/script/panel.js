@@ -68,7 +68,7 @@ class ScriptPanel {
 
     listen() {
         const { app } = this;
-        askBeforeLeaving(() => this.isLost(), texts.scriptIsNotSaved);
+        askBeforeLeaving(() => this.isLost(), texts.scriptIsNotSaved, () => this.save());
         app.serve({ takeBackBytes: () => takeBackBytes(this.editor), saveScript: () => this.save() });
         app.on('line', line => this.goTo(line));
         app.on('check', () => void this.check.checkAtOnce());

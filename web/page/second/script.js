@@ -131,13 +131,14 @@ function leftText(runs) {
  * @param {Comparison} compared
  * @param {() => void} again writes the script without the damaged sectors
  */
-function refusedScript({ left, tail }, again) {
+function refusedScript({ patches, left, tail }, again) {
     const damaged = left.filter(it => it.why === 'damaged');
     const others = left.filter(it => it.why !== 'damaged');
     if (others.length === 0 && !tail) {
-        const count = blocksIn(damaged);
-        return notice('bad', format(texts.secondScriptNotWritten, { why: leftText(damaged) }),
-            texts.secondDamageHidden, element('div', { class: 'row' }, button('', again, format(texts.secondLeaveOut, { n: count }))));
+        const n = blocksIn(damaged);
+        return notice('bad', format(texts.secondScriptNotWritten, { why: leftText(damaged) }), texts.secondDamageHidden,
+            patches === 0 ? ` ${format(texts.secondNothingElse, { n })}`
+                : element('div', { class: 'row' }, button('', again, format(texts.secondLeaveOut, { n }))));
     }
     const first = others.filter(it => it.why === others[0].why);
     const why = tail ? texts.secondBecauseTailsDiffer : leftText(first);

@@ -7,16 +7,33 @@ import { askUser, byId, lostByClosing, nameOf, refuseWhileSaving } from '../ui/i
 /** @typedef {import('../app/state.js').App} App */
 
 /**
- * Closes the open image. If work would be lost, asks the user first.
+ * Closes the open image. If work would be lost, asks the user first, and offers to save the script. Then asks about what is left.
  * @param {App} app
+ * @returns {Promise<void>}
  */
 export async function closeImage(app) {
     const { image } = app;
-    if (image === null || refuseWhileSaving(app)) return;
+    if (image === null || refuseWhileSaving(app)) return undefined;
     const lost = lostByClosing();
-    const isSure = lost.length === 0 || await askUser(say(texts.imageCloseImage, { name: nameOf(image.name) }), [lost.join(' ')],
-        [['close', [texts.imageCloseAnyway]]], '') === 'close';
-    if (!isSure || app.image !== image) return;
+    const answer = lost.length === 0 ? 'close' : await askToClose(image.name, lost);
+    if (answer === '' || app.image !== image) return undefined;
+    if (answer === 'save') {
+        for (const { save } of lost) save?.();
+        return closeImage(app);
+    }
     app.close();
-    byId('open-files').focus();
+    return byId('open-files').focus();
+}
+
+/**
+ * Asks whether unsaved work is to be saved or lost.
+ * @param {string} name of the image
+ * @param {ReturnType<typeof lostByClosing>} lost
+ */
+function askToClose(name, lost) {
+    const close = /** @type {['close', string[]]} */ (['close', [texts.imageCloseAnyway]]);
+    const save = /** @type {['save', string[]]} */ (['save', [texts.imageSaveAndClose]]);
+    const canSave = lost.some(it => it.save !== null);
+    return askUser(say(texts.imageCloseImage, { name: nameOf(name) }), [lost.map(({ what }) => what).join(' ')],
+        canSave ? [save, close] : [close], canSave ? 'save' : '');
 }

@@ -27,12 +27,12 @@ export async function rowsMerged(app, image, script, signal) {
 }
 
 /**
- * How many lines were added, replaced lines, or were there already. Numbers that are 0 are left out.
+ * How many lines were added, replaced lines, or are unchanged. Numbers that are 0 are left out.
  * @param {Merged} merged
  */
 export function mergedWords({ added, replaced, same }) {
     return [added > 0 && format(texts.discLinesAdded, { n: added }), replaced > 0 && format(texts.textLinesReplaced, { n: replaced }),
-        same > 0 && format(texts.textLinesAsBefore, { n: same })].flatMap(words => words || []).join(' ');
+        same > 0 && format(texts.textLinesUnchanged, { n: same })].flatMap(words => words || []).join(' ');
 }
 
 /**

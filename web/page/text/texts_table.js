@@ -49,7 +49,8 @@ export class TextsTable {
             element('span', { class: 'small quiet' }, texts.textAllTextsAsTable),
             button('slim', () => void this.save('csv'), texts.textExportTexts),
             button('slim', () => void this.save('po'), texts.textExportPo),
-            button('slim', () => this.input.click(), texts.textImportTable)), this.job, this.message, this.input);
+            button('slim', () => this.input.click(), texts.textImportTable)),
+        element('p', { class: 'small quiet hint' }, texts.textHowRecognised), this.job, this.message, this.input);
         app.on('image', () => this.forget());
         app.addTaker(file => this.isTable(file));
     }
@@ -187,7 +188,7 @@ export class TextsTable {
         const isAny = merged.added + merged.replaced + merged.same + withdrawn.length > 0;
         const added = mergedWords(merged) || texts.discNothingAdded;
         const rows = fit + left === 0 ? '' : left === 0 ? format(texts.textNewTextsFit, { n: fit })
-            : format(texts.textSomeTextsFit, { n: fit, others: format(texts.textOthersDoNot, { n: left }), why: reasonWords(rowsLeft) });
+            : `${format(texts.textSomeTextsFit, { n: fit })} ${format(texts.textOthersDoNot, { n: left, why: reasonWords(rowsLeft) })}`;
         const n = withdrawn.length;
         const lines = withdrawn.map(({ number }) => number).slice(0, MOST_NUMBERS).join(', ') + (n > MOST_NUMBERS ? ', …' : '');
         const others = [n > 0 && format(texts.textLinesWithdrawn, { n, lines }),

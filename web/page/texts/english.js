@@ -291,6 +291,7 @@ export const imageVolumeMayGoOn =
 
 // closing the open image
 export const imageCloseImage = 'Close {name}?';
+export const imageSaveAndClose = 'Save the script and close';
 export const imageCloseAnyway = 'Close it anyway';
 
 // ---- disc: map, findings, files
@@ -411,7 +412,8 @@ export const discOtherLinesWrite = 'Line {line} writes in this file too, so it w
 export const discLinesStay = 'Line {line} still writes in this file.|{n} lines still write in this file. The first is line {line}.';
 export const discLinesNotInFile = '{n} line that does not match is left out.|{n} lines that do not match are left out.';
 export const discFileAsOnDisc = 'This is the file on the disc, without the patches of the script.';
-export const discFileChangesLength = '{name}: {before} bytes, now {after}.';
+export const discFileChangesLength = '{name}: {before} bytes, now {after}. \
+The directory gets the new length, and the rest of the file’s sectors becomes 00.';
 export const discOpenScriptPanel = 'Open Script';
 
 // runs
@@ -466,9 +468,10 @@ export const sectorOtherBytesDamaged = 'The user data match their EDC. The damag
 export const sectorEdcDoesNotFit = 'The {edc} does not match the bytes before it.';
 export const sectorZerosDoNotFit = 'The eight bytes after the EDC are not all zero.';
 export const sectorHeaderHasOtherAddress = 'The header has the address {address}, not that of the block.';
-export const sectorCodesDoNotFit = '{columns} of {ofColumns} P columns and {diagonals} of {ofDiagonals} Q diagonals do not match';
+export const sectorCodesDoNotFit =
+    '{columns} of {ofColumns} P columns (p={columns}) and {diagonals} of {ofDiagonals} Q diagonals (q={diagonals}) do not match';
 export const sectorCodesDoNotFitEither =
-    '{columns} of {ofColumns} P columns and {diagonals} of {ofDiagonals} Q diagonals do not match either';
+    '{columns} of {ofColumns} P columns (p={columns}) and {diagonals} of {ofDiagonals} Q diagonals (q={diagonals}) do not match either';
 export const sectorTheyCrossNowhere = '{codes}; they have no byte in common.';
 export const sectorTheyCrossOnce = '{codes}; they cross at the outlined byte, {place}: it is probably the wrong one.';
 export const sectorTheyCross = '{codes}; they cross at the {count} outlined bytes, {place}: the wrong ones are probably among these.';
@@ -642,6 +645,8 @@ export const textOpenTheSector = 'Open the sector';
 
 // all texts of the disc
 export const textAllTextsAsTable = 'All text on the disc, with the translations in the script:';
+export const textHowRecognised = 'Text is recognised by its Japanese characters, or by those of the chosen encoding. Text that is only ' +
+    'ASCII is listed if a .tbl file with its letters is chosen.';
 export const textExportTexts = 'Export a table…';
 export const textExportPo = 'Export PO…';
 export const textLookingForTexts = 'Looking for text';
@@ -657,18 +662,18 @@ export const textTableToImport = 'A table or PO file to import';
 export const textMakingOfRows = 'rows';
 export const textScriptLongerThanTaken = 'The script would be longer than cdpatch accepts. Use cdscript replace --list instead.';
 export const textLinesReplaced = '{n} line replaced an earlier one.|{n} lines replaced earlier ones.';
-export const textLinesAsBefore = '{n} line is in the script already.|{n} lines are in the script already.';
+export const textLinesUnchanged = '{n} line is unchanged.|{n} lines are unchanged.';
 export const textLinesWithdrawn = 'The table has no new text for line {lines} of the script.|\
 The table has no new text for the lines {lines} of the script.';
 export const textRemoveLines = 'Remove from the script';
 export const textLinesRemoved = 'Lines removed: {n}. Ctrl+Z in the script brings them back.';
 export const textNewTextsFit = 'The translation fits.|All {n} translations fit.';
-export const textSomeTextsFit = '{n} translation fits, {others}: {why}.|{n} translations fit, {others}: {why}.';
+export const textSomeTextsFit = '{n} translation fits.|{n} translations fit.';
 export const textLeftTooLong = '{n} too long';
 export const textLeftCharacters = '{n} with a character that the encoding lacks';
 export const textLeftOtherText = '{n} with a different old text there';
 export const textLeftOthers = '{n} for other reasons';
-export const textOthersDoNot = '{n} does not|{n} do not';
+export const textOthersDoNot = '{n} translation does not fit: {why}.|{n} translations do not fit: {why}.';
 export const textMoreCodesLeftOut = 'Translations leave out {n} more code.|Translations leave out {n} more codes.';
 export const textRowsDoNotFit = '{n} row does not fit|{n} rows do not fit';
 export const textColumnRow = 'Row';
@@ -997,6 +1002,7 @@ export const secondBecauseTailsDiffer = 'the bytes after the last sector differ'
 export const secondUseSecondItself = 'Use the second image itself, or “Repair from it”, which copies whole sectors.';
 export const secondDamageHidden = 'Their wrong bytes would get a correct EDC, and nobody could see the damage any more.';
 export const secondLeaveOut = 'Leave this one out|Leave these {n} out';
+export const secondNothingElse = 'Without this block the script would have no patches.|Without these blocks the script would have no patches.';
 
 // ---- publishing
 export const publishPatcherForPlayers = 'A patcher for your players';

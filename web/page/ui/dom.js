@@ -34,22 +34,23 @@ export function setAttribute(target, name, value) {
     else target.setAttribute(name, value === true ? '' : String(value));
 }
 
-/** @type {{ isLost: () => boolean, what: string }[]} */
+/** @type {{ isLost: () => boolean, what: string, save: (() => void) | null }[]} */
 const unsaved = [];
 
 /**
  * Makes the browser ask before the page is left, while something would be lost.
  * @param {() => boolean} isLost
  * @param {string} [what] a sentence about the loss, if closing the image loses it too
+ * @param {(() => void) | null} [save] saves it without a further question
  */
-export function askBeforeLeaving(isLost, what = '') {
-    unsaved.push({ isLost, what });
+export function askBeforeLeaving(isLost, what = '', save = null) {
+    unsaved.push({ isLost, what, save });
     window.addEventListener('beforeunload', event => { if (isLost()) event.preventDefault(); });
 }
 
-/** Sentences that say what would be lost if the image were closed. */
+/** The unsaved work that would be lost if the image were closed. */
 export function lostByClosing() {
-    return unsaved.flatMap(({ isLost, what }) => what !== '' && isLost() ? [what] : []);
+    return unsaved.filter(({ isLost, what }) => what !== '' && isLost());
 }
 
 /**

@@ -195,6 +195,7 @@ Alle {n} Stellen stimmen überein, aber nichts zeigt, ob der Rest von derselben 
     playerSizeAsExpected: '{n} Byte, wie erwartet',
     playerSizeNotAuthors: '{n} Byte; das des Autors hat {wanted}',
     playerFirstPlace: 'erste Stelle',
+    playerProgramReports: 'cdpatch meldet auf Englisch: „{line}“',
     playerPatchIt: 'Patchen',
     playerPatchesNeedSpace: '{n} Patch. Die neue Datei braucht {space} MB Platz.|\
 {n} Patches. Die neue Datei braucht {space} MB Platz.',

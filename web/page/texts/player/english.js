@@ -166,6 +166,7 @@ All {n} places match, but nothing shows whether the rest is of the same disc.',
     playerSizeAsExpected: '{n} bytes, as expected',
     playerSizeNotAuthors: '{n} bytes, the author’s has {wanted}',
     playerFirstPlace: 'first place',
+    playerProgramReports: 'cdpatch reports “{line}”',
     // the second step of that page
     playerPatchIt: 'Patch it',
     playerPatchesNeedSpace:

@@ -192,6 +192,7 @@ Los {n} lugares coinciden, pero nada muestra si el resto es del mismo disco.',
     playerSizeAsExpected: '{n} bytes, como se esperaba',
     playerSizeNotAuthors: '{n} bytes; la del autor tiene {wanted}',
     playerFirstPlace: 'primer lugar',
+    playerProgramReports: 'cdpatch informa en inglés: «{line}»',
     playerPatchIt: 'Parchear',
     playerPatchesNeedSpace: '{n} parche. El archivo nuevo necesita {space} MB de espacio.|\
 {n} parches. El archivo nuevo necesita {space} MB de espacio.',

@@ -194,6 +194,7 @@ Les {n} endroits correspondent tous, mais rien ne montre si le reste vient du m�
     playerSizeAsExpected: '{n} octets, comme prévu',
     playerSizeNotAuthors: '{n} octets\u00a0; celle de l’auteur en a {wanted}',
     playerFirstPlace: 'premier endroit',
+    playerProgramReports: 'cdpatch signale en anglais\u00a0: «\u00a0{line}\u00a0»',
     playerPatchIt: 'Patcher',
     playerPatchesNeedSpace: '{n} patch. Le nouveau fichier demande {space}\u00a0Mo d’espace.|\
 {n} patchs. Le nouveau fichier demande {space}\u00a0Mo d’espace.',

@@ -192,6 +192,7 @@ Tutti i {n} punti corrispondono, ma nulla mostra se il resto è dello stesso dis
     playerSizeAsExpected: '{n} byte, come previsto',
     playerSizeNotAuthors: '{n} byte; quella dell’autore ne ha {wanted}',
     playerFirstPlace: 'primo punto',
+    playerProgramReports: 'cdpatch segnala in inglese: «{line}»',
     playerPatchIt: 'Applica la patch',
     playerPatchesNeedSpace: '{n} patch. Il file nuovo richiede {space} MB di spazio.|\
 {n} patch. Il file nuovo richiede {space} MB di spazio.',

@@ -192,6 +192,7 @@ Todos os {n} lugares conferem, mas nada mostra se o resto é do mesmo disco.',
     playerSizeAsExpected: '{n} bytes, como esperado',
     playerSizeNotAuthors: '{n} bytes; a do autor tem {wanted}',
     playerFirstPlace: 'primeiro lugar',
+    playerProgramReports: 'o cdpatch informa em inglês: “{line}”',
     playerPatchIt: 'Aplicar o patch',
     playerPatchesNeedSpace: '{n} patch. O novo arquivo precisa de {space} MB de espaço.|\
 {n} patches. O novo arquivo precisa de {space} MB de espaço.',
