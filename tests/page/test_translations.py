@@ -144,7 +144,7 @@ class Choice(PageTest):
             self.browser.give('#player-files', [damaged])
             self.browser.wait('#verdict')
             before, after = common.text('playerProgramReports', language).split('{line}')
-            row = 'const it = document.querySelector("#player dl [lang=en]"); return [it.innerText, it.parentElement.textContent]'
+            row = 'const it = document.querySelector("#player dl [lang=en]"); return [it, it.parentElement].map(part => part.textContent)'
             line = f'refused: block {block} is damaged'
             self.assertEqual(self.browser.run(row), [line, before + line + after])
             self.assertRegex(before + after, '[“„«].*[”“»]$')

@@ -1002,7 +1002,8 @@ export const secondBecauseTailsDiffer = 'the bytes after the last sector differ'
 export const secondUseSecondItself = 'Use the second image itself, or “Repair from it”, which copies whole sectors.';
 export const secondDamageHidden = 'Their wrong bytes would get a correct EDC, and nobody could see the damage any more.';
 export const secondLeaveOut = 'Leave this one out|Leave these {n} out';
-export const secondNothingElse = 'Without this block the script would have no patches.|Without these blocks the script would have no patches.';
+export const secondNothingElse =
+    'Without this block the script would have no patches.|Without these blocks the script would have no patches.';
 
 // ---- publishing
 export const publishPatcherForPlayers = 'A patcher for your players';
