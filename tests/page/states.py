@@ -250,7 +250,7 @@ class States(PageTest):
         """An image and its script were dropped together: all changes fit, and the button that saves."""
         files = self.place(game=discs.game(), english=discs.script())
         self.open_files(files['game'], files['english'])
-        self.browser.wait('#panel-script .say.good', 'all match')
+        self.browser.wait('#panel-script .say.good', 'patches match')
         self.wait_for_hash()
 
     def to_script_refused(self) -> None:
@@ -277,7 +277,7 @@ class States(PageTest):
         """The patched image of a cue sheet has been saved: the cue sheet for the emulator is next."""
         files = self.place(game=discs.game(), english=discs.script())
         self.open_files(self.sheet(files), files['game'], files['english'])
-        self.browser.wait('#panel-script .say.good', 'all match')
+        self.browser.wait('#panel-script .say.good', 'patches match')
         self.wait_for_hash()
         self.press_save()
         self.browser.wait('#panel-script .side', 'Your emulator opens a cue sheet')
@@ -398,7 +398,7 @@ class States(PageTest):
         self.browser.type('#patcher-title', 'Starlit Detective in English')
         self.browser.type('#patcher-author', 'Team Comet, version 1.2')
         self.browser.type('#patcher-note', 'All menus and chapters 1 to 3 are in English.\nWorks with the Japanese first print (two rings on the label).')
-        self.browser.wait('#panel-publish', 'all match')
+        self.browser.wait('#panel-publish', 'patches match')
 
     def play(self, image: bytes | None, verdict: str = '', script: str = '', with_sheet: bool = True) -> None:
         """Opens a patcher for the game, gives it an image, with or without its cue sheet, and waits for the text of this key."""

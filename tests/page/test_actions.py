@@ -84,7 +84,7 @@ class Actions(PageTest):
     def test_an_image_with_its_script_takes_three(self) -> None:
         files = self.written()
         self.chooses('Apply a patch', files['cue'], files['game'], files['english'])
-        self.browser.wait('#panel-script .say.good', 'all match game.bin')
+        self.browser.wait('#panel-script .say.good', 'patches match game.bin')
         self.presses('Apply and save')
         self.assertEqual(self.browser.downloaded('game (patched).bin').read_bytes(), changed())
         self.presses('Save a cue sheet')

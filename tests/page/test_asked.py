@@ -103,7 +103,7 @@ class Asked(PageTest):
     def test_a_closed_image_leads_back_to_the_start(self) -> None:
         files = self.begin(discs.game(), discs.game())
         self.open_script(files['english'])
-        self.browser.wait('#panel-script .say.good', 'all match')
+        self.browser.wait('#panel-script .say.good', 'patches match')
         self.close()
         self.browser.wait('#start h1')
         self.assertFalse(self.is_asked())

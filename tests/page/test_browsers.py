@@ -35,7 +35,7 @@ class Browsers(unittest.TestCase):
         _, audit = common.run_program('audit', files['game'])
         common.waited(lambda: audit.strip() in str(browser.run('return document.querySelector("#panel-disc").innerText')), audit)
         browser.give('#files', [files['english']])
-        browser.wait('#panel-script .say', 'english.txt: 3 of 8 patches match game.bin, 3 do not.')
+        browser.wait('#panel-script .say', 'english.txt: 4 of 8 patches match game.bin, 3 do not.')
         browser.give('#files', [files['other']])
         browser.wait('#sheet h2', 'other.bin')
         self.press(browser, 'Cancel')

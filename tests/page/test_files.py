@@ -198,7 +198,7 @@ class Files(PageTest):
         saved = discs.written(session=self.script_of(image, first))['session']
         self.setUp()
         self.open_files(image, saved)
-        self.browser.wait('#panel-script .say.good', 'all match')
+        self.browser.wait('#panel-script .say.good', 'match')
         self.browser.click('#tab-disc')
         self.browser.click('#findings [data-tab=files]')
         self.choose(MESSAGES)

@@ -84,7 +84,7 @@ class Next(PageTest):
     def test_how_many_changes_fit_is_said(self) -> None:
         files = {**self.files(), **discs.written(one='cdpatch 1\nrebuild 1\n', none='cdpatch 1\nset 9999 0 41\n')}
         self.open_image(files['scratched'])
-        for name, said in (('refused', 'refused.txt: 3 of 8 patches match scratched.bin, 3 do not.'), ('one', 'Nothing shows whether the patch of one.txt fits scratched.bin.'),
+        for name, said in (('refused', 'refused.txt: 4 of 8 patches match scratched.bin, 3 do not.'), ('one', 'Nothing shows whether the patch of one.txt fits scratched.bin.'),
                            ('none', 'none.txt: 1 patch, which does not match scratched.bin.')):
             self.open_files(files[name])
             self.browser.wait(SAID, said)

@@ -148,7 +148,7 @@ class Publish(PageTest):
             const { slice } = Blob.prototype;
             Blob.prototype.slice = function (...given) { globalThis.slices += 1; return slice.apply(this, given); }''')
         self.browser.click('#tab-publish')
-        self.browser.wait('#panel-publish', '1,567 patches, which all match')
+        self.browser.wait('#panel-publish', 'Nothing shows whether the 1,567 patches of script.txt fit long.bin.')
         self.browser.type('#patcher-title', 'Title')
         self.press('Save as a patcher')
         saved = self.browser.downloaded('Title.html').read_bytes()

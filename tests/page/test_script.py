@@ -40,7 +40,7 @@ class Script(PageTest):
             said[where] = outcome.replace('applied', 'matches' if is_compared else 'not compared')
         shown = {f"line {row.split('|')[0]}": row.split('|')[2] for row in self.rows() if row.split('|')[2]}
         self.assertEqual(shown, said)
-        self.assertIn('english.txt: 3 of 8 patches match game.bin, 3 do not.', self.browser.text('#panel-script .side'))
+        self.assertIn('english.txt: 4 of 8 patches match game.bin, 3 do not.', self.browser.text('#panel-script .side'))
 
     def texts(self) -> list[str]:
         """The texts that the drawn lines of the editor set."""
@@ -320,7 +320,7 @@ class Script(PageTest):
         self.open_image(files['game'])
         self.go_to(block)
         self.open_script(files['english'])
-        self.browser.wait('#panel-script .say.good', 'all match')
+        self.browser.wait('#panel-script .say.good', 'patches match')
         self.browser.run(f'{GATE} globalThis.held = 0')
         self.browser.click('.editor textarea')
         self.browser.press(Keys.END, held=Keys.CONTROL)
@@ -336,10 +336,11 @@ class Script(PageTest):
             const { createObjectURL, revokeObjectURL } = URL;
             URL.createObjectURL = it => { made.push(createObjectURL(it)); return made.at(-1); };
             URL.revokeObjectURL = it => { forgotten.push(made.indexOf(it)); return revokeObjectURL(it); };''')
-        for count, due in enumerate(([], [0], [0, 1])):
+        for due in ([], [0], [0, 1]):
             self.press_save()
-            name = f'game (patched){f" ({count})" if count else ""}.bin'
-            self.assertEqual(self.browser.downloaded(name).read_bytes(), applied(files['game'], files['english'])[2])
+            saved = self.browser.downloaded('game (patched).bin')
+            self.assertEqual(saved.read_bytes(), applied(files['game'], files['english'])[2])
+            saved.unlink()
             self.assertEqual(self.browser.run('return forgotten'), due)
             self.press('Back to Check')
 
@@ -440,7 +441,7 @@ class Streaming(PageTest):
 
     def test_the_file_is_asked_for_at_the_click(self) -> None:
         self.begin()
-        self.browser.wait('#panel-script .say.good', 'all match')
+        self.browser.wait('#panel-script .say.good', 'patches match')
         script = f'{BUTTON.replace("return", "const it =", 1)}; it.click(); return chosen.asked'
         self.assertEqual(self.browser.run(script, 'Apply and save'), 1)
 

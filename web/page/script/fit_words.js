@@ -73,20 +73,21 @@ function whyNot(fit) {
  */
 export function fitWords(name, image, fit) {
     const { all, refused: { length: left }, named, namedRefused, already } = fit;
-    const parts = { script: name === '' ? texts.scriptTheScript : nameOf(name), image: nameOf(image) };
+    const [parts, within] = [texts.scriptTheScript, texts.scriptWithinSentence]
+        .map(unnamed => ({ script: name === '' ? unnamed : nameOf(name), image: nameOf(image) }));
     if (all === 0) return { tone: 'plain', head: say(texts.scriptHasNoChange, parts), rest: [texts.scriptWouldBeCopy] };
     if (already) {
         return { tone: 'good', head: say(texts.scriptIsPatchedAlready, { image: parts.image }),
-            rest: say(texts.scriptChangesStandThere, { script: parts.script, n: all }) };
+            rest: say(texts.scriptChangesStandThere, { script: within.script, n: all }) };
     }
     if (left === all) return { tone: 'bad', head: say(texts.scriptNoChangeFits, { ...parts, n: all }), rest: [whyNot(fit)] };
     const without = left === 0 ? [] : [whyNot(fit), format(texts.scriptSavedWithout, { n: left })];
     if (named === 0) {
-        return { tone: 'warn', head: say(texts.scriptNothingShowsFit, { ...parts, n: all }),
+        return { tone: 'warn', head: say(texts.scriptNothingShowsFit, { ...within, n: all }),
             rest: [[format(texts.scriptNamesNone, { n: all }), ...without].join(' ')] };
     }
     if (!isShownToFit(fit)) {
-        return { tone: 'bad', head: say(texts.scriptNoNamedFits, { ...parts, n: named }),
+        return { tone: 'bad', head: say(texts.scriptNoNamedFits, { ...within, n: named }),
             rest: [`${whyNot(fit)} ${format(texts.scriptOthersNameNone, { n: all - named })}`] };
     }
     const fitting = named - namedRefused;

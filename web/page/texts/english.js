@@ -822,6 +822,7 @@ export const scriptNothingSavedOpenAgain = 'Nothing was saved. Open it again.';
 
 // how the script matches the image
 export const scriptTheScript = 'The script';
+export const scriptWithinSentence = 'the script';
 export const scriptHasNoChange = '{script} has no patches.';
 export const scriptWouldBeCopy = 'The saved image would be an unchanged copy.';
 export const scriptAllChangesFit = '{script}: {n} patch, which matches {image}.|{script}: {n} patches, which all match {image}.';
