@@ -252,6 +252,15 @@ class Chromium:
     def click(self, css: str) -> None:
         self.click_found('document.querySelector(given[0])', css)
 
+    def touch(self, at: Sequence[float]) -> None:
+        """Touches a point with a finger."""
+        self.cdp('Input.dispatchTouchEvent', type='touchStart', touchPoints=[{'x': at[0], 'y': at[1]}])
+        self.cdp('Input.dispatchTouchEvent', type='touchEnd', touchPoints=[])
+
+    def tap(self, css: str) -> None:
+        """Taps the first matching element with a finger."""
+        self.touch(self.point('document.querySelector(given[0])', css))
+
     def focus(self, css: str) -> None:
         """Focuses the first matching element as soon as it is visible, and selects all of its text."""
         focused = '(it => it?.checkVisibility() ? (it.focus(), it.select?.(), true) : false)(document.querySelector(given[0]))'

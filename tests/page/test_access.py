@@ -6,7 +6,7 @@ from collections.abc import Callable
 import discs
 from common import waited
 from keys import Keys
-from pages import BUTTON, HELD
+from pages import BUTTON, HELD, UNSEEN
 from states import States
 
 # The element that has the focus, by its name for screen readers.
@@ -18,6 +18,10 @@ BESIDE = '''const { bottom } = document.querySelector('[data-aim=play]').getBoun
     scrollBy(0, bottom - note.getBoundingClientRect().top + 20);
     const { left, top } = document.querySelector('[data-aim=play]').getBoundingClientRect();
     return [left + 40, top + 20]'''
+
+
+# How far the first matching element is below the top of the window, in whole pixels.
+TOP = 'return Math.round(document.querySelector(arguments[0]).getBoundingClientRect().top)'
 
 
 class Access(States):
@@ -148,9 +152,19 @@ class Access(States):
         browser.run('globalThis.asked = 0; HTMLInputElement.prototype.click = () => { asked += 1; }')
         browser.size(360, 740)
         browser.click('[popovertarget=about]')
-        x, y = browser.run(BESIDE)
+        beside = browser.run(BESIDE)
         for asked in (0, 1):
-            browser.cdp('Input.dispatchTouchEvent', type='touchStart', touchPoints=[{'x': x, 'y': y}])
-            browser.cdp('Input.dispatchTouchEvent', type='touchEnd', touchPoints=[])
+            browser.touch(beside)
             waited(lambda: not browser.run('return document.querySelector(":popover-open") !== null'), 'the note stays')
             waited(lambda: browser.run('return asked') == asked, f'the job is pressed, and not {asked} times')
+
+    def test_a_panel_begins_at_its_top_on_a_phone(self) -> None:
+        browser = self.browser
+        self.to_disc_replaced()
+        browser.size(360, 740)
+        self.press('Open Script')
+        self.assertIn(browser.run(TOP, '#panel-script'), range(370))
+        self.find()
+        self.press('Open the sector')
+        self.wait_for_focus('.hex')
+        self.assertLessEqual(browser.run(UNSEEN, '.hex i.at'), 0)

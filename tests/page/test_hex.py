@@ -4,7 +4,7 @@ import chromium
 import discs
 from common import SECTOR_SIZE, damaged, waited
 from keys import Keys
-from pages import CLIPBOARD, PageTest
+from pages import CLIPBOARD, UNSEEN, PageTest
 
 
 # The number of rows that the tools of a sector occupy, and the number of tools.
@@ -93,7 +93,7 @@ class Hex(PageTest):
         self.paste('Ok')
         browser.wait('#panel-disc .foot', 'These are not pairs of hexadecimal digits.')
         self.paste('00' * 2039)
-        browser.wait('#panel-disc .foot', 'You are pasting 2,039 bytes, but there is room for only 2038 here')
+        browser.wait('#panel-disc .foot', 'These are 2,039 bytes, but there is room for only 2038 here')
         browser.press('t')
         self.paste('é')
         browser.wait('#panel-disc .foot .bad-ink', 'é')
@@ -152,3 +152,30 @@ class Hex(PageTest):
         self.assertEqual(browser.run(rows), ['0', '16', '32', '48'])
         browser.run("[...document.querySelectorAll('#panel-disc header button')].find(it => it.innerText === 'Show hex offsets').click()")
         self.assertEqual(browser.run(rows), ['000', '010', '020', '030'])
+
+    def test_a_finger_changes_bytes_in_a_field(self) -> None:
+        image = discs.game()
+        old = image[60 * SECTOR_SIZE + 16:]
+        browser = self.sector_of(60, image)
+        self.assertEqual(browser.text('.byte-field'), '')
+        browser.size(360, 740)
+        browser.tap('#byte-18')
+        browser.wait('.byte-field', 'New bytes from offset 2 on, in hex')
+        self.assertLessEqual(browser.run(UNSEEN, '#new-bytes'), 0)
+        for text, says in (('c', 'These are not pairs of hexadecimal digits.'), ('c0 ff', 'offset 4')):
+            browser.tap('#new-bytes')
+            self.wait_for_focus('#new-bytes')
+            browser.type('#new-bytes', text)
+            browser.press(Keys.ENTER)
+            browser.wait('#panel-disc .foot', says)
+        self.assertEqual(browser.run('return document.querySelector("#new-bytes").value'), '')
+        browser.tap('.hex .t [data-at="20"]')
+        browser.wait('.byte-field', 'New text from offset 4 on')
+        browser.type('#new-bytes', 'Ok')
+        self.press('Change')
+        browser.wait('#announced', f'In the script: set 60 2 C0FF4F6B was {old[2:6].hex().upper()}')
+        self.press('Undo')
+        browser.wait('#announced', 'The last typed bytes were undone.')
+        self.is_gone('#count-script')
+        browser.tap('#byte-3')
+        self.is_gone('.byte-field')

@@ -117,3 +117,11 @@ class Layout(PageTest):
             map_left, button_left = self.browser.run(lefts)
             self.assertEqual([map_left > 40, button_left > 40], [ruled, ruled], [map_left, button_left])
             self.assertEqual(self.browser.run('return document.querySelectorAll(".ruler span").length > 1'), ruled)
+
+    def test_a_finger_finds_the_page_beside_what_it_scrolls(self) -> None:
+        self.begin(discs.game())
+        self.browser.wait('#sector-title', 'block')
+        heights = """return ['.sector .hex', '#findings .scroll'].map(css => document.querySelector(css).clientHeight / innerHeight)"""
+        self.browser.size(360, 400)
+        for height in self.browser.run(heights):
+            self.assertLess(height, 0.61)

@@ -48,6 +48,18 @@ class Messages(PageTest):
         self.press('Replace all')
         self.is_seen('[aria-label=Replace] .say.warn', 'is damaged: repair it first')
 
+    def test_a_text_that_was_replaced_on_a_phone_is_said_and_undone(self) -> None:
+        self.browser.size(360, 740)
+        self.search(discs.game())
+        self.press('Replace')
+        self.is_seen('[aria-label=Replace] .say.good', 'Added to the script as line 2.')
+        self.browser.wait('[aria-label=Replace]', 'hit 2 of 5')
+        self.press('Undo')
+        self.is_seen('[aria-label=Replace] .say', 'The script is as it was before.')
+        self.browser.wait('[aria-label=Replace]', 'hit 1 of 5')
+        self.wait_for_focus('#new-text')
+        self.is_gone('#count-script')
+
     def test_an_undo_script_is_said_in_its_card(self) -> None:
         files = discs.written(game=discs.game(), english=discs.script())
         self.browser.size(360)

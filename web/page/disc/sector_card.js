@@ -8,6 +8,7 @@ import { bindEncodings, chosenEncoding, encodingLabel } from '../text/index.js';
 import * as texts from '../texts/index.js';
 import { format, say } from '../texts/index.js';
 import { button, copyButton, element, fill, keysIn, nameOf, oneTabStop, showFailure, term } from '../ui/index.js';
+import { ByteField } from './byte_field.js';
 import { crossingsOf } from './crossings.js';
 import { USER_END, byteWords, digitsOf, placeName } from './hex_lines.js';
 import { HexView } from './hex_view.js';
@@ -34,6 +35,8 @@ export class SectorCard {
         this.view = new HexView((at, event) => this.edit.pressed(this.view, at, event));
         this.view.hex.addEventListener('moved', () => { this.copied = ''; });
         this.edit.bind(this.view);
+        this.field = new ByteField(this.edit);
+        this.view.hex.addEventListener('click', () => this.field.part.scrollIntoView({ block: 'nearest' }));
         this.view.hex.addEventListener('copy', () => this.sayCopied());
         this.title = element('h2', { id: 'sector-title' });
         this.message = element('div');
@@ -47,7 +50,7 @@ export class SectorCard {
         this.noBlock = element('div');
         this.choice = element('select', { class: 'slim' });
         bindEncodings(app, this.choice, ({ hasCharacters }) => hasCharacters);
-        this.body = element('div', {}, this.message, this.fields, this.keys, this.view.part, copies, this.foot);
+        this.body = element('div', {}, this.message, this.fields, this.keys, this.view.part, copies, this.field.part, this.foot);
         this.empty = element('p', { class: 'pad quiet' }, ...say(texts.sectorHowToOpenSector,
             { tab: element('kbd', {}, texts.sectorTabKey), enter: element('kbd', {}, texts.sectorEnterKey) }));
         this.part = element('section', { class: 'card', 'aria-labelledby': 'sector-title' },
@@ -197,6 +200,7 @@ export class SectorCard {
             parts.push(element('b', {}, format(texts.sectorInSecondImage, { digits: digitsOf(shown.other[at]) })));
         }
         this.drawKeys(isUser);
+        this.field.draw(view, isUser);
         const hint = isUser ? `${texts.sectorChangeIsLine}${this.damageHint()}`
             : shown.mode1 ? texts.sectorEdcFollowsFromData : texts.sectorOnlyModeOneChanges;
         fill(this.foot, fault !== '' && element('b', { class: 'bad-ink' }, fault), ...parts, element('span', {}, hint));

@@ -46,8 +46,16 @@ export class SectorEdit {
         view.hex.addEventListener('paste', event => {
             const text = event.clipboardData ? event.clipboardData.getData('text/plain') : '';
             event.preventDefault();
-            this.write(() => view.column === 'text' ? this.encoded(text) : pastedBytes(text));
+            this.enter(text);
         });
+    }
+
+    /**
+     * Writes text that was entered at once: in the column of digits as hexadecimal digits.
+     * @param {string} text
+     */
+    enter(text) {
+        this.write(() => this.view?.column === 'text' ? this.encoded(text) : pastedBytes(text));
     }
 
     /** Discards the typed digit and the message, which belong to the byte that was chosen before. */

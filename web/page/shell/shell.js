@@ -11,25 +11,28 @@ export function mountFrame(app) {
     oneTabStop(byId('tabs'), '[role=tab]', tab => app.showPanel(panelOfTab(tab)));
     for (const name of PANELS) byId(`tab-${name}`).addEventListener('click', () => app.showPanel(name));
     const frame = { started: false, panel: app.panel };
-    app.on('panel', () => panelComes(app, frame));
     app.on('saved', () => {
         endSavingNotices();
         noteLongJob(SAVING, null);
     });
     app.on('closed', () => { frame.started = false; });
     for (const name of /** @type {const} */ (['panel', 'image'])) app.on(name, () => showPanels(app, frame));
+    app.on('panel', () => panelComes(app, frame));
     byId('home').addEventListener('click', () => app.showPanel('disc'));
     document.addEventListener('keydown', pressed);
 }
 
 /**
- * Removes the messages of a panel that is no longer shown.
+ * Removes the messages of the previous panel, and scrolls to the top of the new one unless that is in view.
  * @param {App} app
  * @param {{ panel: PanelName }} frame
  */
 function panelComes({ panel }, frame) {
-    if (panel !== frame.panel) endMessages();
+    if (panel === frame.panel) return;
     frame.panel = panel;
+    endMessages();
+    const part = byId(`panel-${panel}`);
+    if (part.getBoundingClientRect().top < 0) part.scrollIntoView();
 }
 
 /**

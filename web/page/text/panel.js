@@ -47,7 +47,8 @@ class TextPanel {
             this.choose(index);
         });
         this.replace = new ReplaceCard(app, { add: (hit, fresh, old) => this.alone(() => this.add(hit, fresh, old)),
-            addAll: (fresh, byte) => this.alone(() => this.addAll(fresh, byte)), skip: () => this.next() });
+            addAll: (fresh, byte) => this.alone(() => this.addAll(fresh, byte)), skip: () => this.next(),
+            choose: index => this.choose(index) });
         this.around = new AroundCard(app);
         this.texts = new TextsTable(app);
         this.results = element('div', { class: 'two even', hidden: true }, element('div', { class: 'side' }, this.hits.card),
@@ -64,6 +65,7 @@ class TextPanel {
             this.search.end();
             this.forget();
         });
+        app.on('script', () => fill(this.replace.message));
         app.on('encoding', () => {
             this.drawAsked();
             this.replace.draw();
@@ -236,9 +238,9 @@ class TextPanel {
         if (found === null) return;
         try {
             app.addLines(textLines(await replaceBytes(app.calls, found.image, hit, old, fresh)));
-            announce(texts.textAddedToScript);
-            fill(this.replace.message);
-            await this.next();
+            const { left, line } = this.writtenOf(hit, found);
+            const head = line > 0 ? format(texts.textAddedAsLine, { line: String(line) }) : texts.textAddedToScript;
+            await this.replace.changed(notice('good', head, left === 0 && `${texts.textAllHitsInScript} ${texts.textCheckToTest}`));
         } catch (error) {
             showMessageAt(this.replace.message, notice('bad', texts.discNothingAdded, sentence(error)));
         }
@@ -261,12 +263,12 @@ class TextPanel {
                 return linesForAll(app, image.opened, places, size => filledUp(fresh, size, filling), { signal, progress: bar.things });
             });
             if (app.image !== image || this.found !== found) return;
-            if (lines.length > 0) app.addLines(lines);
-            await this.next();
             const rest = left.length === 0 ? texts.textCheckToTest
                 : format(texts.textHitsLeft, { n: left.length, why: left.slice(0, 5).join('; ') + (left.length > 5 ? '; …' : '.') });
-            const tone = left.length > 0 ? 'warn' : 'good';
-            showMessageAt(this.replace.message, notice(tone, format(texts.discLinesAdded, { n: lines.length }), rest));
+            const words = notice(left.length > 0 ? 'warn' : 'good', format(texts.discLinesAdded, { n: lines.length }), rest);
+            if (lines.length === 0) return void showMessageAt(this.replace.message, words);
+            app.addLines(lines);
+            await this.replace.changed(words);
         } catch (error) {
             const rest = texts.discNothingAdded;
             if (app.image === image) showMessageAt(this.replace.message, isCancelled(error) ? notice('plain', texts.discJobCancelled, rest)

@@ -24,7 +24,7 @@ import { gauge, sizeWords } from './length.js';
  */
 /**
  * @typedef {{ add: (hit: Hit, fresh: Uint8Array, old: Uint8Array) => void, addAll: (fresh: Uint8Array, fill: Uint8Array | null) => void,
- *     skip: () => void }} ReplaceOwner
+ *     skip: () => Promise<void>, choose: (index: number) => Promise<void> }} ReplaceOwner
  */
 
 const SPACES = { '': '', space: texts.textSpaceFill, 'wide-space': texts.textWideSpaceFill };
@@ -189,12 +189,29 @@ export class ReplaceCard {
         const line = this.rewritten(target, filled);
         if (line === '') return this.owner.add(target.hit, filled, target.old);
         this.app.replaceLine(target.line, line);
-        this.owner.skip();
-        showMessageAt(this.message, notice('good', format(texts.textLineUpdated, { line: String(target.line) })));
+        return void this.changed(notice('good', format(texts.textLineUpdated, { line: String(target.line) })));
     }
 
     addAll() {
         if (!isDisabled(this.all)) this.owner.addAll(this.fresh().bytes, this.filling());
+    }
+
+    /**
+     * Goes to the next hit after a change of the script, and reports the change there, with a button that undoes it. A script that is too
+     * long to be shown has no undo.
+     * @param {HTMLElement} words
+     */
+    async changed(words) {
+        const { app, owner, target } = this;
+        const undo = async () => {
+            app.changeScript(script => script.undo());
+            if (target !== null) await owner.choose(target.number - 1);
+            showMessageAt(this.message, notice('plain', texts.textAsBefore));
+            this.input.focus();
+        };
+        if (!app.script.long) words.append(element('div', { class: 'row' }, button('slim', () => void undo(), texts.undo)));
+        await owner.skip();
+        showMessageAt(this.message, words);
     }
 }
 

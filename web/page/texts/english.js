@@ -14,6 +14,7 @@ export const copy = 'Copy';
 export const copied = 'Copied';
 export const notCopied = 'Not copied';
 export const copyCommand = 'Copy the command';
+export const undo = 'Undo';
 export const theRowsOf = ' the rows: {title}';
 
 // names, and the progress of a job
@@ -549,8 +550,13 @@ export const sectorInTheScript = 'In the script: {line}';
 export const sectorBytesTakenBack = 'The last typed bytes were undone.';
 export const sectorNotTypedHere = 'The last change to the script was not typed here.';
 export const sectorOnlyUserDataTyped = 'Only the user data of Mode 1 sectors can be edited.';
-export const sectorTooManyBytes = 'You are pasting {n} bytes, but there is room for only {room} here in the user data of this sector.';
-export const sectorNoHexDigits = 'These are not pairs of hexadecimal digits. Press T to paste as text.';
+export const sectorTooManyBytes = 'These are {n} bytes, but there is room for only {room} here in the user data of this sector.';
+export const sectorNoHexDigits = 'These are not pairs of hexadecimal digits. To enter text, first press T or select a character beside ' +
+    'the bytes.';
+// the field on a touch screen
+export const sectorNewBytesFrom = 'New bytes from {place} on, in hex';
+export const sectorNewTextFrom = 'New text from {place} on';
+export const sectorChangeBytes = 'Change';
 
 // ---- text: finding and replacing
 
@@ -632,7 +638,9 @@ export const textReplaceOthers = 'Replace the other {n}';
 export const textSkipHit = 'Skip ▸';
 export const textReplacesAndNext = '{key} replaces and goes to the next hit.';
 export const textAddedToScript = 'Added to the script.';
+export const textAddedAsLine = 'Added to the script as line {line}.';
 export const textLineUpdated = 'Line {line} is updated.';
+export const textAsBefore = 'The script is as it was before.';
 export const textMakingOfHits = 'hits';
 export const textHitsLeft = '{n} hit not replaced: {why}|{n} hits not replaced: {why}';
 export const textAllHitsInScript = 'All hits are in the script.';
