@@ -5,6 +5,7 @@ import discs
 from chromium import WIDTHS
 from keys import Keys
 from pages import CLIPBOARD, GATE, UNSEEN, PageTest
+from states import spoken_texts, with_new
 
 # The numbers of the words with a note that are visible now, among all such words.
 WORDS = '''return [...document.querySelectorAll('.term')].flatMap((it, i) => it.checkVisibility() && !it.closest('[popover]') ? i : [])'''
@@ -59,6 +60,16 @@ class Messages(PageTest):
         self.browser.wait('[aria-label=Replace]', 'hit 1 of 5')
         self.wait_for_focus('#new-text')
         self.is_gone('#count-script')
+
+    def test_an_undo_ends_with_the_next_change_of_the_script(self) -> None:
+        self.search(spoken_texts())
+        self.press('Replace')
+        self.browser.wait('[aria-label=Replace] .say', 'Undo')
+        table = common.folder('table') / 'texts.tsv'
+        table.write_text(with_new(common.cdscript_prints('texts', discs.written(texts=spoken_texts())['texts']), {3: 'Save?'}))
+        self.browser.give('#panel-text input[accept^=".tsv"]', [table])
+        self.browser.wait('#panel-text .say.good', 'The translation fits.')
+        self.is_gone('[aria-label=Replace] .say.good')
 
     def test_an_undo_script_is_said_in_its_card(self) -> None:
         files = discs.written(game=discs.game(), english=discs.script())
