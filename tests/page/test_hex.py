@@ -157,7 +157,7 @@ class Hex(PageTest):
         image = discs.game()
         old = image[60 * SECTOR_SIZE + 16:]
         browser = self.sector_of(60, image)
-        self.assertEqual(browser.text('.byte-field'), '')
+        self.is_gone('.byte-field')
         browser.size(360, 740)
         browser.tap('#byte-18')
         browser.wait('.byte-field', 'New bytes from offset 2 on, in hex')
@@ -168,6 +168,7 @@ class Hex(PageTest):
             browser.type('#new-bytes', text)
             browser.press(Keys.ENTER)
             browser.wait('#panel-disc .foot', says)
+            self.assertLessEqual(browser.run(UNSEEN, '#panel-disc .foot :first-child'), 0, says)
         self.assertEqual(browser.run('return document.querySelector("#new-bytes").value'), '')
         browser.tap('.hex .t [data-at="20"]')
         browser.wait('.byte-field', 'New text from offset 4 on')

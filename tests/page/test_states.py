@@ -60,21 +60,13 @@ FAINT = '''const part = value => value <= 0.04045 ? value / 12.92 : ((value + 0.
     }
     return found'''
 
-# Controls narrower or lower than 24 pixels, unless they are words in a line, or a circle of 24 pixels around each meets no other control.
+# Controls narrower or lower than 24 pixels. A checkbox is pressed by its label.
 SMALL = '''const within = document.querySelector('dialog[open], :popover-open') || document.body;
-    const seen = it => it.checkVisibility({ visibilityProperty: true }) && !it.closest('.hide') && it.getBoundingClientRect().width > 1;
-    const all = [...within.querySelectorAll('button, a[href], input, select, textarea, summary')].filter(seen);
-    const boxes = all.map(it => it.getBoundingClientRect()), middle = (from, to) => (from + to) / 2;
-    const isSmall = ({ width, height }) => width < 23.9 || height < 23.9;
-    const meets = (a, b) => {
-        const [x, y] = [middle(a.left, a.right), middle(a.top, a.bottom)];
-        if (isSmall(b) && Math.hypot(x - middle(b.left, b.right), y - middle(b.top, b.bottom)) < 24) return true;
-        return Math.hypot(x - Math.min(Math.max(x, b.left), b.right), y - Math.min(Math.max(y, b.top), b.bottom)) < 12;
-    };
-    const isWord = it => getComputedStyle(it).display.startsWith('inline') && it.matches('.term, .plain-link, .link') && it.parentElement.innerText.trim() !== it.innerText.trim();
-    const isApart = (one, i) => all.every((other, k) => k === i || other.contains(one) || one.contains(other) || !meets(boxes[i], boxes[k]));
-    return all.flatMap((it, i) => !isSmall(boxes[i]) || isWord(it) || isApart(it, i) ? []
-        : `${it.innerText.trim() || it.id}: ${boxes[i].width} x ${boxes[i].height}`)'''
+    const seen = it => it.checkVisibility({ visibilityProperty: true }) && !it.closest('.hide, .check') && it.getBoundingClientRect().width > 1;
+    return [...within.querySelectorAll('button, a[href], input, select, textarea, summary')].filter(seen).flatMap(it => {
+        const { width, height } = it.getBoundingClientRect();
+        return width < 23.9 || height < 23.9 ? `${it.innerText.trim() || it.id}: ${width} x ${height}` : [];
+    })'''
 
 # In forced colours, the chosen controls and rows that look like one beside them, and the signs without a colour of their own.
 ALIKE = '''const seen = it => it.checkVisibility();

@@ -9,9 +9,13 @@ import { placeName } from './hex_lines.js';
 /** @typedef {import('./sector_edit.js').SectorEdit} SectorEdit */
 
 export class ByteField {
-    /** @param {SectorEdit} edit */
-    constructor(edit) {
+    /**
+     * @param {SectorEdit} edit
+     * @param {HTMLElement} foot which shows why bytes were not accepted
+     */
+    constructor(edit, foot) {
         this.edit = edit;
+        this.foot = foot;
         this.label = element('label', { for: 'new-bytes' });
         this.input = element('input', { type: 'text', id: 'new-bytes', class: 'mono', autocomplete: 'off', autocapitalize: 'off',
             spellcheck: 'false' });
@@ -39,6 +43,7 @@ export class ByteField {
         event.preventDefault();
         this.edit.enter(this.input.value);
         if (this.edit.fault === '') this.input.value = '';
+        else this.foot.scrollIntoView({ block: 'nearest' });
     }
 
     takeBack() {

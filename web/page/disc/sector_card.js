@@ -35,14 +35,14 @@ export class SectorCard {
         this.view = new HexView((at, event) => this.edit.pressed(this.view, at, event));
         this.view.hex.addEventListener('moved', () => { this.copied = ''; });
         this.edit.bind(this.view);
-        this.field = new ByteField(this.edit);
+        this.foot = element('p', { class: 'foot', 'aria-live': 'polite' });
+        this.field = new ByteField(this.edit, this.foot);
         this.view.hex.addEventListener('click', () => this.field.part.scrollIntoView({ block: 'nearest' }));
         this.view.hex.addEventListener('copy', () => this.sayCopied());
         this.title = element('h2', { id: 'sector-title' });
         this.message = element('div');
         this.fields = element('div', { class: 'fields', role: 'group', 'aria-label': texts.sectorPressFieldToGo });
         this.keys = element('p', { class: 'small quiet keys-line if-mouse' });
-        this.foot = element('p', { class: 'foot', 'aria-live': 'polite' });
         const copies = element('div', { class: 'row copies' }, copyButton('slim bare tiny', () => this.edit.selectedHex(),
             texts.sectorCopyAsHex),
             copyButton('slim bare tiny', () => this.edit.selectedText(), texts.sectorCopyAsText));
