@@ -168,7 +168,7 @@ class Hex(PageTest):
             browser.type('#new-bytes', text)
             browser.press(Keys.ENTER)
             browser.wait('#panel-disc .foot', says)
-            self.assertLessEqual(browser.run(UNSEEN, '#panel-disc .foot :first-child'), 0, says)
+            self.assertLessEqual(browser.run(UNSEEN, '.byte-field + .foot > :first-child'), 0, says)
         self.assertEqual(browser.run('return document.querySelector("#new-bytes").value'), '')
         browser.tap('.hex .t [data-at="20"]')
         browser.wait('.byte-field', 'New text from offset 4 on')
