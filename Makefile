@@ -1,6 +1,6 @@
 # What `make` can do: `make help` prints the targets, which are the lines with ## here.
 .PHONY: program
-.PHONY: all help try check quick test test-outside must-fail mutants fuzz bench wasm web pages english design map contracts audit clean
+.PHONY: all help try check quick test test-outside must-fail mutants fuzz bench wasm web pages english design version map contracts audit clean
 
 # Goals come one after the other, as they are given. Crates are proved side by side, at most as many as `make -j N` says.
 .NOTPARALLEL:
@@ -120,6 +120,9 @@ bench:                      ## build what counts instructions
 pages:                      ## make anew what the man pages and the README repeat of cdpatch.h and of help
 	@python3 -B tools/header_pages.py make
 	@python3 -B tools/options.py pages ./cdpatch ./cdscript
+
+version:                    ## put the version of CHANGELOG.md into every file that repeats it
+	@python3 -B tools/version.py
 
 # By hand before a release. Not every place that it prints is wrong.
 english:                    ## list phrases in pages, help, and the page's texts that are rarely good English

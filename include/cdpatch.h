@@ -46,7 +46,7 @@ extern "C" {
 /** The version of this header as text. */
 #define CDPATCH_VERSION "1.4.0"
 /** The same as a number: 10000 times its first number, plus 100 times its second, plus its third. */
-#define CDPATCH_VERSION_NUMBER 10300
+#define CDPATCH_VERSION_NUMBER 10400
 
 /** Sizes in bytes: a sector, its user data, an address, the longest patch, a line of text, and a SHA-1. The number of sectors that the hand
  * of a run needs, and the P columns and Q diagonals of a sector. The most sectors of an image, the most bytes and patches of a script, the

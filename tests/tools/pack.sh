@@ -261,7 +261,7 @@ test_release() {
     unfit 'there is no LICENSE' rm LICENSE
     unfit 'README.md says that there is no licence, or no release' sed -i '1s/$/ No licence has been chosen yet./' README.md
     unfit 'debian/copyright says that there is no licence, or no release' sed -i '1s/$/ no licence has been chosen yet/' debian/copyright
-    unfit "debian/changelog is not of version $version" sed -i '1s/([0-9.]*-/(1.2.3-/' debian/changelog
+    unfit "the first entry of debian/changelog is not of version" sed -i '1s/([0-9.]*-/(1.2.3-/' debian/changelog
     unfit 'CHANGELOG.md, is not of version 9.9.9' sed -i '0,/^## [0-9.]* /s//## 9.9.9 /' CHANGELOG.md
     unfit "is not of version $version with a date" sed -i '0,/^## [0-9.]* .*/s//## '"$version"' (soon)/' CHANGELOG.md
     unfit "is not of version $version with a date" sed -i '0,/^## /s//## Unreleased\n\n&/' CHANGELOG.md
