@@ -41,11 +41,11 @@ class TextsTable(PageTest):
         self.assertGreater(len(saved.splitlines()), len(SENTENCES))
         self.assertEqual(self.browser.attempts(), [])
 
-    def test_text_that_is_only_ascii_is_listed_with_its_table_as_is_said_beside_the_buttons(self) -> None:
+    def test_plain_ascii_text_is_listed_only_with_its_table_as_is_said_beside_the_buttons(self) -> None:
         ascii_text = b'Start of the game'
         image = self.begin(spoken_texts())
         self.assertIn(ascii_text, image.read_bytes())
-        self.browser.wait('#panel-text .texts-table + p', 'Text that is only ASCII is listed if a .tbl file with its letters is chosen.')
+        self.browser.wait('#panel-text .texts-table + p', 'Plain ASCII text is listed only if a .tbl file with its letters is chosen.')
         self.press('Export a table')
         saved = self.browser.downloaded('game (texts).csv')
         self.assertNotIn(ascii_text, common.waited(saved.read_bytes, 'the table is empty'))

@@ -653,8 +653,8 @@ export const textOpenTheSector = 'Open the sector';
 
 // all texts of the disc
 export const textAllTextsAsTable = 'All text on the disc, with the translations in the script:';
-export const textHowRecognised = 'Text is recognised by its Japanese characters, or by those of the chosen encoding. Text that is only ' +
-    'ASCII is listed if a .tbl file with its letters is chosen.';
+export const textHowRecognised = 'Text is recognised by its Japanese characters, or by those of the chosen encoding. Plain ASCII ' +
+    'text is listed only if a .tbl file with its letters is chosen.';
 export const textExportTexts = 'Export a table…';
 export const textExportPo = 'Export PO…';
 export const textLookingForTexts = 'Looking for text';
