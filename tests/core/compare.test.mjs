@@ -318,3 +318,13 @@ test('lines that the module does not take, or that give other sectors, are not g
     }
     assert.ok(diffRange(calls, old, fresh, BASE).text.length > 0);
 });
+
+test('in a Mode 2 sector the bytes are counted by the fields of its form', () => {
+    for (const [submode, edc] of [[0x08, 2072], [0x28, 2348]]) {
+        const fresh = new Uint8Array(RAW).fill(0x11);
+        fresh.set([0, ...new Array(10).fill(0xFF), 0, 0, 2, 0, 2, 0, 0, submode, 0, 0, 0, submode, 0]);
+        const old = fresh.slice();
+        for (const at of [13, 19, 100, 2000, edc, edc + 3, ...edc < 2348 ? [2076, 2351] : []]) old[at] ^= 1;
+        assert.deepEqual([...differRange(calls, old, fresh, BASE).fields], [0, 1, 3, 2, 0, edc < 2348 ? 2 : 0]);
+    }
+});

@@ -131,7 +131,7 @@ test('of sound sectors that differ that one is taken whose EDC stands in the dam
     for (const i of [1, 2, 3, 4]) other.set(sound(BASE + i, new Uint8Array(2048).fill(i)), RAW * i);
     const one = await merged([old, other, image]);
     assert.deepEqual(blocksOf(one.taken), [1, 2, 3, 4].map(i => ({ block: BASE + i, other: Number(i < 4) })));
-    assert.deepEqual([one.doubtful, blocksOf(one.disputed).length], [[], 4]);
+    assert.deepEqual([blocksOf(one.doubtful), blocksOf(one.disputed).length], [[{ block: BASE + 4, other: 0 }], 4]);
     const odd = await merged([old, other]);
     assert.deepEqual(blocksOf(odd.doubtful), [1, 2, 3].map(i => ({ block: BASE + i, other: 0 })));
     assert.deepEqual((await merged([old, image])).doubtful, []);

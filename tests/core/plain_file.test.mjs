@@ -122,7 +122,7 @@ test('the new texts of an earlier list of a file are exported again', async () =
     const list = { name: 'list', reader: readerOf(encoded(`block\toffset\ttext\tnew\n-\t2100\t${text}\tStart\n`)) };
     const { news } = await newTextsOf([list]);
     assert.deepEqual((await rowsOf(bytes, { freshOf: it => news.of(it) })).map(row => row.slice(6)), [[text, 'Start']]);
-    assert.equal(news.missing, 0);
+    assert.equal(news.unused.size, 0);
 });
 
 test('the rows of a file do not fit an image', async () => {

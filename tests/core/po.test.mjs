@@ -241,7 +241,7 @@ test('the new texts of a list are exported again, in each form, and those that b
     for (const form of ['tsv', 'csv', 'po']) {
         const { news } = await newTextsOf([fileOf(list)]);
         const again = await exported(file, { form, freshOf: it => news.of(it) });
-        assert.equal(news.missing, 2);
+        assert.equal(news.unused.size, 2);
         const { rows } = await rowsOfLists([fileOf(again)]);
         // In a PO file the other place of a text has the new text too.
         assert.deepEqual(rows.map(({ offset, fresh }) => [offset, fresh]),
@@ -250,7 +250,7 @@ test('the new texts of a list are exported again, in each form, and those that b
     const plural = entry([': -+100'], old).replace('msgstr "b"', 'msgid_plural "x"\nmsgstr[0] "b"\nmsgstr[1] "c"');
     const { news } = await newTextsOf([fileOf(plural)]);
     assert.equal((await exported(file, { freshOf: it => news.of(it) })).includes('bc'), false);
-    assert.equal(news.missing, 1);
+    assert.equal(news.unused.size, 1);
 });
 
 test('an entry changes all its places, each in its encoding, and no byte after an old text', async () => {
@@ -264,6 +264,21 @@ test('an entry changes all its places, each in its encoding, and no byte after a
     const entryOf = room => entry([`. room ${room} bytes, CP932`, ': -+100'], wide, 'The');
     const small = await importIntoFile(file, { lists: [fileOf(entryOf(4))], encodings: SEARCHED, isAsked: false, partial: false });
     assert.deepEqual(small.changes.map(({ bytes }) => bytes.length), [30]);
+});
+
+test('a row of a record is padded by its fill, also if another list repeats it without one', async () => {
+    const file = plainFile(100, 'a.bin', [10, 'Chimera wings']);
+    const [plain, padded, other] = [['23', ''], ['16', '{00}'], ['16', '{FF}']].map(([room, fill], i) => fileOf(
+        `block\toffset\troom\tfill\ttext\tnew\n-\t10\t${room}\t${fill}\tChimera wings\tWings\n`, `${i}.tsv`));
+    const made = async (...lists) => importIntoFile(file, { lists, encodings: SEARCHED, isAsked: false, partial: true });
+    for (const lists of [[plain, padded], [padded, plain]]) {
+        const { changes, left } = await made(...lists);
+        assert.deepEqual([left, changes.map(({ at, bytes }) => [at, new TextDecoder().decode(bytes)])], [[], [[10, 'Wings'.padEnd(13, '\0')]]]);
+    }
+    assert.deepEqual((await made(padded, other)).left.map(({ text, why }) => [text.list, why.code]), [['2.tsv', 'list/overlaps']]);
+    const { news } = await newTextsOf([padded]);
+    const again = [{ block: '-', offset: 10, text: 'Chimera wings' }, { block: '-', offset: 10, text: 'Chimera wings', fill: '{00}' }];
+    assert.deepEqual([...again.map(it => news.of(it)), news.records, news.unused.size], ['', 'Wings', 1, 0]);
 });
 
 test('several lists are one script, and overlaps name both rows', async () => {

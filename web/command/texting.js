@@ -4,7 +4,7 @@ import { wholeOf } from '../core/bytes.js';
 import { encodingOf, tableTextOf } from '../core/encodings/index.js';
 import { failedBy } from '../core/faults.js';
 import { exportRecords, exportTable, newTextsOf } from '../core/tasks/index.js';
-import { ownFault, sentenceOf } from '../sentences/index.js';
+import { ownFault, rowName, sentenceOf } from '../sentences/index.js';
 import { filesNamed } from './listing.js';
 import { entriesAtPath, sayNoVolume } from './looking.js';
 import { openTextsOf } from './plain_files.js';
@@ -82,6 +82,22 @@ function assertRecords({ every, length, in: paths = [], file }) {
     if (paths.length + Number(file !== undefined) !== 1) throw ownFault('--every needs one --in PATH, or --file FILE');
 }
 
+/**
+ * Reports the new texts of earlier lists that are not in this one.
+ * @param {Job} job
+ * @param {Awaited<ReturnType<typeof newTextsNamed>>} news
+ */
+function sayUnused(job, { unused, records }) {
+    if (records > 0) job.say(`new texts of records, which stay in their own list: ${records}`);
+    if (unused.size === 0) return;
+    const some = Array.from(unused, rowName).slice(0, MOST_NAMED);
+    job.say(`new texts that belong to no text here: ${unused.size} (${some.join(', ')}${unused.size > some.length ? ', …' : ''})`);
+    job.say('if the texts have moved, --po and msgmerge carry their translations over');
+}
+
+/** How many unused rows are named. */
+const MOST_NAMED = 5;
+
 /** @param {Job} job */
 export async function textsJob(job) {
     const { encoding, table: file, csv, po, lines, min: least, in: paths, list, every } = job.options;
@@ -102,6 +118,6 @@ export async function textsJob(job) {
     const texts = every === undefined ? await writeTable(target, exportTable(engine, opened, exported)) :
         await writeRecords(job, target, opened, { ...exported, encoding: own });
     job.say(`texts ${texts}`);
-    if (news && news.missing > 0) job.say(`new texts of ${list.join(' and ')} that do not belong to a text here: ${news.missing}`);
+    if (news) sayUnused(job, news);
     return Number(texts === 0);
 }

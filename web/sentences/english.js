@@ -63,8 +63,11 @@ function linesLeftOut({ lines }) {
         : `lines ${named} of the table have no meaning here, and are ignored`;
 }
 
-/** @param {import('../core/facts.js').RowName} row */
-function rowName({ list, unit, number, place }) {
+/**
+ * The name of a row of a list.
+ * @param {import('../core/facts.js').RowName} row
+ */
+export function rowName({ list, unit, number, place }) {
     return `${list === '' ? '' : `${list}: `}${unit} ${number}${place === '' ? '' : ` (${place})`}`;
 }
 

@@ -3,7 +3,7 @@
 import { readBytes, sameBytes } from '../bytes.js';
 import { RECORD, RECORD_SIZE, SECTOR_KIND, SECTOR_SIZE, sectorCount } from '../module/index.js';
 import { ScriptParts, baseComment, headLine, linesBetween, scriptForBase } from '../script/index.js';
-import { FIELDS, differingSectors, isSound, sectorOf, sectorsAt } from '../sectors/index.js';
+import { FIELDS, differingSectors, edcOfMode2, isSound, sectorOf, sectorsAt } from '../sectors/index.js';
 
 /** @typedef {import('../module/calls.js').Calls} Calls */
 /** @typedef {import('../bytes.js').Reader} Reader */
@@ -139,22 +139,38 @@ export const SECOND_STATE = Object.freeze({ SOUND: 0, DAMAGED: 1, NOT_MODE1: 2 }
  */
 export function differRange(calls, old, fresh, first) {
     const places = differingSectors(old, fresh);
-    const fields = places.flatMap(place => differingBytes(sectorOf(old, place), sectorOf(fresh, place)));
     const records = calls.survey(sectorsAt(fresh, places), 0);
+    const kindOf = (/** @type {number} */ i) => records[RECORD_SIZE * i + RECORD.KIND];
+    const fields = places.flatMap((place, i) => {
+        const [one, other] = [old, fresh].map(it => sectorOf(it, place));
+        return differingBytes(one, other, kindOf(i) === SECTOR_KIND.MODE2 ? fieldsOfMode2(other) : FIELDS);
+    });
     const states = places.map((_, i) => {
         if (isSound(records, RECORD_SIZE * i)) return SECOND_STATE.SOUND;
-        return records[RECORD_SIZE * i + RECORD.KIND] === SECTOR_KIND.MODE1 ? SECOND_STATE.DAMAGED : SECOND_STATE.NOT_MODE1;
+        return kindOf(i) === SECTOR_KIND.MODE1 ? SECOND_STATE.DAMAGED : SECOND_STATE.NOT_MODE1;
     });
     return { blocks: Uint32Array.from(places, place => first + place), fields: Uint16Array.from(fields), states: Uint8Array.from(states) };
+}
+
+/**
+ * The fields of a Mode 2 sector. Its user data begins with the subheader, and ends where its form has the EDC.
+ * @param {Uint8Array} sector
+ * @returns {Record<keyof typeof FIELDS, number>}
+ */
+function fieldsOfMode2(sector) {
+    const edc = edcOfMode2(sector);
+    const parity = edc + FIELDS.zeros - FIELDS.edc;
+    return { ...FIELDS, edc, zeros: parity, parity };
 }
 
 /**
  * Counts the differing bytes of two sectors in each field.
  * @param {Uint8Array} old
  * @param {Uint8Array} fresh
+ * @param {Record<keyof typeof FIELDS, number>} fields
  */
-function differingBytes(old, fresh) {
-    const starts = Object.values(FIELDS);
+function differingBytes(old, fresh, fields) {
+    const starts = Object.values(fields);
     return starts.map((start, i) => {
         let count = 0;
         for (let at = start; at < (starts[i + 1] || SECTOR_SIZE); at++) count += Number(old[at] !== fresh[at]);

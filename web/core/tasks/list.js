@@ -113,15 +113,39 @@ function assertHasPlace({ fileSize }, { block, offset, isInFile }) {
 }
 
 /**
- * Sorted rows without those that repeat the row before them: the lists of two translators may have the same rows.
+ * Sorted rows, of which those that repeat the row before them are joined to it: the lists of two translators may have the same rows.
  * @param {ListRow[]} sorted
  */
 export function withoutRepeats(sorted) {
-    return sorted.filter((row, i) => {
-        const before = sorted[i - 1];
-        const isPlace = i > 0 && row.block === before.block && row.offset === before.offset;
-        return !isPlace || row.text !== before.text || row.fresh !== before.fresh;
-    });
+    /** @type {ListRow[]} */
+    const rows = [];
+    for (const row of sorted) {
+        const before = rows[rows.length - 1];
+        if (before !== undefined && isRepeat(before, row)) rows[rows.length - 1] = joinedRow(before, row);
+        else rows.push(row);
+    }
+    return rows;
+}
+
+/**
+ * Whether two rows have the same place, texts, and filler, which only rows of records name.
+ * @param {ListRow} before
+ * @param {ListRow} row
+ */
+function isRepeat(before, row) {
+    const isPlace = row.block === before.block && row.offset === before.offset && row.isInFile === before.isInFile;
+    return isPlace && row.text === before.text && row.fresh === before.fresh && (row.fill === before.fill || !row.fill || !before.fill);
+}
+
+/**
+ * A row with what either of two rows names: the filler, and the smaller room.
+ * @param {ListRow} before
+ * @param {ListRow} row
+ * @returns {ListRow}
+ */
+function joinedRow(before, row) {
+    const rooms = [before.room, row.room].filter(room => room >= 0);
+    return { ...before, room: rooms.length > 0 ? Math.min(...rooms) : -1, fill: before.fill || row.fill, fault: before.fault || row.fault };
 }
 
 /**

@@ -12,11 +12,12 @@ import { isSound, isSoundMode2, runOf, sectorOf, sectorsAt, testMode2 } from '..
 /** @typedef {Run & { elsewhere: boolean }} DamagedRun `elsewhere` if an image has a sound sector with the address of a different block */
 /**
  * The findings of a repair, as runs of blocks. `taken`: blocks copied from one other image for each run. `doubtful`: those of them whose
- * damaged sector has a different EDC and different data. `damaged`: blocks that no image repairs. `alike`: those of them with the same
- * bytes in all images that have the block. `disputed`: taken blocks in which other images are also sound, but different. `differing`, for
- * each other image: blocks in which both are sound, but different. `different` is their number, and `same` the number of blocks with the
- * same bytes. `others`: blocks that are neither Mode 1 in any image nor sound, with their kinds in the first one. `filled`: those of them
- * that one byte fills there. `unlike`: those of them with different bytes in some image.
+ * damaged sector has a different EDC and different data, unless one byte fills it and nothing disputes the copy. `damaged`: blocks that no
+ * image repairs. `alike`: those of them with the same bytes in all images that have the block. `disputed`: taken blocks in which other
+ * images are also sound, but different. `differing`, for each other image: blocks in which both are sound, but different. `different` is
+ * their number, and `same` the number of blocks with the same bytes. `others`: blocks that are neither Mode 1 in any image nor sound, with
+ * their kinds in the first one. `filled`: those of them that one byte fills there. `unlike`: those of them with different bytes in some
+ * image.
  *
  * `mode2`: blocks that are Mode 2 in the repaired image. `unsound`: those of `others` that count as damaged if any image has sound Mode 2.
  * `sound`: how many blocks are sound Mode 2 in any image.
@@ -122,8 +123,9 @@ class RangeMerge {
         const { other, sector } = candidates[fits.indexOf(best)];
         this.sectors.push(sector);
         addToRuns(found.taken, { ...runOf(block), other });
-        if (best === 0 && !hasFilledUser(damaged)) addToRuns(found.doubtful, { ...runOf(block), other });
-        if (candidates.some(it => differingSectors(sector, it.sector).length > 0)) addToRuns(found.disputed, runOf(block));
+        const isDisputed = candidates.some(it => differingSectors(sector, it.sector).length > 0);
+        if (isDisputed) addToRuns(found.disputed, runOf(block));
+        if (best === 0 && (isDisputed || !hasFilledUser(damaged))) addToRuns(found.doubtful, { ...runOf(block), other });
         return other;
     }
 

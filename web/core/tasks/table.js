@@ -65,21 +65,26 @@ function stretchesIn(stretches, paths) {
 export class NewTexts {
     /** @param {ListRow[]} rows of which those that cannot be read as they were meant are not used */
     constructor(rows) {
-        const read = rows.filter(row => row.fault === null);
-        this.rows = new Map(read.map(row => [`${row.isInFile ? NO_BLOCK : row.block}+${row.offset}`, row]));
-        /** How many of the rows have not been used. */
-        this.missing = this.rows.size + rows.length - read.length;
+        /** @type {Map<string, ListRow>} */
+        this.rows = new Map();
+        for (const row of rows) if (row.fault === null) this.rows.set(`${row.isInFile ? NO_BLOCK : row.block}+${row.offset}`, row);
+        /** The rows that have not been used. */
+        this.unused = new Set([...rows.filter(row => row.fault !== null), ...this.rows.values()]);
+        /** How many rows of records met a text without a filler. They stay in their own list, since they would be padded differently. */
+        this.records = 0;
     }
 
     /**
      * The new text of a text, or ''.
      * @param {ListedText} listed
      */
-    of({ block, offset, text }) {
+    of({ block, offset, text, fill }) {
         const row = this.rows.get(`${block}+${offset}`);
         if (row === undefined || row.text !== text) return '';
-        this.missing -= 1;
-        return row.fresh;
+        this.unused.delete(row);
+        const isKept = row.fill !== '' && !fill;
+        this.records += Number(isKept);
+        return isKept ? '' : row.fresh;
     }
 }
 
