@@ -267,8 +267,8 @@ size_t cdpatch_run_begin(struct cdpatch_run run[CDPATCH_AT_LEAST 1], const uint8
  *
  * The script and the entries are those of cdpatch_run_begin. The hand, of at least three `sectors`, keeps its bytes between calls; the
  * rooms need not. More than three are not used today. Whatever bytes these have, the call returns. It writes END with CDPATCH_FAILED if
- * state or entries are not those of a run, or if there are fewer than three sectors. It also does if more bytes were moved than requested,
- * or fewer written or logged. */
+ * state or entries cannot be those of a run, or if there are fewer than three sectors. It also does if more bytes were moved than
+ * requested, or fewer written or logged. A state of zeros may be that of a finished run: call cdpatch_run_begin first. */
 void cdpatch_run_next(struct cdpatch_run run[CDPATCH_AT_LEAST 1], size_t done, const uint8_t *script, size_t script_size,
                       const struct cdpatch_entry *entries, size_t room, uint8_t *hand, size_t sectors,
                       struct cdpatch_rooms rooms[CDPATCH_AT_LEAST 1], struct cdpatch_step step[CDPATCH_AT_LEAST 1]);
