@@ -120,9 +120,9 @@ test('--json gives the name in the DAT, and is refused together with --resume', 
     const [size, sha1] = [image.length, tool('sha1sum', [], { input: image }).toString().slice(0, 40)];
     write(room, { 'mine.bin': image, 'a.zip': 'PK\x03\x04', 'x.dat': `<datafile><rom name="Game (Japan).bin" size="${size}" sha1="${sha1}"/></datafile>` });
     const { out } = runProcess(['scan', '--json', '--dat', 'x.dat', 'mine.bin', 'a.zip'], { cwd: room });
-    const objects = JSON.parse(tool('jq', ['-s', 'sort_by(.name) | map({name, kind, dat, damaged, sectors})'], { input: out }));
-    assert.deepEqual(objects, [{ name: 'a.zip', kind: 'archive', dat: { verdict: 'unknown', name: null, others: 0 }, damaged: null, sectors: null },
-        { name: 'mine.bin', kind: 'image', dat: { verdict: 'verified', name: 'Game (Japan).bin', others: 0 }, damaged: 0, sectors: { mode2: FORM1.length } }]);
+    const objects = JSON.parse(tool('jq', ['-s', 'sort_by(.name) | map({name, kind, dat, damaged, findings, sectors})'], { input: out }));
+    assert.deepEqual(objects, [{ name: 'a.zip', kind: 'archive', dat: { verdict: 'unknown', name: null, others: 0 }, damaged: null, findings: null, sectors: null },
+        { name: 'mine.bin', kind: 'image', dat: { verdict: 'verified', name: 'Game (Japan).bin', others: 0 }, damaged: 0, findings: 0, sectors: { mode2: FORM1.length } }]);
     const both = await run(['scan', '--json', '--resume', 'list', 'mine.bin'], { cwd: room });
     assert.deepEqual([both.status, both.out, both.errors], [2, '', 'cdscript: --json and --resume cannot be used together\n']);
 }));
