@@ -4,6 +4,7 @@ import { hexOf } from '../ui/index.js';
 
 /** @type {Map<string, string>} the versions of the releases before this one, by the SHA-256 of their pages */
 export const RELEASES = new Map([
+    ['855aadd9722d33e9b113f27f76d642d9889a7cc0ea9a57a2caf12d0ac923d1f3', '1.3.0'],
     ['6c5603e75746b25dadbf16f82d9bf4906f7eab61faa8ab702e77117f1818b872', '1.2.0'],
 ]);
 
