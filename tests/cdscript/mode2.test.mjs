@@ -123,6 +123,11 @@ test('--json gives the name in the DAT, and is refused together with --resume', 
     const objects = JSON.parse(tool('jq', ['-s', 'sort_by(.name) | map({name, kind, dat, damaged, findings, sectors})'], { input: out }));
     assert.deepEqual(objects, [{ name: 'a.zip', kind: 'archive', dat: { verdict: 'unknown', name: null, others: 0 }, damaged: null, findings: null, sectors: null },
         { name: 'mine.bin', kind: 'image', dat: { verdict: 'verified', name: 'Game (Japan).bin', others: 0 }, damaged: 0, findings: 0, sectors: { mode2: FORM1.length } }]);
+    const odd = 'Game\u202E\u009B.bin';
+    write(room, { 'odd.dat': `<datafile><rom name="${odd}" size="${size}" sha1="${sha1}"/></datafile>` });
+    const escaped = await run(['scan', '--json', '--dat', 'odd.dat', 'mine.bin'], { cwd: room });
+    assert.match(escaped.out, /^[\x20-\x7E]+\n$/);
+    assert.equal(JSON.parse(escaped.out).dat.name, odd);
     const both = await run(['scan', '--json', '--resume', 'list', 'mine.bin'], { cwd: room });
     assert.deepEqual([both.status, both.out, both.errors], [2, '', 'cdscript: --json and --resume cannot be used together\n']);
 }));

@@ -15,9 +15,14 @@ import { nameOfUntested } from './printed.js';
 /** @typedef {import('../core/tasks/file_summary.js').FileSummary} FileSummary */
 /** @typedef {import('../core/tasks/file_summary.js').FileFound} FileFound */
 
-/** @param {object} object */
+/**
+ * An object as a line, in which invisible characters are escaped, so that no terminal obeys a name.
+ * @param {object} object
+ */
 export function jsonLine(object) {
-    return bytesOfLines([JSON.stringify(object)]);
+    const escaped = (/** @type {string} */ character) =>
+        Array.from({ length: character.length }, (_, i) => `\\u${character.charCodeAt(i).toString(16).padStart(4, '0')}`).join('');
+    return bytesOfLines([JSON.stringify(object).replace(/[\p{C}\u2028\u2029]/gu, escaped)]);
 }
 
 /**

@@ -22,7 +22,7 @@ function isRunning(pid) {
 /** @param {string} place */
 function heldBy(place) {
     try {
-        return Number(readFileSync(place, 'latin1').trim());
+        return Number(readFileSync(place, 'latin1').trim()) || 0;
     } catch {
         return 0;
     }

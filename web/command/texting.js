@@ -107,10 +107,10 @@ export async function textsJob(job) {
         throw ownFault(`${named.name} is not a character encoding, so texts cannot be recognised in it`);
     }
     const table = file && tableTextOf(await wholeOf((await job.files.image(file)).reader));
+    const own = table === undefined ? named : tableSaid(job, table);
     const target = await job.target();
     const opened = await openTextsOf(job);
     sayNoVolume(job, await opened.contents());
-    const own = table === undefined ? named : tableSaid(job, table);
     const engine = { crew: job.crew.crew(opened.part.sectors) };
     const news = list && await newTextsNamed(job, list);
     /** @type {import('../core/tasks/table.js').ExportOptions} */

@@ -147,6 +147,7 @@ export interface Facts {
     /** Why one of several lists cannot be read. */
     'list/invalid': { list: string; why: Remark };
     'list/too-large': { name: string; size: number; most: number };
+    'list/not-unicode': {};
     'list/too-many-cells': { row: number; most: number };
     'list/too-many-rows': { most: number };
     'list/too-many-characters': { most: number };

@@ -226,6 +226,7 @@ export const ENGLISH = {
         `${path} has ${size} bytes${room === null ? '' : ` and room for ${room}`}, but the new file has ${wanted}`,
 
     'list/invalid': ({ list, why }, sentence) => `${list}: ${sentence(why)}`,
+    'list/not-unicode': () => 'the list is not in UTF-8 or UTF-16: save it as UTF-8 (in a spreadsheet, CSV UTF-8)',
     'list/too-large': ({ name, size, most }) => `${name} has ${size} bytes, but a list may have at most ${most}`,
     'list/too-many-cells': ({ row, most }) => `row ${row} of the table has more than ${most} cells`,
     'list/too-many-rows': ({ most }) => `more than ${most} rows of the list have a translation`,

@@ -1,7 +1,8 @@
 // Reads and decodes a long text file in parts, so that other work gets turns in between.
 
 import { joinedBytes, readBytes } from '../bytes.js';
-import { CP932, markOf } from '../encodings/index.js';
+import { markOf } from '../encodings/index.js';
+import { Fault } from '../faults.js';
 import { letOthersIn } from '../turns.js';
 
 /** @typedef {import('../bytes.js').Reader} Reader */
@@ -10,10 +11,8 @@ import { letOthersIn } from '../turns.js';
 /** How many bytes are decoded at a time. */
 const PART = 1 << 20;
 
-const NEW_LINE = 0x0A;
-
 /**
- * The text of a file, as `textOfFile` reads it.
+ * The text of a file in UTF-16 with a byte order mark, or in UTF-8. Throws a Fault if it is in neither.
  * @param {Reader} reader
  * @param {Signal} [signal]
  * @param {number} [size] of a part, in bytes
@@ -30,14 +29,8 @@ export async function longTextOf(reader, signal, size = PART) {
     try {
         return await decodedBy(new TextDecoder('utf-8', { fatal: true }), parts, signal);
     } catch (error) {
-        if (!(error instanceof TypeError)) throw error;
+        throw error instanceof TypeError ? new Fault('list/not-unicode', {}) : error;
     }
-    const lines = [];
-    for (const part of cutAfterLines(parts)) {
-        await letOthersIn(signal);
-        lines.push(CP932.text(part));
-    }
-    return lines.join('');
 }
 
 /**
@@ -53,23 +46,4 @@ async function decodedBy(decoder, parts, signal) {
     }
     texts.push(decoder.decode());
     return texts.join('');
-}
-
-/**
- * Cuts bytes into parts that end with a line, except the last one: no character extends over a line feed.
- * @param {Uint8Array[]} parts
- */
-function* cutAfterLines(parts) {
-    /** @type {Uint8Array[]} */
-    let held = [];
-    for (const part of parts) {
-        const end = part.lastIndexOf(NEW_LINE) + 1;
-        if (end === 0) {
-            held.push(part);
-            continue;
-        }
-        yield joinedBytes([...held, part.subarray(0, end)]);
-        held = [part.subarray(end)];
-    }
-    yield joinedBytes(held);
 }
