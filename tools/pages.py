@@ -29,7 +29,7 @@ ENDS = {'.py': ('"""', '"""'), '.c': C_COMMENT, '.h': C_COMMENT, '.css': C_COMME
 UNSAID = {'crates/cd_c/specs/State.antt', 'crates/cd_c_scripts/specs/NumberLaws.antt: FaultsHaveNumbers'}
 
 # Directories without a table of files: built files, data, and the crates, whose files have their own tables.
-NO_TABLE = {'crates', 'docs', 'man', 'completions', 'library', 'node_modules', 'out', 'wrong', 'wrong_programs', '__pycache__'}
+NO_TABLE = {'crates', 'docs', 'man', 'completions', 'library', 'node_modules', 'out', 'wrong', 'wrong_programs', '__pycache__', 'dist'}
 
 
 def sentence(text: str) -> str:

@@ -38,7 +38,7 @@ while IFS= read -r -d '' file; do
         *.sh | *.bash) echo "$file" ;;
         *) head -c 64 "$top/$file" | tr -d '\0' | grep -qE -m 1 '^#!.*(bash|/sh)$' && echo "$file" ;;
     esac
-done < <(cd "$top" && find . \( -name out -o -name .git -o -path ./library -o -path ./cdscript \) -prune -o -type f \
+done < <(cd "$top" && find . \( -name out -o -name .git -o -path ./library -o -path ./dist -o -path ./cdscript \) -prune -o -type f \
     ! -name '*.rt' ! -name '*.antt' ! -name '*.edit' ! -name '*.patch' -print0) > scripts
 judge 'there are scripts to read' test -s scripts
 if ! missing shellcheck shellcheck 'the scripts as shellcheck reads them'; then
