@@ -163,6 +163,7 @@ class Access(States):
         self.to_disc_replaced()
         browser.size(360, 740)
         self.press('Open Script')
+        self.wait_for_focus('#tab-script')
         self.assertIn(browser.run(TOP, '#panel-script'), range(370))
         self.find()
         self.press('Open the sector')

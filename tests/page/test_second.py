@@ -89,7 +89,7 @@ class Second(PageTest):
         self.press('Save repaired image')
         saved = self.browser.downloaded('game (repaired).bin')
         self.browser.wait('#second-body .say', '0.5 MB. Keep this page open')
-        self.browser.wait('#second-body .say.good', '3 sectors repaired. 1 is still damaged: block 60.')
+        self.browser.wait('#second-body .say.warn', '3 sectors repaired. 1 is still damaged: block 60.')
         self.assertTrue(self.browser.asks_before_leaving())
         due = bytearray(first)
         for block in (40, 80, 100):
@@ -98,7 +98,7 @@ class Second(PageTest):
         self.assertEqual(audited(saved), {60})
         self.browser.wait('#repaired-sha1', sha1(bytes(due)))
         self.press(text('saveIsComplete'))
-        self.browser.wait('#second-body .say.good', 'Saved: game (repaired).bin')
+        self.browser.wait('#second-body .say.warn', 'Saved: game (repaired).bin')
         self.assertFalse(self.browser.asks_before_leaving())
         saved.unlink()
         self.browser.wait('[aria-label="Cannot be repaired: 1"]', '60')

@@ -9,6 +9,7 @@ import * as texts from '../texts/index.js';
 import { format, playerTexts, say } from '../texts/index.js';
 import { askBeforeLeaving, button, element, fill, hashParts, jobBar, megabytes, messageOf, nameOf, notice, runAt } from '../ui/index.js';
 
+/** @typedef {{ words: string, tone: 'good' | 'warn' }} Done what was repaired, and a warning if sectors are still damaged */
 /** @typedef {import('../app/state.js').App} App */
 /** @typedef {import('../app/state.js').Image} Image */
 /** @typedef {import('../../core/bytes.js').Piece} Piece */
@@ -48,7 +49,7 @@ export class RepairSaver {
 
     /**
      * @param {Piece[]} pieces
-     * @param {string} done what was repaired, in words
+     * @param {Done} done
      */
     async saveHere(pieces, done) {
         const { app, place, app: { image, second } } = this;
@@ -77,20 +78,21 @@ export class RepairSaver {
      * @param {SavedFile} saved
      * @param {Image} image
      * @param {boolean} oneTrack whether the image has no cue sheet, and looks like a whole disc of one track
-     * @param {string} done
+     * @param {Done} done
      * @returns {Child[]}
      */
     savedWords({ name, streamed, file }, image, oneTrack, done) {
         const { app } = this;
         const { size } = image.reader;
-        const what = element('p', {}, done);
-        const whole = () => notice('good', say(texts.discFileSaved, { name: nameOf(name) }), what, texts.secondOthersAsBefore);
+        const what = element('p', {}, done.words);
+        const whole = () => notice(done.tone, say(texts.discFileSaved, { name: nameOf(name) }), what, texts.secondOthersAsBefore);
         const isComplete = () => {
             this.saving = false;
             fill(message, whole());
         };
-        const message = element('div', {}, streamed ? whole() : notice('good', say(playerTexts.saveBrowserIsSaving, { name: nameOf(name) }),
-            what, format(playerTexts.secondKeepPageOpen, { size: megabytes(size) }),
+        const isSaving = say(playerTexts.saveBrowserIsSaving, { name: nameOf(name) });
+        const message = element('div', {}, streamed ? whole() : notice(done.tone, isSaving, what,
+            format(playerTexts.secondKeepPageOpen, { size: megabytes(size) }),
             element('div', { class: 'row' }, button('slim', isComplete, texts.saveIsComplete))));
         const sheet = sheetParts(image, name, oneTrack, REPAIRED);
         const open = file && button('', () => {
@@ -123,10 +125,11 @@ function hashOf(app, file, size) {
  * Says how many sectors were repaired, and which are still damaged.
  * @param {number} taken
  * @param {Run[]} unrepaired
+ * @returns {Done}
  */
 function doneWords(taken, unrepaired) {
     const left = blocksIn(unrepaired);
     const still = left === 0 ? texts.secondNoneStillDamaged
         : format(texts.secondStillDamaged, { n: left, blocks: blocksText(unrepaired, MOST_RUNS_NAMED) });
-    return `${format(texts.secondSectorsRepaired, { n: taken })} ${still}`;
+    return { words: `${format(texts.secondSectorsRepaired, { n: taken })} ${still}`, tone: left === 0 ? 'good' : 'warn' };
 }

@@ -23,7 +23,8 @@ export function mountFrame(app) {
 }
 
 /**
- * Removes the messages of the previous panel, and scrolls to the top of the new one unless that is in view.
+ * Removes the messages of the previous panel, and scrolls to the top of the new one unless that is in view. If the previous panel had the
+ * focus, the tab of the new one gets it.
  * @param {App} app
  * @param {{ panel: PanelName }} frame
  */
@@ -33,6 +34,7 @@ function panelComes({ panel }, frame) {
     endMessages();
     const part = byId(`panel-${panel}`);
     if (part.getBoundingClientRect().top < 0) part.scrollIntoView();
+    if (document.activeElement?.closest('.panel[hidden]')) byId(`tab-${panel}`).focus({ preventScroll: true });
 }
 
 /**

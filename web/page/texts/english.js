@@ -137,15 +137,14 @@ export const KEYS = [
 ];
 
 // the notes of the footer, and About
-export const frameProvedCode = 'Every sector that this page makes, every line of a script that it reads, and every finding comes from ' +
-    'code ' +
-    'whose promises are proved theorems: libcdpatch, which is in this file as WebAssembly.';
+export const frameProvedCode = 'Every sector that this page makes, every line of a script that it reads, and every finding in a Mode 1 ' +
+    'sector comes from code whose promises are proved theorems: libcdpatch, which is in this file as WebAssembly.';
 export const frameNotProved = 'JavaScript opens the files, moves the bytes, adds up the counts, and draws. It is tested against the ' +
     'program cdpatch, byte for byte, but not proved. You still have to trust the compiler, the tool that converts the proved 64-bit ' +
     'module to this 32-bit one, and your browser.';
 export const frameScriptsWereApplied = 'Before you see a script made from two images or from translations, or an undo script, the proved ' +
-    'code has applied it, and the result was exactly as intended. That a sector in a data track has lost its sync field or mode byte ' +
-    'is only a guess, made by the JavaScript.';
+    'code has applied it, and the result was exactly as intended. The JavaScript tests Mode 2 sectors. That a sector in a data track has ' +
+    'lost its sync field or mode byte is only its guess.';
 export const frameWhatItIsFor = 'cdpatch applies patches to raw CD images, helps to translate discs, and finds and repairs damaged ' +
     'sectors.';
 export const framePageIsOneFile = 'This page is a single file. It makes no network connections, sends nothing, and works offline: save ' +
@@ -1038,7 +1037,7 @@ export const publishWithoutOldBytes = '{n} patch without old bytes ({was}): on a
 says so to players.|{n} patches without old bytes ({was}): on another dump nothing shows whether they fit. The patcher says so to players.';
 export const publishReadingYourImage = 'Reading your image…';
 export const publishNotReadToEnd = 'Your image was not read to its end. Read it again under Disc.';
-export const publishYourImageSound = 'Your image is sound.';
+export const publishYourImageSound = 'All sectors of your image that were tested are sound.';
 export const publishYourImageHasFindings = 'Your image has {n} finding: players with a sound disc have a different SHA-1.|\
 Your image has {n} findings: players with a sound disc have a different SHA-1.';
 export const publishCalculatingOwnSha1 = 'Calculating the SHA-1 of your image…';
