@@ -294,7 +294,7 @@ compiled_before() {
     local limits=()
     grep -q CDPATCH_MOST_PATCHES "$1/cdpatch.h" ||
         limits=("-DCDPATCH_MOST_PATCHES=$(limit 'patches of a script')" "-DCDPATCH_MOST_SCRIPT_BYTES=$(limit 'bytes of a script')")
-    gcc -std=c99 -O2 -Wall -Wextra -Werror -pedantic -I "$1" "${limits[@]}" "$tests/library/$2.c" before/libcdpatch.so.1 -o "before/$2" 2> errors
+    gcc -std=c99 -O2 -Wall -Wextra -Werror -pedantic -I "$1" -DEARLIER_HEADER "${limits[@]}" "$tests/library/$2.c" before/libcdpatch.so.1 -o "before/$2" 2> errors
 }
 
 # test_clients_of RELEASE TEST..: programs built with the header and the library of a release require the versions of the calls in that

@@ -68,10 +68,10 @@ static void check_texts(const struct room *it) {
     const char *const faults[] = {message("no_head"), message("unknown_verb"), message("word_count"), message("bad_number"),
         message("bad_hex"), message("bad_length"), message("bad_offset"), message("bad_address"), "more than 65535 patches"};
     char wanted[CDPATCH_LINE_SIZE];
-#ifdef CDPATCH_AT_LEAST
-    judge(cdpatch_version() == CDPATCH_VERSION_NUMBER, "version", 0);
-#else /* the header of 1.2.0, and a later library */
+#ifdef EARLIER_HEADER
     judge(cdpatch_version() > CDPATCH_VERSION_NUMBER, "version", 0);
+#else
+    judge(cdpatch_version() == CDPATCH_VERSION_NUMBER, "version", 0);
 #endif
     for (uint32_t number = 0; number < 20; number++) {
         uint32_t any = number < 16 ? number : UINT32_MAX - (number - 16);
