@@ -20,7 +20,7 @@ export class ByteField {
         this.input = element('input', { type: 'text', id: 'new-bytes', class: 'mono', autocomplete: 'off', autocapitalize: 'off',
             spellcheck: 'false' });
         this.undo = button('', () => this.takeBack(), texts.undo);
-        this.part = element('form', { class: 'byte-field', submit: event => this.submit(event) }, this.label,
+        this.part = element('form', { class: 'byte-field', submit: event => this.change(event) }, this.label,
             element('div', { class: 'row' }, this.input, element('button', { class: 'btn' }, texts.sectorChangeBytes), this.undo));
     }
 
@@ -39,7 +39,7 @@ export class ByteField {
     }
 
     /** @param {Event} event */
-    submit(event) {
+    change(event) {
         event.preventDefault();
         this.edit.enter(this.input.value);
         if (this.edit.fault === '') this.input.value = '';
