@@ -66,8 +66,8 @@ impl LineFault {
         if is_help { DONE } else { FAILED }
     }
 
-    /// The exit status of the program after it printed the [`refusal_line`] of this text: 2 if
-    /// there is no text, and otherwise the status of this fault.
+    /// The exit status of the program after it printed the [`refusal_line`] of this text: 2
+    /// without a text, and otherwise the status of this fault.
     ///
     /// See the example of [`refusal_line`].
     pub fn status_with(&self, parser_text: Option<&str>) -> u8

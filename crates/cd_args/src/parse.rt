@@ -130,8 +130,7 @@ pub fn job_of(alloc: Global, args: Vec<String>) -> Result<Job, LineFault>
     // request help.
     ensures taken { OnOk result (error_kinds (map string_bytes args.items) ≡ []) }
 
-    // If there are no arguments, or the definition accepts them, they are refused only if memory
-    // runs out.
+    // Empty arguments, and those that the definition accepts, are refused only if memory runs out.
     ensures refused { IfErr result (λ fault. IsAccepted (map string_bytes args.items)
         → fault ≡ NoMemory) }
     ensures kind { IfErr result (HasKindOf (map string_bytes args.items)) }

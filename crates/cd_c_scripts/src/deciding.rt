@@ -125,7 +125,7 @@ fn is_of(found: &HexPatch<'_>, entry: &Entry) -> bool
 }
 
 /// Decides the next patch. Returns `None` if a number of the state cannot be that of a run, if
-/// there is no entry, or if re-reading its line no longer gives a patch that matches the entry.
+/// the patch's entry is missing, or if its line, read again, does not give the patch of the entry.
 pub(crate) fn decide(
     run: &mut ScriptRun,
     script: &[u8],

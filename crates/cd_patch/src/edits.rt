@@ -57,8 +57,8 @@ impl EditMeaning<'_> {
     }
 }
 
-/// The defaults of each row of `meaning`: nothing is written, no old byte is named, and the sector
-/// is not encoded again.
+/// The meaning before a row of `meaning` sets its fields: nothing is written, no old bytes are
+/// compared, and the sector is not encoded again.
 const NOTHING: EditMeaning<'static> = EditMeaning {
     bytes: NewBytes::Borrowed(&[]),
     old: &[],

@@ -12,9 +12,9 @@ use thiserror::Error;
 #[derive(Clone, Copy, Debug, PartialEq, Eq, Error)]
 #[error("{}", self.text())]
 pub enum ScriptFault {
-    /// The first line that is neither blank nor a comment is not the head line. If there is no such
-    /// line, the number is one more than the number of lines. The message names version 1 even if
-    /// the script names a version that does not exist.
+    /// The first line that is neither blank nor a comment is not the head line. If all lines are
+    /// blank or comments, the number is one more than the number of lines. The message names
+    /// version 1 even if the script names a version that does not exist.
     Head(u32),
     /// The first word is not a verb. A second head line is this error too.
     Verb(u32),
@@ -24,8 +24,8 @@ pub enum ScriptFault {
     Number(u32),
     /// A hex word has an odd number of digits, or a byte that is not a hex digit.
     Hex(u32),
-    /// A count is 0 or over [`MAX_BYTES`](crate::MAX_BYTES), there are no new bytes or more than
-    /// that, there are not as many old bytes as new bytes, or a fill byte is not one byte.
+    /// A count, or the number of new bytes, is 0 or over [`MAX_BYTES`](crate::MAX_BYTES); the
+    /// number of old bytes is not that of the new bytes; or a fill byte is not one byte.
     Length(u32),
     /// An offset over [`MAX_OFFSET`](crate::MAX_OFFSET).
     Offset(u32),

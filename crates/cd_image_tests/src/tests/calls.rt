@@ -176,7 +176,7 @@ pub fn apply_within(alloc: Global, call: &Call, limits: &Limits) -> Result<Endin
     })
 }
 
-/// Checks the script in the same way. There is no output: it has no bytes and no failures, and is finished if the log is.
+/// Checks the script in the same way. The output has no bytes and no failures, and is finished if the log is.
 pub fn check_within(alloc: Global, call: &Call, limits: &Limits) -> Result<Ending, AllocError>
     requires { call.now.base ≤ MAX_BASE }
 {

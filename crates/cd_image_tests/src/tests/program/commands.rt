@@ -119,8 +119,8 @@ fn audits(rt: HostRuntime) -> Result<(), AllocError> {
     Ok(())
 }
 
-/// The numbers of bytes that pass from an image of three sectors whose second one is patched, to the output and to the log; the status, and
-/// the lines, of which the log gets as many bytes as pass.
+/// The numbers of bytes that pass from an image of three sectors whose second one is patched, to the output and to the log; the status;
+/// and the lines of the log, which gets their first bytes, as many as pass.
 type Patching = (u64, u64, u64, u8, &'static str);
 
 const PATCHINGS: &[Patching] = &[

@@ -21,7 +21,7 @@ fn line_of(fault: Option<ScriptFault>) -> Line {
     }
 }
 
-/// Asserts that reading a text as a script gives the line for this fault and the status 2, or no line if there is no fault.
+/// Asserts that a text, read as a script, gives the line for this fault and the status 2, or no line without a fault.
 fn expect_line(rt: &impl Abort, alloc: Global, text: &[u8], fault: Option<ScriptFault>) {
     assert!(rt; text.len() <= MAX_TEXT);
     let mut space = [0; 64];

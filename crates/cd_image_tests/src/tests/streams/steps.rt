@@ -10,8 +10,8 @@ pub enum Step {
     Flush(Option<()>),
 }
 
-/// Whether the call has this result, and leaves the sink finished only if it is a `finish` that succeeds. A write of which no byte is
-/// accepted fails.
+/// Whether the call has this result, and leaves the sink finished only if it is a `finish` that succeeds. A write fails if
+/// none of its bytes is accepted.
 fn answers<S: Sink>(sink: &mut S, step: Step) -> bool {
     if sink.failures() == u32::MAX {
         return false;
