@@ -5,7 +5,7 @@ import { test } from 'node:test';
 import { calls, core, readerOf } from './common.mjs';
 
 const { MARKS, Table, rowText } = await core('texts/cells.js');
-const { assertMeant, cellOf, codesLeftOut, shownCell, unitsOfCell } = await core('texts/codes.js');
+const { assertMeant, cellOf, codesLeftOut, controlsTyped, shownCell, unitsOfCell } = await core('texts/codes.js');
 const { fillingAfter } = await core('encodings/encoding.js');
 const { encodingOf, tableOf, textOfFile } = await core('encodings/encodings.js');
 const { replaceList } = await core('tasks/list.js');
@@ -189,6 +189,18 @@ test('codes that new texts leave out are told by number, each once, with the fir
     assert.deepEqual(await left([['{0A00}{0100}', '{0100}'], ['{3D00}a', 'b']], 'UTF-16LE'), [['0A00', 1, 1, 2]]);
     assert.deepEqual(await left([['a{0A}b', 'a\nb'], ['a{0D0A}b', 'a\nb']]), [['0D', 1, 1, 3]]);
     assert.deepEqual(await left([[`${'{00}'.repeat(20000)}`, 'a']]), []);
+});
+
+test('control characters that were typed are told with their first row, unless an old text has their code', async () => {
+    const typed = async (rows, encoding = encodingOf('CP932')) => (await controlsTyped(rows.map(([text, fresh], i) => ({ number: i + 2, encoding: '', text, fresh })),
+        () => [encoding])).map(({ character, row }) => [character, row.number]);
+    assert.deepEqual(await typed([['a', 'b'], ['a', 'b\nc\n'], ['a', '\td\n'], ['a', '{0B}']]), [['{0A}', 3], ['{09}', 4]]);
+    assert.deepEqual(await typed([['a', 'b\nc'], ['a{0D0A}', 'a']]), []);
+    assert.deepEqual(await typed([['a', 'b\nc'], ['\n', 'a']]), []);
+    assert.deepEqual(await typed([['a{0000}', 'b\n']], encodingOf('UTF-16LE')), [['{0A00}', 2]]);
+    const table = tableOf(new TextEncoder().encode('*FE\n41=A\n'));
+    assert.deepEqual(await typed([['A{FE}', 'A\nA']], table), []);
+    assert.deepEqual(await typed([['A', 'A\nA']], table), [['{FE}', 2]]);
 });
 
 test('a long file is read in parts as if it were read at once, and only in Unicode', async () => {

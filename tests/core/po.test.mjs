@@ -205,10 +205,12 @@ test('lists without an image are checked as far as they tell what they need', as
     assert.deepEqual(await short([table]), [5, 1, ['3', 'replace/no-room'], ['5', 'list/no-place'], ['6', 'list/no-code']]);
     const row = table.split('\n').slice(0, 2).join('\n');
     assert.deepEqual(await short([row, po.replace('"abc"', '"ab"')]), [3, 0, ['1 3 1+0', 'list/overlaps', 2]]);
-    assert.deepEqual(await short([row, po]), [3, 0]);
+    assert.deepEqual(await short([row, po]), [2, 0]);
     assert.deepEqual(await short([`${HEAD}1\t0\tabcd\tx\t2\tCP932\n1\t2\tb\tx\t1\tCP932\n`]), [2, 0]);
     const { codes, fuzzy, glyphs } = await checked([entry(['. room 9 bytes, CP932', ': 1+0'], '{0A}a', 'b') + entry([', fuzzy'])]);
     assert.deepEqual([codes.map(({ code }) => code), fuzzy, glyphs.map(({ character }) => character)], [['0A'], 1, ['b']]);
+    const typed = await checked([entry(['. room 9 bytes, CP932', ': 1+0'], 'a', 'a\\na')]);
+    assert.deepEqual(typed.glyphs.map(({ character, row }) => [character, row.place]), [['{0A}', '1+0']]);
 });
 
 test('of several lists the one that cannot be read is named', async () => {

@@ -3,7 +3,7 @@
 import { usualBytes } from '../encodings/index.js';
 import { Fault, remark } from '../faults.js';
 import { USER_SIZE } from '../module/index.js';
-import { LONGEST_TEXT, assertMeant, codesLeftOut, unitsOfCell } from '../texts/index.js';
+import { LONGEST_TEXT, assertMeant, codesLeftOut, controlsTyped, unitsOfCell } from '../texts/index.js';
 import { letOthersIn, sortedInTurns } from '../turns.js';
 import { encodingsOfRows, inListOrder, replacedSize, withoutRepeats } from './list.js';
 import { rowsOfLists } from './list_rows.js';
@@ -62,11 +62,12 @@ export async function checkLists({ lists, encodings, isAsked }, signal) {
     const encodingsFor = encodingsOfRows(isAsked ? encodings : [], isAsked);
     /** @type {LeftRow[]} */
     const left = [];
-    let [untested, end, last] = [0, 0, /** @type {ListRow | null} */ (null)];
+    let [count, untested, end, last] = [0, 0, 0, /** @type {ListRow | null} */ (null)];
     const files = [...new Set(rows.map(fileOf))];
     const byPlace = await sortedInTurns(rows, startOf, signal);
     for (const row of withoutRepeats(await sortedInTurns(byPlace, it => files.indexOf(fileOf(it)), signal))) {
         await letOthersIn(signal);
+        count += 1;
         try {
             const { size, isTested } = testedRow(row, encodingsFor(row.encoding)[0]);
             if (last !== null && fileOf(row) === fileOf(last) && startOf(row) < end) throw new Fault('list/overlaps', { row: last });
@@ -77,6 +78,8 @@ export async function checkLists({ lists, encodings, isAsked }, signal) {
             left.push({ text: row, why: remark(error.code, error.facts) });
         }
     }
-    const codes = await codesLeftOut(rows, name => [...encodingsFor(name), ...encodings].slice(0, 1), signal);
-    return { count: rows.length, left: await inListOrder(left, rows, signal), untested, codes, fuzzy, glyphs };
+    /** @type {typeof encodingsFor} */
+    const firstFor = name => [...encodingsFor(name), ...encodings].slice(0, 1);
+    const [codes, typed] = [await codesLeftOut(rows, firstFor, signal), await controlsTyped(rows, firstFor, signal)];
+    return { count, left: await inListOrder(left, rows, signal), untested, codes, fuzzy, glyphs: [...glyphs, ...typed] };
 }

@@ -4,7 +4,7 @@ import { readBytes } from '../bytes.js';
 import { newBytes } from '../faults.js';
 import { SECTOR_SIZE, USER_SIZE } from '../module/index.js';
 import { USER_OFFSET } from '../sectors/index.js';
-import { codesLeftOut } from '../texts/index.js';
+import { codesLeftOut, controlsTyped } from '../texts/index.js';
 import { changesOfList, encodingsOfRows } from './list.js';
 import { rowsOfLists } from './list_rows.js';
 
@@ -72,5 +72,6 @@ export async function importIntoFile(opened, { lists, encodings, isAsked, fill =
     const { rows, fuzzy, glyphs } = await rowsOfLists(lists, undefined, watch.signal);
     const { changes, left } = await changesOfList(part, rows, encodingsFor, fill, watch);
     const codes = await codesLeftOut(rows, encodingsFor, watch.signal);
-    return { count: rows.length, changes: partial || left.length === 0 ? changes : null, left, codes, fuzzy, glyphs };
+    const unusual = [...glyphs, ...await controlsTyped(rows, encodingsFor, watch.signal)];
+    return { count: rows.length, changes: partial || left.length === 0 ? changes : null, left, codes, fuzzy, glyphs: unusual };
 }

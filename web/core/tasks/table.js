@@ -1,7 +1,7 @@
 // Exports the texts of a track as a table or a PO file for translators, and imports their lists with new texts.
 
 import { Fault } from '../faults.js';
-import { NO_BLOCK, PoFile, allTexts, codesLeftOut, rowText, stretchesOf } from '../texts/index.js';
+import { NO_BLOCK, PoFile, allTexts, codesLeftOut, controlsTyped, rowText, stretchesOf } from '../texts/index.js';
 import { letOthersIn } from '../turns.js';
 import { encodingsOfRows, replaceList, roomOfRow } from './list.js';
 import { rowsOfLists } from './list_rows.js';
@@ -181,7 +181,8 @@ async function* poPieces(texts, freshOf, signal) {
 export async function importTable(engine, opened, { lists, isAlso, ...options }, watch = {}) {
     await opened.contents();
     const { rows, fuzzy, glyphs } = await rowsOfLists(lists, isAlso, watch.signal);
-    return { ...await importRows(engine, opened, rows, options, watch), fuzzy, glyphs };
+    const { typed, ...made } = await importRows(engine, opened, rows, options, watch);
+    return { ...made, fuzzy, glyphs: [...glyphs, ...typed] };
 }
 
 /**
@@ -201,7 +202,8 @@ export async function importRows({ calls }, opened, rows, { encodings, isAsked, 
     const script = partial || left.length === 0 ? await fittingScript(calls, image, parts) : null;
     const withoutNew = rows.flatMap(row => row.fresh === '' ? { ...row, fresh: row.text } : []);
     const old = (await replaceList(calls, part, withoutNew, encodingsFor, null, { signal })).parts.script(calls);
-    return { count: fresh.length, script, old, left, codes: await codesLeftOut(fresh, encodingsFor, signal) };
+    const [codes, typed] = [await codesLeftOut(fresh, encodingsFor, signal), await controlsTyped(fresh, encodingsFor, signal)];
+    return { count: fresh.length, script, old, left, codes, typed };
 }
 
 /**

@@ -8,6 +8,7 @@ import { unitsAlike } from './alike.js';
 import { charactersFrom } from './boundaries.js';
 
 /** @typedef {import('../encodings/encoding.js').Encoding} Encoding */
+/** @typedef {import('./glyphs.js').Glyph} Glyph */
 /**
  * A row with its texts. `fill` is the code of the filler if it is a record of fixed width.
  * @typedef {import('../facts.js').RowName & { encoding: string, text: string, fresh: string, fill?: string }} CodedRow
@@ -95,6 +96,15 @@ function bytesOfSign(encoding, sign, most) {
 }
 
 /**
+ * The control characters of a part of a cell that has no codes, each as a code.
+ * @param {Encoding} encoding
+ * @param {string} part
+ */
+function controlsOf(encoding, part) {
+    return (part.match(CONTROLS) || []).map(it => hexText(bytesOfSign(encoding, it, 1) || new Uint8Array(0)));
+}
+
+/**
  * The codes of a cell, and its control characters, which were typed or pasted instead of codes. A code at its beginning does not count if
  * it is a character that is written as a code only there.
  * @param {Encoding[]} encodings that the cell may be in; the first one decides how many bytes a code has
@@ -104,7 +114,7 @@ function bytesOfSign(encoding, sign, most) {
 function codesOf(encodings, cell) {
     const [encoding] = encodings;
     return cell.split(CODE).flatMap((part, i, parts) => {
-        if (i % 2 === 0) return (part.match(CONTROLS) || []).map(it => hexText(bytesOfSign(encoding, it, 1) || new Uint8Array(0)));
+        if (i % 2 === 0) return controlsOf(encoding, part);
         const bytes = bytesOfHex(part);
         const isFirst = i === 1 && parts[0] === '' && bytes.length <= LONGEST_SIGN;
         if (isFirst && encodings.some(it => CODED_FIRST.test(it.text(bytes)))) return [];
@@ -146,10 +156,39 @@ export async function codesLeftOut(rows, encodingsFor, signal) {
             left.set(code, known);
             known.count += count;
             known.rows += 1;
-            if (known.rows <= FIRST_ROWS) known.first.push({ list: row.list, unit: row.unit, number: row.number, place: row.place });
+            if (known.rows <= FIRST_ROWS) known.first.push(nameOf(row));
         }
     }
     return [...left.values()];
+}
+
+/** @param {CodedRow} row */
+function nameOf({ list, unit, number, place }) {
+    return { list, unit, number, place };
+}
+
+/**
+ * The control characters that were typed into new texts although no old text has their codes, such as a line feed in a PO editor. Call it
+ * with the same rows as `replaceList`.
+ * @param {CodedRow[]} rows
+ * @param {(name: string) => Encoding[]} encodingsFor the encodings that a row may be in, by the encoding name in the row, or ''
+ * @param {import('../turns.js').Signal} [signal]
+ * @returns {Promise<Glyph[]>}
+ */
+export async function controlsTyped(rows, encodingsFor, signal) {
+    /** @type {Map<string, CodedRow>} the first row with each of them, by its code */
+    const typed = new Map();
+    for (const row of rows) {
+        if (isTurnDue()) await letOthersIn(signal);
+        if (row.fresh.length > LONGEST_TEXT || row.fresh.search(CONTROLS) < 0) continue;
+        const codes = row.fresh.split(CODE).flatMap((part, i) => i % 2 === 0 ? controlsOf(encodingsFor(row.encoding)[0], part) : []);
+        for (const code of codes) if (!typed.has(code)) typed.set(code, row);
+    }
+    for (const row of typed.size === 0 ? [] : rows) {
+        if (isTurnDue()) await letOthersIn(signal);
+        for (const code of row.text.length > LONGEST_TEXT ? [] : codesOf(encodingsFor(row.encoding), row.text)) typed.delete(code);
+    }
+    return Array.from(typed, ([code, row]) => ({ character: `{${code}}`, row: nameOf(row) }));
 }
 
 /**

@@ -4,7 +4,7 @@ export { unitsAlike } from './alike.js';
 export { NO_BLOCK, allTexts, shownPlace, stretchesOf } from './all_texts.js';
 export { LONGEST_CHARACTER, LOOKED_BACK, bytesInside, charactersFrom } from './boundaries.js';
 export { MARKS, Table, rowText } from './cells.js';
-export { LONGEST_TEXT, assertMeant, bytesOfCode, cellOf, codesLeftOut, shownCell, unitsOfCell } from './codes.js';
+export { LONGEST_TEXT, assertMeant, bytesOfCode, cellOf, codesLeftOut, controlsTyped, shownCell, unitsOfCell } from './codes.js';
 export { Glyphs } from './glyphs.js';
 export { entriesOfPo, isPo } from './po_reader.js';
 export { PoFile } from './po_writer.js';
