@@ -194,7 +194,7 @@ test('codes that new texts leave out are told by number, each once, with the fir
 test('control characters that were typed are told with their first row, unless an old text has their code', async () => {
     const typed = async (rows, encoding = encodingOf('CP932')) => (await controlsTyped(rows.map(([text, fresh], i) => ({ number: i + 2, encoding: '', text, fresh })),
         () => [encoding])).map(({ character, row }) => [character, row.number]);
-    assert.deepEqual(await typed([['a', 'b'], ['a', 'b\nc\n'], ['a', '\td\n'], ['a', '{0B}']]), [['{0A}', 3], ['{09}', 4]]);
+    assert.deepEqual(await typed([['a', 'b'], ['a', 'b\nc\n'], ['a', '\td\n'], ['a', '{0B}\n']]), [['{0A}', 3], ['{09}', 4]]);
     assert.deepEqual(await typed([['a', 'b\nc'], ['a{0D0A}', 'a']]), []);
     assert.deepEqual(await typed([['a', 'b\nc'], ['\n', 'a']]), []);
     assert.deepEqual(await typed([['a{0000}', 'b\n']], encodingOf('UTF-16LE')), [['{0A00}', 2]]);
