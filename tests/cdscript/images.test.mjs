@@ -92,7 +92,7 @@ test('info of a disc', () => inDirectory(async room => {
     assert.deepEqual([status, errors], [1, '']);
     assert.equal(out, ['image.bin: a raw image, 2352 bytes a sector', `file image.bin bytes ${image.length} sha1 ${hash}`,
         'track 1 data blocks 75-114 in image.bin', 'base 75', '75-94 mode1', '95-95 nosync', '96-114 mode1', 'sectors 40 tail 0',
-        'mode1 39 damaged 2 address 0', '95-95 not mode1 in a track of mode1', ''].join('\n'));
+        'mode1 39 damaged 2 address 0', '80-81 mode1 damaged', '95-95 not mode1 in a track of mode1', ''].join('\n'));
 }));
 
 test('info of what is no raw image', () => inDirectory(async room => {
@@ -205,6 +205,17 @@ test('dumps that begin or end elsewhere repair the blocks that both have', () =>
     assert.deepEqual([later.status, later.errors], [0, `cdscript: later has only blocks 50 to 329 of old\n${beyond}`]);
     assert.equal(later.out, '40-40 from long\n320-320 from later\n327-327 from later\ntaken 3 damaged 0 disputed 0 different 0\n');
     sameFile(read(room, 'all'), good, 'the repaired image');
+}));
+
+test('merge lists sound sectors that keep a wrong address', () => inDirectory(async room => {
+    const image = imageOf(room, 300);
+    const swapped = Buffer.concat([image.subarray(0, 2352 * 8), image.subarray(2352 * 9, 2352 * 10), image.subarray(2352 * 8, 2352 * 9), image.subarray(2352 * 10)]);
+    write(room, { swapped, image });
+    const text = await run(['merge', 'swapped', 'image', 'out'], { cwd: room });
+    assert.deepEqual([text.status, text.out.split('\n')[0]], [1, '8-9 also sound in image, but with different contents']);
+    assert.ok(text.out.includes('\n8-9 sound, but with the address of a different block\n'), text.out);
+    const { wrongAddress, blocks } = JSON.parse((await run(['merge', '--json', 'swapped', 'swapped', 'out2'], { cwd: room })).out);
+    assert.deepEqual([wrongAddress, blocks.wrongAddress], [2, [[8, 9]]]);
 }));
 
 test('merge says which blocks only another dump has, and which dump to name first', () => inDirectory(async room => {

@@ -147,7 +147,7 @@ test('a finding is a block, and the blocks of an image that begins before block 
     assert.deepEqual([status, errors.split('\n')[0]],
         [0, 'cdscript: the addresses in pause begin before block 0, so its first sector counts as block 0; see --base']);
     const info = await run(['info', 'pause.2'], { cwd: room });
-    assert.match(info.out, /\nmode1 60 damaged 2 address 1\n/);
+    assert.match(info.out, /\nmode1 60 damaged 2 address 1\n160-160 mode1 damaged\n170-170 mode1 damaged\n160-160 mode1 with a wrong address\n/);
     assert.deepEqual([info.status, (await run(['info', 'pause'], { cwd: room })).status], [1, 0]);
 }));
 

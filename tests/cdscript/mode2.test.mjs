@@ -115,6 +115,16 @@ test('info and merge --json say where damage is, and merge repairs it', { skip }
     assert.ok(text.out.includes('\n16-16 not mode2 in a track of mode2'));
 }));
 
+test('the first sound sectors of Mode 2 decide the base, and jobs that read no Mode 2 say so', () => inDirectory(async room => {
+    const sectors = FORM1.slice(0, 24).map((sector, i) => at(i, sector));
+    write(room, { image: Buffer.concat(sectors.filter((_, i) => i !== 8)), list: '' });
+    assert.match((await run(['info', 'image'], { cwd: room })).out, /\nbase 0\n/);
+    for (const words of [['find', 'image', 'a'], ['texts', 'image'], ['files', 'image'], ['extract', 'image', '/A', 'out'], ['replace', 'image', 'a', 'b']]) {
+        const { errors } = await run(words, { cwd: room });
+        assert.equal(errors.split('cdscript: block 16 is Mode 2: texts and files in Mode 2 sectors are not found').length, 2, words.join(' '));
+    }
+}));
+
 test('--json gives the name in the DAT, and is refused together with --resume', { skip }, () => inDirectory(async room => {
     const image = track(FORM1);
     const [size, sha1] = [image.length, tool('sha1sum', [], { input: image }).toString().slice(0, 40)];

@@ -24,7 +24,7 @@ test('damage in a later data track is not passed off as none', () => inDirectory
     const info = await run(['info', 'game.cue'], { cwd: room });
     assert.deepEqual([info.status, info.errors], [1, '']);
     assert.ok(info.out.endsWith(['track 1 base 0', '0-29 mode1', 'sectors 30 tail 0', 'mode1 30 damaged 0 address 0',
-        'track 3 base 180', '180-199 mode1', 'sectors 20 tail 0', 'mode1 20 damaged 1 address 0', ''].join('\n')), info.out);
+        'track 3 base 180', '180-199 mode1', 'sectors 20 tail 0', 'mode1 20 damaged 1 address 0', '185-185 mode1 damaged', ''].join('\n')), info.out);
     const first = await run(['audit', 'game.cue'], { cwd: room });
     assert.deepEqual([first.status, first.out, first.errors], [0, 'sectors 30 mode1 30 damaged 0 tail 0\n', TRACK_3]);
     const third = await run(['audit', '--track', '3', 'game.cue'], { cwd: room });
@@ -47,6 +47,8 @@ test('jobs that look at one of several data tracks say so, once', () => inDirect
         const { errors } = await run(words, { cwd: room });
         assert.equal(errors.split(TRACK_3).length, 2, words.join(' '));
     }
+    const { errors } = await run(['merge', 'game.cue', 'other.cue', 'second'], { cwd: room });
+    assert.ok(errors.includes('only one.bin is repaired: the 2 other files of the cue sheet were not compared'), errors);
     assert.equal((await run(['rebuilds', 'game.cue', '--track', '3'], { cwd: room })).out, 'cdpatch 1\n# base 180\nrebuild 185\n');
 }));
 
@@ -57,7 +59,7 @@ test('tracks in one file are looked at together by what takes the whole image', 
     write(room, { 'game.bin': damaged(image, 0, [110, 100]), 'game.cue': cue });
     const { status, out, errors } = await run(['audit', 'game.cue'], { cwd: room });
     assert.deepEqual([status, out, errors], [1, '110 edc p=1 q=1\nsectors 125 mode1 50 damaged 1 tail 0\n', '']);
-    assert.match((await run(['info', 'game.cue'], { cwd: room })).out, /\nbase 0\n(.*\n)+mode1 50 damaged 1 address 0\nnot tested 75: blocks 30 to 104 are audio\n$/);
+    assert.match((await run(['info', 'game.cue'], { cwd: room })).out, /\nbase 0\n(.*\n)+mode1 50 damaged 1 address 0\n110-110 mode1 damaged\nnot tested 75: blocks 30 to 104 are audio\n$/);
     // A place may be in any of them; a text is searched in one.
     const said = async (...words) => (await run(['replace', 'game.cue', ...words, '--encoding', 'hex'], { cwd: room })).errors.includes(TRACK_3);
     assert.deepEqual([await said('106', '0', '00', '01'), await said('0123456789ABCDEF', '00')], [false, true]);
@@ -93,7 +95,7 @@ test('an image without a cue sheet is the track that is asked for', () => inDire
     assert.deepEqual([status, errors], [0, '']);
     assert.match(out, /^cdpatch 1\n# base 180\nrebuild 185\nset 185 84 .. was ..\n$/);
     const merged = await run(['repair', '--track', '3', 'game.cue', 'sea.bin', 'out'], { cwd: room });
-    assert.deepEqual([merged.status, merged.errors], [0, '']);
+    assert.deepEqual([merged.status, merged.errors], [0, 'cdscript: only three.bin is repaired: the 2 other files of the cue sheet were not compared\n']);
     sameFile(read(room, 'out'), read(room, 'sea.bin'), 'the repaired track');
     const none = await run(['diff', '--track', '3', 'game.cue', 'short.cue'], { cwd: room });
     assert.equal(none.status, 2);

@@ -30,10 +30,11 @@ const sameData = (a, b) => Buffer.compare(a.subarray(12, 2064), b.subarray(12, 2
 /** The expected result for these images, computed sector by sector. */
 function due([old, ...others]) {
     const out = old.slice();
-    const found = { taken: [], doubtful: [], damaged: [], disputed: [], different: others.map(() => 0) };
+    const found = { taken: [], doubtful: [], damaged: [], disputed: [], wrongAddress: [], different: others.map(() => 0) };
     for (let i = 0; i < countOf(old); i++) {
         const [here, there] = [sectorAt(old, i), others.map(other => sectorAt(other, i))];
         if (calls.isConsistent(here)) {
+            if (!ownAddress(here, BASE + i)) found.wrongAddress.push({ block: BASE + i });
             there.forEach((it, k) => { found.different[k] += Number(calls.isConsistent(it) && Buffer.compare(it, here) !== 0); });
             continue;
         }
@@ -52,8 +53,9 @@ function due([old, ...others]) {
     return { out, found };
 }
 
-const foundOf = ({ taken, doubtful, damaged, disputed, different }) =>
-    ({ taken: blocksOf(taken), doubtful: blocksOf(doubtful), damaged: blocksOf(damaged), disputed: blocksOf(disputed), different });
+const foundOf = ({ taken, doubtful, damaged, disputed, wrongAddress, different }) =>
+    ({ taken: blocksOf(taken), doubtful: blocksOf(doubtful), damaged: blocksOf(damaged), disputed: blocksOf(disputed),
+        wrongAddress: blocksOf(wrongAddress), different });
 
 /** Dumps of one disc: each is damaged in its own places, and all in some shared ones; some sectors lost their sync, some are audio. */
 function someDumps(dice, count, sectors) {
@@ -94,6 +96,17 @@ test('a sector that is consistent but has the address of another block is not ta
     const due2 = old.slice();
     due2.set(sectorAt(image, 1), RAW);
     sameBytes(joinedPieces(old, pieces), due2, 'the repaired image');
+});
+
+test('a sound sector with the address of a different block stays, and is named', async () => {
+    const image = soundImage(diceOf(53), 400, BASE);
+    const old = image.slice();
+    [[200, 201], [201, 200]].forEach(([to, from]) => old.set(sectorAt(image, from), RAW * to));
+    for (const other of [image, old]) {
+        const { pieces, taken, different, wrongAddress } = await merged([old, other]);
+        assert.deepEqual([taken, different, wrongAddress], [[], [other === old ? 0 : 2], [{ first: BASE + 200, last: BASE + 201 }]]);
+        sameBytes(joinedPieces(old, pieces), old, 'the repaired image');
+    }
 });
 
 test('no sector of a damaged other image is taken, and the same damage in all is counted', async () => {
@@ -286,6 +299,7 @@ test('blocks above the last address are not repaired', async () => {
     for (const i of [0, 1]) old.set(CHANGES.damaged(sectorAt(image, i), diceOf(i)), RAW * i);
     const { taken, damaged } = await repaired(localCrew(), imageOf(old, 449849), [imageOf(image, 449849)]);
     assert.deepEqual([taken, damaged], [[{ first: 449849, last: 449849, other: 0 }], [{ first: 449850, last: 449850, elsewhere: true }]]);
+    assert.deepEqual((await repaired(localCrew(), imageOf(image, 449849), [imageOf(image, 449849)])).wrongAddress, []);
 });
 
 test('an image that begins before block 0 is repaired by the addresses that it has', async () => {

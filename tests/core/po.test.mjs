@@ -249,6 +249,10 @@ test('the new texts of a list are exported again, in each form, and those that b
         assert.deepEqual(rows.map(({ offset, fresh }) => [offset, fresh]),
             [[100, 'Start\t"now"'], ...form === 'po' ? [[2040, 'Start\t"now"']] : [], [3000, '"The End"']], form);
     }
+    // In tables of version 1.3, a first character is not a code.
+    const formula = plainFile(4000, '12', [100, `=${old}`]);
+    const { news: earlier } = await newTextsOf([fileOf(`block\toffset\ttext\tnew\n-\t100\t=${old}\tx\n`)]);
+    assert.match(await exported(formula, { freshOf: it => earlier.of(it) }), /\{3D\}[^\t]*\tx\n$/);
     const plural = entry([': -+100'], old).replace('msgstr "b"', 'msgid_plural "x"\nmsgstr[0] "b"\nmsgstr[1] "c"');
     const { news } = await newTextsOf([fileOf(plural)]);
     assert.equal((await exported(file, { freshOf: it => news.of(it) })).includes('bc'), false);

@@ -282,6 +282,15 @@ test('texts with a length before each are found as they are, in each encoding', 
     }
 });
 
+test('texts of rare characters at the beginning of a chain belong to it', () => {
+    const texts = ['森薬草姫城', '剣わたし店夜', 'あなた海鍵スライム', ...SENTENCES.CP932, ...SENTENCES.CP932].map(text => bytesOf('CP932', text));
+    for (const before of [[], ['薬草', '勇者海夜'].map(text => bytesOf('CP932', text))]) for (const zeros of [0, 16]) {
+        const all = [...before, ...texts];
+        const bytes = Buffer.concat([Buffer.alloc(zeros), ...all.flatMap(text => [Buffer.of(text.length), text])]);
+        assert.deepEqual(foundIn('CP932', bytes), all.map(text => text.toString('hex')), `${before.length} ${zeros}`);
+    }
+});
+
 test('a text with many letters and digits is not cut by what may be lengths', () => {
     const text = Array.from({ length: 90 }, (_, i) => `城の地下に HP ${i} の薬があるらしい, Lv ${i % 9} NPC ok ${7 * i} `).join(' / ');
     for (const name of ['CP932', 'EUC-JP', 'UTF-8']) {

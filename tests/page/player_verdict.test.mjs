@@ -66,7 +66,7 @@ test('a verdict says whether other bytes or damage refuse the patches', async ()
 test('each reason that refuses a place has its own words', () => {
     const words = reasonsOf(9, [5, 5, 2, 1, 4]);
     assert.deepEqual(words.map(it => it.split('. ')[0]), ['2 of 9 places to patch hold other bytes', '1 of 9 places to patch is damaged',
-        '1 of 9 places to patch is not in a data sector here', '1 of 9 places to patch is not in this image']);
+        '1 of 9 places to patch is not in a Mode 1 sector here', '1 of 9 places to patch is not in this image']);
     assert.deepEqual(reasonsOf(2, [2]).filter(it => it.includes('release')), []);
 });
 
@@ -116,7 +116,8 @@ test('an image fits only if it is as long as the author’s and all that is writ
         ['set 0 0 41\nfill 1 0 100 00\n', image, 'unknown', /^2 of 2 patches name no old bytes, so nothing shows whether they fit\. 1 sector/],
         [`${set}fill 1 0 1 41\n`, image, 'unknown', /^1 of 2/],
         [`${set}rebuild 1\n`, image, 'unknown', /^1 of 2/],
-        [set, { size: size + 2352, sha1: '' }, 'unknown', /^The place matches, but .* Your image has 7,056 bytes, and the author’s has 9,408\. 1 sector/],
+        [set, { size: size + 2352, sha1: '' }, 'unknown', /^The place matches, but .* Your image has 7,056 bytes, and the author’s has 9,408\. The file is probably incomplete\. 1 sector/],
+        [set, { size: size - 2352, sha1: '' }, 'unknown', /the author’s has 4,704\. 1 sector/],
     ];
     for (const [lines, wanted, verdict, words] of rows) {
         const [it, text] = await said(other, `cdpatch 1\n${lines}`, { image: wanted });

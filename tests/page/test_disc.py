@@ -307,6 +307,7 @@ class Disc(PageTest):
         browser.wait('#disc-line .sha-wait', 'not\u00a0known')
         browser.click('#tab-publish')
         browser.wait('#panel-publish', 'Your image was not read to its end.')
+        self.assertNotIn('Calculating the SHA-1', browser.text('#panel-publish'))
         browser.click('#tab-disc')
         browser.click(f'{VERDICT} button')
         browser.wait(VERDICT, 'Mode 1 sectors match')

@@ -98,7 +98,7 @@ class Next(PageTest):
         self.open_image(files['game'])
         for name, why in (('hurt', '1 of 1 place to patch is damaged. Repair the image first, or tick “Patch damaged sectors too”.'),
                           ('far', '1 of 1 place to patch is not in this image. Another track, or another base?'),
-                          ('sound', '1 of 1 place to patch is not in a data sector here. Only Mode 1 sectors are patched.'),
+                          ('sound', '1 of 1 place to patch is not in a Mode 1 sector here. Only Mode 1 sectors are patched.'),
                           ('other', '1 of 1 place to patch holds other bytes. Another release, another disc, or another base?')):
             self.open_script(files[name])
             self.browser.wait(f'{SAID}.bad', why)

@@ -63,6 +63,7 @@ class TextsTable(PageTest):
         self.give(table)
         self.browser.wait('#panel-text .say.good', '3 lines added to the script.')
         self.browser.wait('#panel-text .say.good', 'All 3 translations fit.')
+        self.browser.wait('#panel-text .say.good', 'No old text has these characters, so the font of the game may lack them: Thegamstr. in row 2')
         written = common.cdscript_prints('replace', image, '--list', table)
         self.press('Open Script')
         self.assertEqual(self.script_text(), written)

@@ -17,7 +17,7 @@ TOP = WRONG.parents[1]
 RECORD = WRONG / 'refused.txt'
 HEAD = """\
 # Wrong bodies and wrong versions that were refused: for each table, a sum for each block, over the block and all that it was tried on.
-# Only `make must-fail` writes this file. The gate tries every block whose sum is not here, and a fifth of the others.
+# `make must-fail` writes this file, and so do its parts alone. The gate tries every block whose sum is not here, and a fifth of the others.
 """
 
 

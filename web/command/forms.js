@@ -199,7 +199,7 @@ export const FORMS = {
         says: 'Repair an image from other dumps of the same disc',
         does: 'OUT is OLD with its damaged sectors replaced by sound ones from the OTHERs. `repair` is another name for this ' +
             'job. Status: 0 all tested sectors are sound; 1 some sectors are damaged or lost in all dumps, or differ and ' +
-            'cannot be tested, or got a copy that may be of a different version; 2 failed',
+            'cannot be tested, or got a copy that may be of a different version, or have a wrong address; 2 failed',
         example: 'cdscript merge first.bin second.bin third.bin repaired.bin',
     },
     'rebuilds': {

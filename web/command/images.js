@@ -31,7 +31,7 @@ const MOST_ALIKE = 10;
  * @param {Repair} repair
  * @param {DiscImage[]} others
  */
-function repairLines({ taken, damaged, alike, disputed, differing, different, lost, unlike }, others) {
+function repairLines({ taken, damaged, alike, disputed, wrongAddress, differing, different, lost, unlike }, others) {
     const numbers = [taken, damaged, disputed].map(blocksIn).concat(different.reduce((sum, count) => sum + count, 0));
     const inBoth = differing.flatMap((runs, other) => runs.map(run => ({ ...run, other })));
     const sameDamage = `alike ${blocksIn(alike)}, damaged with the same bytes in all dumps:`;
@@ -44,6 +44,7 @@ function repairLines({ taken, damaged, alike, disputed, differing, different, lo
         ...linesOfRuns(disputed, ({ first, last }) => `${first}-${last} sound in several dumps, but with different contents`),
         ...linesOfRuns(inBoth, ({ first, last, other }) =>
             `${first}-${last} also sound in ${others[other].name}, but with different contents`),
+        ...linesOfRuns(wrongAddress, ({ first, last }) => `${first}-${last} sound, but with the address of a different block`),
         ...alike.length > 0 ? [`${sameDamage} ${blocksText(alike, MOST_ALIKE)}`] : [],
         `taken ${numbers[0]} damaged ${numbers[1]} disputed ${numbers[2]} different ${numbers[3]}`,
     ];
@@ -115,6 +116,18 @@ function shiftText({ by, first }, name) {
     return `${name} is shifted from block ${first} on, because ${why}`;
 }
 
+/**
+ * Reports the other files of a cue sheet, which are not compared with those of the other dumps.
+ * @param {Job} job
+ * @param {import('../core/tasks/opened.js').OpenedTrack} opened
+ */
+function sayOtherFiles(job, { disc, image, track }) {
+    const count = new Set(disc.tracks.map(({ file }) => file).filter(file => file !== track.file)).size;
+    if (count === 0) return;
+    const [files, were] = count === 1 ? ['other file', 'was'] : [`${count} other files`, 'were'];
+    job.say(`only ${image.name} is repaired: the ${files} of the cue sheet ${were} not compared`);
+}
+
 /** @param {Job} job */
 export async function mergeJob(job) {
     const [name, ...more] = job.names;
@@ -129,6 +142,7 @@ export async function mergeJob(job) {
     const repair = await repairTrack(job, opened, dumps, piece => out.writePiece(image.reader, piece, seen), job.watch);
     const { refused, doubtful, untested } = repair;
     if (refused) throw ownFault(refusedText(repair, refused, [name, ...more]));
+    sayOtherFiles(job, opened);
     repair.ranges.forEach((ranges, i) => sayOtherRange(job, image, others[i], ranges, out.name));
     others.filter((_, i) => repair.tails[i]).forEach(other =>
         job.say(`the bytes after the last sector differ in ${other.name}; those in ${name} are kept`));
@@ -139,7 +153,7 @@ export async function mergeJob(job) {
     const isBad = known !== null && made.hashes !== null && sayKnown(job, known, made.name, made.size, made.hashes);
     sayOfRuns(job, doubtful, it => `${blocksText([it])}: copied from ${others[it.other].name}, but ${OTHER_EDC}`);
     if (isBad) return 1;
-    return Number([repair.damaged, doubtful, repair.lost, repair.unlike].some(runs => runs.length > 0));
+    return Number([repair.damaged, doubtful, repair.wrongAddress, repair.lost, repair.unlike].some(runs => runs.length > 0));
 }
 
 /** @param {Job} job */

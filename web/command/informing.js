@@ -4,7 +4,7 @@ import { basename } from 'node:path';
 import { bytesOfLines, joinedBytes } from '../core/bytes.js';
 import { fileIn, kindOfFile } from '../core/disc/index.js';
 import { SECTOR_KIND } from '../core/module/index.js';
-import { MODE2, isDamagedMode2, listText, mode2Runs } from '../core/sectors/index.js';
+import { MODE2, isDamagedMode2, listText, mode2Runs, wrongRuns } from '../core/sectors/index.js';
 import { findingsIn, otherSummary, summaryOf, unsurveyedTracks } from '../core/tasks/index.js';
 import { sentenceOf } from '../sentences/index.js';
 import { ALL_HASHES, SHA1_ONLY, Verdicts, dumpText } from './hashes.js';
@@ -72,8 +72,20 @@ function mode2Lines({ survey, mode2: { sectors, tested, damaged, elsewhere }, mo
     return [
         tested > 0 ? `mode2 ${sectors} damaged ${damaged} address ${elsewhere}`
             : `mode2 ${sectors}: Mode 2 sectors cannot be audited or patched; PlayStation discs have them`,
-        ...linesOfRuns(mode2Runs(mode2Found, survey.block, isDamagedMode2), ({ first, last }) => `${first}-${last} mode2 damaged`),
-        ...linesOfRuns(wrong, ({ first, last }) => `${first}-${last} mode2 with a wrong address`),
+        ...wrongLines('mode2', mode2Runs(mode2Found, survey.block, isDamagedMode2), wrong),
+    ];
+}
+
+/**
+ * The lines that list sectors of a kind.
+ * @param {string} kind
+ * @param {import('../core/sectors/runs.js').Run[]} damaged
+ * @param {import('../core/sectors/runs.js').Run[]} elsewhere those with a wrong address
+ */
+function wrongLines(kind, damaged, elsewhere) {
+    return [
+        ...linesOfRuns(damaged, ({ first, last }) => `${first}-${last} ${kind} damaged`),
+        ...linesOfRuns(elsewhere, ({ first, last }) => `${first}-${last} ${kind} with a wrong address`),
     ];
 }
 
@@ -87,7 +99,9 @@ function mode2Lines({ survey, mode2: { sectors, tested, damaged, elsewhere }, mo
 function surveyLines(job, disc, found) {
     const { image, survey, mode1, damaged, elsewhere, mode2, lost, untested, used, lack } = found;
     const list = new TextDecoder().decode(listText(job.calls, survey, image.tail).text).trimEnd();
-    const lines = [`base ${image.base}`, ...list.split('\n'), `mode1 ${mode1} damaged ${damaged} address ${elsewhere}`];
+    const wrong = wrongRuns(survey, new Uint8Array(0));
+    const lines = [`base ${image.base}`, ...list.split('\n'), `mode1 ${mode1} damaged ${damaged} address ${elsewhere}`,
+        ...wrongLines('mode1', wrong.damaged, wrong.elsewhere)];
     if (mode2.sectors > 0) lines.push(...mode2Lines(found));
     const others = mode2.tested > 0 ? untested : untested.filter(({ kind }) => kind !== SECTOR_KIND.MODE2);
     lines.push(...untestedTexts(others, disc.sheet !== null));

@@ -1,9 +1,10 @@
 // Opens the first argument of a job: a raw image, or a cue sheet and the files that it names.
 
 import { dirname } from 'node:path';
-import { wholeOf } from '../core/bytes.js';
+import { readBytes, wholeOf } from '../core/bytes.js';
 import { kindOfFile, openDisc, sheetsOf } from '../core/disc/index.js';
 import { failedBy } from '../core/faults.js';
+import { SECTOR_KIND, SECTOR_SIZE } from '../core/module/index.js';
 import { imageTooLong } from '../core/sectors/index.js';
 import { openTrack } from '../core/tasks/index.js';
 import { ownFault } from '../sentences/index.js';
@@ -15,6 +16,9 @@ import { pathsOfSheet } from './sheet_files.js';
 /** @typedef {import('../core/disc/disc.js').DiscFile} DiscFile */
 /** @typedef {import('../core/disc/disc.js').DiscImage} DiscImage */
 /** @typedef {import('./job.js').Job} Job */
+
+/** The first block of a track that describes an ISO 9660 volume. */
+const VOLUME_BLOCK = 16;
 
 /**
  * Opens the disc of a raw image or of a cue sheet. Throws a Fault if a file is too long, and any error of `openDisc`.
@@ -86,6 +90,19 @@ export function sayUnknownBase(job, { name, base, addressed }) {
 }
 
 /**
+ * Reports a track whose user data is not where the jobs for texts and files read it.
+ * @param {Job} job
+ * @param {DiscImage} part
+ */
+async function sayMode2(job, { reader, base, sectors }) {
+    if (sectors <= VOLUME_BLOCK) return;
+    const sector = await readBytes(reader, VOLUME_BLOCK * SECTOR_SIZE, SECTOR_SIZE);
+    if (job.calls.kind(sector) !== SECTOR_KIND.MODE2) return;
+    const what = 'texts and files in Mode 2 sectors are not found, or are cut, and cannot be patched; see docs/FAQ.md';
+    job.sayOnce(`block ${base + VOLUME_BLOCK} is Mode 2: ${what}`);
+}
+
+/**
  * Opens the data track of a job. Reports the data tracks that are not examined, and an unknown base.
  * @param {Job} job
  * @param {string} name
@@ -94,6 +111,7 @@ export function sayUnknownBase(job, { name, base, addressed }) {
 export async function openTrackOf(job, name, whole = false) {
     const opened = openTrack(await openDiscOf(job, name), job.options);
     sayOtherTracks(job, opened.disc, opened.track, whole);
+    if (!whole) await sayMode2(job, opened.part);
     if (job.options.base === undefined) sayUnknownBase(job, opened.image);
     return opened;
 }

@@ -2,7 +2,7 @@
 // the gaps in the sheet may be missing in the file.
 
 import { SECTOR_KIND, SECTOR_SIZE } from '../module/index.js';
-import { addressIn, blockAt, isSound } from '../sectors/index.js';
+import { addressIn, blockAt, isSound, isSoundMode2, testMode2 } from '../sectors/index.js';
 import { sampledSectors } from './file_type.js';
 
 /** @typedef {import('../module/calls.js').Calls} Calls */
@@ -34,9 +34,19 @@ async function sampledBases(calls, reader) {
         const block = blockAt(calls, addressIn(sector, 0));
         if (block === null) continue;
         own.bases.set(block - number, (own.bases.get(block - number) || 0) + 1);
-        if (number < SAMPLED_TOGETHER && isSound(calls.survey(sector, 0), 0)) first.push(block - number);
+        if (number < SAMPLED_TOGETHER && isSoundSector(calls, sector)) first.push(block - number);
     }
     return { mode1, mode2, first };
+}
+
+/**
+ * Whether a sector was tested and is sound, except its address.
+ * @param {Calls} calls
+ * @param {Uint8Array} sector
+ */
+function isSoundSector(calls, sector) {
+    const records = calls.survey(sector, 0);
+    return isSound(records, 0) || isSoundMode2(testMode2(calls, sector, records, null)[0]);
 }
 
 /**

@@ -14,15 +14,15 @@ import { isSound, isSoundMode2, runOf, sectorOf, sectorsAt, testMode2 } from '..
  * The findings of a repair, as runs of blocks. `taken`: blocks copied from one other image for each run. `doubtful`: those of them whose
  * damaged sector has a different EDC and different data, unless one byte fills it and nothing disputes the copy. `damaged`: blocks that no
  * image repairs. `alike`: those of them with the same bytes in all images that have the block. `disputed`: taken blocks in which other
- * images are also sound, but different. `differing`, for each other image: blocks in which both are sound, but different. `different` is
- * their number, and `same` the number of blocks with the same bytes. `others`: blocks that are neither Mode 1 in any image nor sound, with
- * their kinds in the first one. `filled`: those of them that one byte fills there. `unlike`: those of them with different bytes in some
- * image.
+ * images are also sound, but different. `wrongAddress`: blocks that keep a sound sector with the address of a different block.
+ * `differing`, for each other image: blocks in which both are sound, but different. `different` is their number, and `same` the number of
+ * blocks with the same bytes. `others`: blocks that are neither Mode 1 in any image nor sound, with their kinds in the first one. `filled`:
+ * those of them that one byte fills there. `unlike`: those of them with different bytes in some image.
  *
  * `mode2`: blocks that are Mode 2 in the repaired image. `unsound`: those of `others` that count as damaged if any image has sound Mode 2.
  * `sound`: how many blocks are sound Mode 2 in any image.
- * @typedef {{ taken: RunOf[], doubtful: RunOf[], damaged: DamagedRun[], alike: Run[], disputed: Run[], differing: Run[][],
- *     different: number[], same: number[], unlike: Run[], unsound: DamagedRun[], sound: number } & OtherSectors} Found
+ * @typedef {{ taken: RunOf[], doubtful: RunOf[], damaged: DamagedRun[], alike: Run[], disputed: Run[], wrongAddress: Run[],
+ *     differing: Run[][], different: number[], same: number[], unlike: Run[], unsound: DamagedRun[], sound: number } & OtherSectors} Found
  */
 /** @typedef {Found & { sectors: Uint8Array, end: number }} Merged with the copied sectors, and the block after the range */
 /** @typedef {{ records: Uint8Array, mode2: Uint8Array }} Tested the records of sectors, and the findings in those of Mode 2 */
@@ -84,8 +84,9 @@ class RangeMerge {
         const from = better.length > 0 ? this.take(i, better) + 1 : 0;
         if (kindAt(tested[from], i) === SECTOR_KIND.MODE2) addToRuns(found.mode2, runOf(block));
         if (from > 0) return;
-        if (!isKept) this.leave(i, sound.length > 0);
-        else for (const other of sound) if (!this.hasSameContents(other + 1, i)) addDifferent(found, block, other);
+        if (!isKept) return void this.leave(i, sound.length > 0);
+        if (this.calls.address(block + this.shift) !== null && !this.isHome(0, i)) addToRuns(found.wrongAddress, runOf(block));
+        for (const other of sound) if (!this.hasSameContents(other + 1, i)) addDifferent(found, block, other);
     }
 
     /**
@@ -214,7 +215,7 @@ function isSoundAt({ records, mode2 }, i) {
 export function nothingFound(others) {
     const differing = Array.from({ length: others }, () => []);
     const [different, same] = [0, 0].map(none => new Array(others).fill(none));
-    const runs = { taken: [], doubtful: [], damaged: [], alike: [], disputed: [], others: [], filled: [], unlike: [] };
+    const runs = { taken: [], doubtful: [], damaged: [], alike: [], disputed: [], wrongAddress: [], others: [], filled: [], unlike: [] };
     return { ...runs, mode2: [], unsound: [], differing, different, same, sound: 0 };
 }
 

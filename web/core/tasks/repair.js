@@ -161,7 +161,8 @@ function addAnswer(found, { taken, doubtful, differing, different, same, sound, 
     for (const run of taken) addToRuns(found.taken, { ...run, other: present[run.other] });
     for (const run of doubtful) addToRuns(found.doubtful, { ...run, other: present[run.other] });
     found.sound += sound;
-    for (const name of /** @type {const} */ (['damaged', 'unsound', 'alike', 'disputed', 'others', 'filled', 'unlike', 'mode2'])) {
+    for (const name of /** @type {const} */ (['damaged', 'unsound', 'alike', 'disputed', 'wrongAddress', 'others', 'filled', 'unlike',
+        'mode2'])) {
         for (const run of answer[name]) addToRuns(/** @type {Run[]} */ (found[name]), run);
     }
     differing.forEach((runs, i) => runs.forEach(run => addToRuns(found.differing[present[i]], run)));

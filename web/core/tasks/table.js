@@ -1,7 +1,7 @@
 // Exports the texts of a track as a table or a PO file for translators, and imports their lists with new texts.
 
 import { Fault } from '../faults.js';
-import { NO_BLOCK, PoFile, allTexts, codesLeftOut, controlsTyped, rowText, stretchesOf } from '../texts/index.js';
+import { NO_BLOCK, PoFile, allTexts, codesLeftOut, controlsTyped, haveSameText, rowText, stretchesOf } from '../texts/index.js';
 import { letOthersIn } from '../turns.js';
 import { encodingsOfRows, replaceList, roomOfRow } from './list.js';
 import { rowsOfLists } from './list_rows.js';
@@ -80,7 +80,7 @@ export class NewTexts {
      */
     of({ block, offset, text, fill }) {
         const row = this.rows.get(`${block}+${offset}`);
-        if (row === undefined || row.text !== text) return '';
+        if (row === undefined || !haveSameText(row.text, text)) return '';
         this.unused.delete(row);
         const isKept = row.fill !== '' && !fill;
         this.records += Number(isKept);

@@ -24,6 +24,9 @@ const CODED = /[\p{C}\u2028\u2029\uFFFD{}]/u;
 /** Characters that are written as codes at the beginning of a cell: a spreadsheet would remove a quote, and run the others as a formula. */
 const CODED_FIRST = /^["=+\-@]/;
 
+/** The code of such a character at the beginning of a cell, which also may be one of UTF-16. */
+const CODE_FIRST = /^\{(?:00)?(22|2[BD]|3D|40)(?:00)?\}/i;
+
 /** The most bytes of one of these characters: two in UTF-16. */
 const LONGEST_SIGN = 2;
 
@@ -63,6 +66,16 @@ export function unitsOfCell(encoding, cell) {
 export function bytesOfCode(cell) {
     const [before, digits, after] = cell.split(CODE, 3);
     return digits !== undefined && before === '' && after === '' ? bytesOfHex(digits) : null;
+}
+
+/**
+ * Whether two cells have the same text. In tables of version 1.3 a first character is not a code.
+ * @param {string} a
+ * @param {string} b
+ */
+export function haveSameText(a, b) {
+    const [plainA, plainB] = [a, b].map(cell => cell.replace(CODE_FIRST, (_, digits) => String.fromCharCode(parseInt(digits, 16))));
+    return plainA === plainB;
 }
 
 /**

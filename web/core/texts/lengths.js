@@ -21,6 +21,9 @@ const CONTROL_SHARE = 0.1;
 const LEAST_LENGTH = 2;
 const MOST_LENGTH = 1024;
 
+/** The greatest length of a text that is looked for before a chain: below the second bytes of characters, which could look like lengths. */
+const MOST_LENGTH_BACK = 0x3F;
+
 /** The first length is at most MOST_BEFORE bytes before the first scored character, or MOST_AFTER after the beginning of a long text. */
 const MOST_BEFORE = 12;
 const MOST_AFTER = 256;
@@ -90,7 +93,9 @@ function chainOf(bytes, { start, end, from, scores }, low) {
             if (at >= least && areLengths(bytes, at, width, read)) {
                 const chain = chainFrom(bytes, scores, at, width, read, left);
                 const isOver = chain.length > 0 && chain[chain.length - 1][1] > from;
-                if (isOver && isChain(bytes, chain, width, at, { start, end, scores })) return { at, texts: chain };
+                if (isOver && isChain(bytes, chain, width, at, { start, end, scores })) {
+                    return withFirstTexts(bytes, scores, width, read, least, { at, texts: chain });
+                }
             }
             if (k < MOST_BEFORE) at -= 1;
             else if (k === MOST_BEFORE) at = Math.max(least, start, from - width + 1);
@@ -176,6 +181,29 @@ function chainFrom(bytes, scores, from, width, read, left) {
         at = end;
     }
     return chain;
+}
+
+/**
+ * A chain with the short texts directly before it, which too few frequent characters may hide.
+ * @param {Uint8Array} bytes
+ * @param {Scores} scores
+ * @param {number} width
+ * @param {ReadLength} read
+ * @param {number} least the first place of a length
+ * @param {{ at: number, texts: [number, number][] }} chain
+ */
+function withFirstTexts(bytes, scores, width, read, least, { at, texts }) {
+    /** @type {[number, number][]} */
+    const before = [];
+    let first = at;
+    for (let place = at - width - LEAST_LENGTH; place >= Math.max(least, first - width - MOST_LENGTH_BACK); place--) {
+        const start = place + width;
+        if (start + read(bytes, place) !== first || !isText(bytes, scores, place, start, first)) continue;
+        before.unshift([start, first]);
+        first = place;
+        place = first - width - LEAST_LENGTH + 1;
+    }
+    return { at: first, texts: [...before, ...texts] };
 }
 
 /**

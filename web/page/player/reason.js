@@ -67,7 +67,8 @@ export function refusalForPlayer({ patches, refused }, size, wanted) {
  * @param {number} wanted the size of the author's
  */
 export function reasonForPlayer({ verdict, patches, without, damaged }, size, wanted) {
-    const sizes = size === wanted ? '' : format(texts.playerSizesDiffer, { n: size, wanted });
+    const cut = size < wanted ? ` ${texts.playerFileProbablyCut}` : '';
+    const sizes = size === wanted ? '' : `${format(texts.playerSizesDiffer, { n: size, wanted })}${cut}`;
     const hurt = damaged === 0 ? '' : format(texts.playerSectorsOfImageDamaged, { n: damaged });
     const named = without === 0 ? format(texts.playerPlacesMatchRestUnknown, { n: patches })
         : format(texts.playerNamesNoOldBytes, { n: without, changes: format(texts.playerPatchCount, { n: patches }) });

@@ -6,8 +6,9 @@ import { download, sheetNaming } from '../save/index.js';
 import { fitWords } from '../script/index.js';
 import * as texts from '../texts/index.js';
 import { LANGUAGES, format, say } from '../texts/index.js';
-import { askBeforeLeaving, button, counted, element, fill, hashParts, isCancelled, isDisabled, jobBar } from '../ui/index.js';
+import { askBeforeLeaving, button, counted, element, fill, isCancelled, isDisabled, jobBar } from '../ui/index.js';
 import { messageArea, nameOf, notice, sentence, setDisabled, showMessageAt, stemOf, term } from '../ui/index.js';
+import { imageRows } from './image_rows.js';
 import { KeptEntries } from './kept.js';
 import { proposedName, triedOn, withStandIns } from './trial.js';
 
@@ -170,10 +171,7 @@ class PublishPanel {
         return [this.fitRow(image, tried),
             tried.without === 0 ? ['good', texts.publishAllNameOldBytes] : ['warn', ...say(texts.publishWithoutOldBytes,
                 { n: tried.without, was })],
-            soundRow(survey),
-            image.sha1 === '' ? ['quiet', texts.publishCalculatingOwnSha1]
-                : ['good', ...say(texts.publishComparedWithSha1, { sha1: element('span', { class: 'mono small' },
-                    ...hashParts(image.sha1)) })],
+            ...imageRows(image, survey),
             ...isSeen(this.title.value) ? [] : [/** @type {Row} */ (['bad', texts.publishTitleMissing, ' ', title])],
             ...this.warnings(image, tried),
         ];
@@ -271,17 +269,6 @@ class PublishPanel {
         this.edited = false;
         showMessageAt(this.message, notice('good', say(texts.discFileSaved, { name: nameOf(name) }), texts.publishPlayersOpenIt));
     }
-}
-
-/**
- * @param {App['survey']} survey
- * @returns {Row}
- */
-function soundRow(survey) {
-    if (survey === null || !survey.over) return ['quiet', texts.publishReadingYourImage];
-    if (survey.ended === 0) return ['bad', texts.publishNotReadToEnd];
-    const findings = survey.marks.findings();
-    return findings === 0 ? ['good', texts.publishYourImageSound] : ['warn', format(texts.publishYourImageHasFindings, { n: findings })];
 }
 
 /** @type {Record<string, string>} */

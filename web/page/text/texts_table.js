@@ -20,13 +20,14 @@ import { isWritten, withdrawnLines } from './withdrawn.js';
 /** @typedef {import('../../core/tasks/list_rows.js').ListRow} ListRow */
 /** @typedef {import('../ui/fill.js').Child} Child */
 
-/** The maximum number of lines, and of codes that new texts leave out, that are listed. */
+/** The maximum number of lines, of codes that new texts leave out, and of characters that only new texts have, that are listed. */
 const MOST_NUMBERS = 200;
 const MOST_CODES = 20;
+const MOST_GLYPHS = 100;
 
 /**
  * A remark on a list, as a sentence.
- * @template {'list/code-left' | 'list/fuzzy'} Name
+ * @template {'list/code-left' | 'list/new-characters' | 'list/fuzzy'} Name
  * @param {Name} code
  * @param {import('../../core/facts.js').Facts[Name]} facts
  */
@@ -182,7 +183,7 @@ export class TextsTable {
      * @param {import('../../core/script/merge_lines.js').Merged} merged
      * @param {ScriptLine[]} withdrawn
      */
-    madeNotice({ count, left: rowsLeft, codes, fuzzy }, merged, withdrawn) {
+    madeNotice({ count, left: rowsLeft, codes, glyphs, fuzzy }, merged, withdrawn) {
         const { length: left } = rowsLeft;
         const fit = count - left;
         const isAny = merged.added + merged.replaced + merged.same + withdrawn.length > 0;
@@ -195,8 +196,11 @@ export class TextsTable {
             ...codes.slice(0, MOST_CODES).map(it => remarkWords('list/code-left', it)),
             codes.length > MOST_CODES && format(texts.textMoreCodesLeftOut, { n: codes.length - MOST_CODES }),
             fuzzy > 0 && remarkWords('list/fuzzy', { count: fuzzy })].flatMap(it => it || []);
-        announce([added, rows, ...others].join(' '));
-        return notice(left + others.length === 0 ? 'good' : 'warn', added, rows, ...others.map(it => element('p', {}, it)),
+        const newCharacters = glyphs.length === 0 ? []
+            : [remarkWords('list/new-characters', { glyphs: glyphs.slice(0, MOST_GLYPHS), count: glyphs.length })];
+        const remarks = [...others, ...newCharacters];
+        announce([added, rows, ...remarks].join(' '));
+        return notice(left + others.length === 0 ? 'good' : 'warn', added, rows, ...remarks.map(it => element('p', {}, it)),
             isAny && element('div', { class: 'row' },
                 n > 0 && button('slim', () => this.remove(withdrawn), texts.textRemoveLines), this.scriptButton()));
     }

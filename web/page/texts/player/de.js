@@ -167,7 +167,7 @@ export const DE = {
     playerOlderPatchPerhaps: 'Oder eine ältere Version dieses Patches hat es verändert: wählen Sie das ursprüngliche Image.',
     playerAreDamaged: '{n} von {places} ist beschädigt.|{n} von {places} sind beschädigt.',
     playerTryAnotherDump: 'Versuchen Sie es mit einem anderen Dump dieser Disc, oder reparieren Sie diesen im vollständigen cdpatch.',
-    playerHoldNoData: '{n} von {places} ist hier nicht in einem Datensektor.|{n} von {places} sind hier nicht in einem Datensektor.',
+    playerHoldNoData: '{n} von {places} ist hier nicht in einem Mode-1-Sektor.|{n} von {places} sind hier nicht in einem Mode-1-Sektor.',
     playerOtherTrackOrDisc: 'Es ist wahrscheinlich eine andere Spur oder eine andere Disc.',
     playerNotInThisImage: '{n} von {places} ist nicht in diesem Image.|{n} von {places} sind nicht in diesem Image.',
     playerOtherTrackOrCut: 'Es ist wahrscheinlich eine andere Spur, oder die Datei ist unvollständig.',
@@ -181,6 +181,7 @@ Alle {n} Stellen stimmen überein, aber nichts zeigt, ob der Rest von derselben 
 {n} von {changes} nennen keine alten Bytes, darum zeigt nichts, ob sie passen.',
     playerPatchCount: '{n} Patch|{n} Patches',
     playerSizesDiffer: 'Ihr Image hat {n} Byte, und das des Autors hat {wanted}.',
+    playerFileProbablyCut: 'Die Datei ist wahrscheinlich unvollständig.',
     playerSectorsOfImageDamaged: '{n} Sektor Ihres Images ist beschädigt.|{n} Sektoren Ihres Images sind beschädigt.',
     playerNotAuthorsResult: 'Es gibt nichts zu patchen. Aber das ist nicht das Image, das der Autor erstellt hat: sein SHA-1 stimmt ' +
         'nicht überein.',

@@ -166,8 +166,7 @@ export const FR = {
     playerOlderPatchPerhaps: 'Ou une version plus ancienne de ce patch l’a modifiée\u00a0: choisissez l’image d’origine.',
     playerAreDamaged: '{n} sur {places} est endommagé.|{n} sur {places} sont endommagés.',
     playerTryAnotherDump: 'Essayez un autre dump de ce disque, ou réparez celui-ci avec le cdpatch complet.',
-    playerHoldNoData: '{n} sur {places} n’est pas dans un secteur de données ici.|{n} sur {places} ne sont pas dans un secteur de ' +
-        'données ici.',
+    playerHoldNoData: '{n} sur {places} n’est pas dans un secteur Mode 1 ici.|{n} sur {places} ne sont pas dans un secteur Mode 1 ici.',
     playerOtherTrackOrDisc: 'C’est probablement une autre piste ou un autre disque.',
     playerNotInThisImage: '{n} sur {places} n’est pas dans cette image.|{n} sur {places} ne sont pas dans cette image.',
     playerOtherTrackOrCut: 'C’est probablement une autre piste, ou le fichier est incomplet.',
@@ -181,6 +180,7 @@ Les {n} endroits correspondent tous, mais rien ne montre si le reste vient du m�
 {n} sur {changes} n’indiquent pas d’anciens octets, et rien ne montre donc s’ils sont compatibles.',
     playerPatchCount: '{n} patch|{n} patchs',
     playerSizesDiffer: 'Votre image a {n} octets, et celle de l’auteur en a {wanted}.',
+    playerFileProbablyCut: 'Le fichier est probablement incomplet.',
     playerSectorsOfImageDamaged: '{n} secteur de votre image est endommagé.|{n} secteurs de votre image sont endommagés.',
     playerNotAuthorsResult: 'Il n’y a rien à patcher. Mais ce n’est pas l’image que l’auteur a faite\u00a0: son SHA-1 ne correspond pas.',
     playerAuthorPatchesDamaged: 'L’auteur fait aussi patcher les secteurs endommagés\u00a0: ils restent endommagés.',
