@@ -42,6 +42,7 @@ CORE = {
     'SectorCalls.auditLine': r'edc p=\d+ q=\d+',
     'script/left of sentences/english.js, with blocksText of sentences/blocks.js': r'is damaged in blocks [\d, ]+ and \d+ more',
     'kind/what of sentences/kinds.js': '^not recognised$',
+    'list/new-characters of sentences/english.js': r'No old text has these characters, so the font of the game may lack them: .* in row \d+\.',
     'replace/no-room of sentences/english.js': r'the new text has \d+ bytes in CP932, and there is room for \d+: \d+ too many',
 }
 
