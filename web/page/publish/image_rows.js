@@ -9,7 +9,7 @@ import { element, hashParts } from '../ui/index.js';
 /** @typedef {import('./panel.js').Row} Row */
 
 /**
- * The rows about an image. If it was not read to its end, nothing calculates its SHA-1, so there is no row about that.
+ * The rows about an image. If it was not read to its end, its SHA-1 is not calculated, and has no row.
  * @param {Image} image
  * @param {App['survey']} survey
  * @returns {Row[]}
