@@ -1,5 +1,5 @@
-# `make install` installs the files of dist.list, and removes what only an earlier release installed. `make uninstall` removes the files,
-# what Python has compiled of them, and the directories that only cdpatch has. In a release's tarball this file is the Makefile.
+# `make install` installs the files of dist.list. `make uninstall` removes them, what Python has compiled of them, and the directories that
+# only cdpatch has. In a release's tarball this file is the Makefile.
 .PHONY: install uninstall
 
 VERSION = $(shell sed -n 's/^\#\# \([0-9.]*\) .*/\1/p' CHANGELOG.md | head -n 1)

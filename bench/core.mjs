@@ -3,7 +3,7 @@
 
 import { fstatSync, openSync, readFileSync, readSync, writeSync } from 'node:fs';
 import { Worker } from 'node:worker_threads';
-import { Crew, localWorker } from '../web/core/crew/index.js';
+import { Pool, localWorker } from '../web/core/pool/index.js';
 import { openDisc } from '../web/core/disc/index.js';
 import { encodingOf } from '../web/core/encodings/index.js';
 import { filesOf } from '../web/core/iso/index.js';
@@ -30,13 +30,13 @@ function readerOf(path) {
     };
 }
 
-/** A crew member that runs jobs in a thread of node. */
+/** A pool member that runs jobs in a thread of node. */
 function threadWorker() {
-    const worker = new Worker(new URL('core_worker.mjs', import.meta.url), { workerData: module });
-    const hand = { post: (message, transfer) => worker.postMessage(message, transfer), onreply: () => {}, onfault: () => {} };
-    worker.on('message', reply => hand.onreply(reply));
-    worker.on('error', error => hand.onfault(error));
-    return hand;
+    const thread = new Worker(new URL('core_worker.mjs', import.meta.url), { workerData: module });
+    const worker = { post: (message, transfer) => thread.postMessage(message, transfer), onreply: () => {}, onfault: () => {} };
+    thread.on('message', reply => worker.onreply(reply));
+    thread.on('error', error => worker.onfault(error));
+    return worker;
 }
 
 const step = Number(process.env.STEP || 1024);
@@ -44,46 +44,46 @@ const tracks = () => Promise.all(paths.map(async path => openTrack(await openDis
 const out = process.env.OUT ? openSync(process.env.OUT, 'w') : null;
 const write = bytes => { if (out !== null) writeSync(out, bytes); };
 
-/** @type {Record<string, (crew: Crew, tracks: any[]) => Promise<unknown>>} */
+/** @type {Record<string, (pool: Pool, tracks: any[]) => Promise<unknown>>} */
 const JOBS_TIMED = {
-    async files(crew, [{ image }]) {
+    async files(pool, [{ image }]) {
         return (await filesOf(image.reader, image.base)).files.length;
     },
-    async find(crew, [{ image }]) {
+    async find(pool, [{ image }]) {
         const wanted = encodingOf('CP932').units(process.env.TEXT || 'number 004242');
         const parts = [];
         const how = { base: image.base, step, beyond: sectorsBeyond(wanted) };
-        await crew.share('find', [image.reader], { texts: [wanted], limit: 100 }, how, ([answer]) => { parts.push(answer); });
+        await pool.share('find', [image.reader], { texts: [wanted], limit: 100 }, how, ([answer]) => { parts.push(answer); });
         return joinFound(parts, 100).count;
     },
-    async survey(crew, [{ image }]) {
+    async survey(pool, [{ image }]) {
         const parts = [];
-        await crew.share('survey', [image.reader], {}, { base: image.base, step }, answer => { parts.push(answer); });
+        await pool.share('survey', [image.reader], {}, { base: image.base, step }, answer => { parts.push(answer); });
         const records = Buffer.concat(parts.map(part => part.records));
         return auditText(calls, { block: image.base, records }, image.tail).text.length;
     },
-    async diff(crew, [old, { image: fresh }]) {
-        const { script, left } = await compareTrack({ calls, crew }, old, fresh.reader, {}, { step });
+    async diff(pool, [old, { image: fresh }]) {
+        const { script, left } = await compareTrack({ calls, pool }, old, fresh.reader, {}, { step });
         if (script) script.pieces.forEach(write);
         return { left: left.length, bytes: script && script.size, patches: script && script.patches, long: script && script.long };
     },
-    async merge(crew, [old, ...others]) {
+    async merge(pool, [old, ...others]) {
         let pieces = 0;
-        const { taken, damaged, disputed, different } = await repairTrack({ calls, crew }, old, others, () => { pieces += 1; }, { step });
+        const { taken, damaged, disputed, different } = await repairTrack({ calls, pool }, old, others, () => { pieces += 1; }, { step });
         return { taken: taken.length, damaged: damaged.length, disputed: disputed.length, different, pieces };
     },
-    async user(crew, [{ image }]) {
-        await crew.share('user', [image.reader], {}, { base: image.base, step }, answer => { write(answer.user); });
+    async user(pool, [{ image }]) {
+        await pool.share('user', [image.reader], {}, { base: image.base, step }, answer => { write(answer.user); });
     },
-    async raw(crew, [image]) {
-        await crew.share('raw', [image.reader], {}, { step, units: [2048] }, answer => { write(answer); });
+    async raw(pool, [image]) {
+        await pool.share('raw', [image.reader], {}, { step, units: [2048] }, answer => { write(answer); });
     },
 };
 
 const opened = job === 'raw' ? paths.map(path => ({ reader: readerOf(path) })) : await tracks();
 const begin = process.hrtime.bigint();
-const crew = new Crew(Number(threads) === 0 ? [localWorker(calls, JOBS)] : Array.from({ length: Number(threads) }, threadWorker));
-const result = await JOBS_TIMED[job](crew, opened);
+const pool = new Pool(Number(threads) === 0 ? [localWorker(calls, JOBS)] : Array.from({ length: Number(threads) }, threadWorker));
+const result = await JOBS_TIMED[job](pool, opened);
 const seconds = Number(process.hrtime.bigint() - begin) / 1e9;
 const { user, system } = process.cpuUsage();
 console.log(`${job} ${threads} threads: ${seconds.toFixed(2)} s, ${((user + system) / 1e6).toFixed(2)} s of the processor (${(system / 1e6).toFixed(2)} of the system), ${Math.round(process.resourceUsage().maxRSS / 1024)} MB`, JSON.stringify(result) ?? '');

@@ -1,7 +1,7 @@
 // The thread of bench/core.mjs that runs jobs.
 
 import { parentPort, workerData } from 'node:worker_threads';
-import { serving, transfersOf } from '../web/core/crew/index.js';
+import { serving, transfersOf } from '../web/core/pool/index.js';
 import { JOBS } from '../web/core/jobs/index.js';
 import { Calls } from '../web/core/module/index.js';
 

@@ -12,7 +12,7 @@
 
 static const uint8_t *fail(const char *why) {
     fprintf(stderr, "audit: %s\n", why);
-    exit(CDPATCH_FAILED);
+    exit(CDPATCH_STATUS_FAILED);
 }
 
 /* Maps a file, and returns its bytes. An empty one has no map, and its bytes may stand anywhere. */

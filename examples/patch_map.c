@@ -18,7 +18,7 @@ struct map { uint8_t *bytes; size_t size; };
 
 static void fail(const char *why) {
     fprintf(stderr, "patch_map: %s\n", why);
-    exit(CDPATCH_FAILED);
+    exit(CDPATCH_STATUS_FAILED);
 }
 
 /* Maps a regular file, to write into it or only to read. */
@@ -44,14 +44,15 @@ static void see_old_bytes(struct map script) {
     uint32_t version = 0, number = 0;
     for (size_t at = 0; cdpatch_first_line(script.bytes + at, script.size - at, &line); at += line.taken) {
         enum cdpatch_content content =
-            cdpatch_read_line(version, ++number, 0, script.bytes + at, line.size, &patch, rooms.new_bytes, rooms.old_bytes);
-        if (content >= CDPATCH_NO_HEAD && content <= CDPATCH_NO_VERSION)
+            cdpatch_read_line(version, 0, script.bytes + at, line.size, &patch, rooms.new_bytes, rooms.old_bytes);
+        number++;
+        if (content >= CDPATCH_CONTENT_NO_HEAD && content <= CDPATCH_CONTENT_NO_VERSION)
             return;
-        if (content == CDPATCH_PATCH && !patch.has_old) {
+        if (content == CDPATCH_CONTENT_PATCH && !patch.has_old) {
             fprintf(stderr, "patch_map: line %u of the script names no old bytes\n", number);
-            exit(CDPATCH_FAILED);
+            exit(CDPATCH_STATUS_FAILED);
         }
-        if (content != CDPATCH_PATCH && content != CDPATCH_NOTHING)
+        if (content != CDPATCH_CONTENT_PATCH && content != CDPATCH_CONTENT_NOTHING)
             version = content;
     }
 }
@@ -68,13 +69,13 @@ static int run(struct map script, struct map image, bool writes) {
     for (;; done = step.size) {
         cdpatch_run_next(&run, done, script.bytes, script.size, entries, CDPATCH_MOST_PATCHES, hand, CDPATCH_SECTORS_IN_HAND, &rooms,
                          &step);
-        if (step.kind == CDPATCH_END)
+        if (step.kind == CDPATCH_STEP_END)
             return (int)step.status;
-        if (step.kind == CDPATCH_READ)
+        if (step.kind == CDPATCH_STEP_READ)
             memcpy(hand + step.place, image.bytes + step.at, step.size);
-        if (step.kind == CDPATCH_WRITE && writes)
+        if (step.kind == CDPATCH_STEP_WRITE && writes)
             memcpy(image.bytes + step.at, hand + step.place, step.size);
-        if (step.kind == CDPATCH_LOG && !writes && fwrite(step.text, 1, step.size, stdout) != step.size)
+        if (step.kind == CDPATCH_STEP_LOG && !writes && fwrite(step.text, 1, step.size, stdout) != step.size)
             fail("cannot print the log");
     }
 }
@@ -89,7 +90,7 @@ int main(int count, char **arguments) {
     int status = run(script, image, false);
     if (fflush(stdout) != 0)
         fail("cannot print the log");
-    if (status != CDPATCH_DONE)
+    if (status != CDPATCH_STATUS_DONE)
         return status;
     status = run(script, image, true);
     if (image.size > 0 && msync(image.bytes, image.size, MS_SYNC) != 0)

@@ -42,7 +42,7 @@ static uint8_t *read_script(const char *name, size_t *size) {
     }
     if (!grown || ferror(file)) {
         perror("patch_pipe");
-        exit(CDPATCH_FAILED);
+        exit(CDPATCH_STATUS_FAILED);
     }
     fclose(file);
     return text;
@@ -57,26 +57,26 @@ int main(int count, char **arguments) {
     size_t size, done = 0;
     if (count != 2) {
         fputs("usage: patch_pipe SCRIPT < IMAGE > OUT\n", stderr);
-        return CDPATCH_FAILED;
+        return CDPATCH_STATUS_FAILED;
     }
     uint8_t *script = read_script(arguments[1], &size);
     cdpatch_run_begin(&run, script, size, 0, CDPATCH_UNKNOWN_SIZE, 0, entries, CDPATCH_MOST_PATCHES);
     for (;;) {
         cdpatch_run_next(&run, done, script, size, entries, CDPATCH_MOST_PATCHES, hand, CDPATCH_SECTORS_IN_HAND, &rooms, &step);
-        if (step.kind == CDPATCH_READ)
+        if (step.kind == CDPATCH_STEP_READ)
             done = take(hand + step.place, step.size, stdin);
-        if (step.kind == CDPATCH_COPY)
+        if (step.kind == CDPATCH_STEP_COPY)
             done = pass_on(step.size);
-        if (step.kind == CDPATCH_WRITE)
+        if (step.kind == CDPATCH_STEP_WRITE)
             done = put(hand + step.place, step.size, stdout);
-        if (step.kind == CDPATCH_LOG)
+        if (step.kind == CDPATCH_STEP_LOG)
             done = put(step.text, step.size, stderr);
-        if (step.kind == CDPATCH_END)
+        if (step.kind == CDPATCH_STEP_END)
             break;
     }
     free(script);
-    if (step.status == CDPATCH_FAILED)
-        return CDPATCH_FAILED;
+    if (step.status == CDPATCH_STATUS_FAILED)
+        return CDPATCH_STATUS_FAILED;
     fflush(stdout);
-    return checked(0, stdout) == 0 ? (int)step.status : CDPATCH_FAILED;
+    return checked(0, stdout) == 0 ? (int)step.status : CDPATCH_STATUS_FAILED;
 }

@@ -1,12 +1,35 @@
-/** libcdpatch: the codes of CD-ROM sectors (ECMA-130), what cdpatch finds in sectors, patches a line of a script at a time, and the
- * commands of cdpatch on images in memory. What each call returns and writes is proved. cc .. -lcdpatch; libcdpatch(3).
+/** libcdpatch: the codes of CD-ROM sectors (ECMA-130), what cdpatch finds in sectors, scripts of patches, and the commands of cdpatch on
+ * images in memory. cc .. -lcdpatch; libcdpatch(3). What each call of libcdpatch for Linux on x86-64 returns and writes is proved; its
+ * header and its linking are only tested.
+ *
+ * The simplest program patches an image in memory by one call:
+ *
+ *     #include <cdpatch.h>
+ *     #include <stdio.h>
+ *     static uint8_t image[64 << 20], made[64 << 20], log[1 << 20];
+ *     static struct cdpatch_entry entries[CDPATCH_MOST_PATCHES];
+ *     static struct cdpatch_buffers buffers;
+ *     int main(void) { // from the standard input to the standard output
+ *         static const char script[] = "cdpatch 1\nset 16 40 434452544F4F4C\n";
+ *         size_t size = fread(image, 1, sizeof image, stdin), length;
+ *         if (!feof(stdin)) return CDPATCH_STATUS_FAILED; // a failed read, or 64 MB and more
+ *         enum cdpatch_status status =
+ *             cdpatch_apply(image, size, (const uint8_t *)script, sizeof script - 1, 0, 0,
+ *                           entries, CDPATCH_MOST_PATCHES, &buffers,
+ *                           made, sizeof made, log, sizeof log, &length);
+ *         fwrite(log, 1, length, stderr);
+ *         if (status != CDPATCH_STATUS_FAILED) fwrite(made, 1, size, stdout);
+ *         return fflush(stdout) || ferror(stdout) ? CDPATCH_STATUS_FAILED : (int)status;
+ *     }
+ *
+ * A program that reads and writes the image itself, with memory of a constant size, makes a run of patches, below.
  *
  * A sector is 2352 bytes. An address is three: minute, second, and frame in BCD. Memory may hold any bytes, and a number may have any
  * value. Each pointer must be valid for the size given here, and may be null only if the size is 0. What a call writes must not overlap its
  * other arguments. Text is written to the first bytes of its buffer; the others stay.
  *
- * Nothing is kept between calls, so threads may make calls at the same time. No other thread may access memory that a call writes. Only
- * cdpatch_check and cdpatch_apply allocate memory, which they free; all other calls may be made in a signal handler.
+ * Nothing is kept between calls, so threads may make calls at the same time. No other thread may access memory that a call writes. No call
+ * allocates memory, and each may be made in a signal handler.
  *
  * The library needs a processor of x86-64-v2 (SSE4.2 and POPCNT). On an older one the loader (glibc 2.33 or later) refuses the shared
  * library, and the static one may end the program with SIGILL.
@@ -44,9 +67,9 @@ extern "C" {
 #endif
 
 /** The version of this header as text. */
-#define CDPATCH_VERSION "1.4.0"
+#define CDPATCH_VERSION "2.0.0"
 /** The same as a number: 10000 times its first number, plus 100 times its second, plus its third. */
-#define CDPATCH_VERSION_NUMBER 10400
+#define CDPATCH_VERSION_NUMBER 20000
 
 /** Sizes in bytes: a sector, its user data, an address, the longest patch, a line of text, and a SHA-1. The number of sectors that the hand
  * of a run needs, and the P columns and Q diagonals of a sector. The most sectors of an image, the most bytes and patches of a script, the
@@ -56,21 +79,22 @@ enum { CDPATCH_SECTOR_SIZE = 2352, CDPATCH_USER_SIZE = 2048, CDPATCH_ADDRESS_SIZ
        CDPATCH_MOST_SECTORS = 1000000, CDPATCH_MOST_SCRIPT_BYTES = 67108864, CDPATCH_MOST_PATCHES = 65535,
        CDPATCH_LAST_BLOCK = 999999999, CDPATCH_LAST_BASE = 449849 };
 
-/** Results of changes and of patches. A change tests them in this order. CDPATCH_NO_PATCH: a field that the verb reads has a value that no
- * line of a script gives it. */
-enum cdpatch_result { CDPATCH_OK, CDPATCH_NOT_MODE1, CDPATCH_DAMAGED, CDPATCH_OUT_OF_RANGE, CDPATCH_NO_BLOCK, CDPATCH_DIFFERS,
-                      CDPATCH_NO_PATCH };
+/** Results of changes and of patches. A change tests them in this order. CDPATCH_RESULT_NO_PATCH: a field that the verb reads has a value
+ * that no line of a script gives it. */
+enum cdpatch_result { CDPATCH_RESULT_OK, CDPATCH_RESULT_NOT_MODE1, CDPATCH_RESULT_DAMAGED, CDPATCH_RESULT_OUT_OF_RANGE,
+                      CDPATCH_RESULT_NO_BLOCK, CDPATCH_RESULT_DIFFERS, CDPATCH_RESULT_NO_PATCH };
 /** Exit statuses of commands: 0, 1, and 2. */
-enum cdpatch_status { CDPATCH_DONE, CDPATCH_FOUND, CDPATCH_FAILED };
-/** Kinds of sectors, by sync field and mode byte; CDPATCH_OTHER is a mode byte above 2. */
-enum cdpatch_sector_kind { CDPATCH_NOSYNC, CDPATCH_MODE0, CDPATCH_MODE1, CDPATCH_MODE2, CDPATCH_OTHER };
+enum cdpatch_status { CDPATCH_STATUS_DONE, CDPATCH_STATUS_FOUND, CDPATCH_STATUS_FAILED };
+/** Kinds of sectors, by sync field and mode byte; CDPATCH_KIND_OTHER is a mode byte above 2. */
+enum cdpatch_sector_kind { CDPATCH_KIND_NOSYNC, CDPATCH_KIND_MODE0, CDPATCH_KIND_MODE1, CDPATCH_KIND_MODE2, CDPATCH_KIND_OTHER };
 /** What a patch does. */
-enum cdpatch_verb { CDPATCH_SET, CDPATCH_FILL, CDPATCH_REBUILD, CDPATCH_ADDRESS };
+enum cdpatch_verb { CDPATCH_VERB_SET, CDPATCH_VERB_FILL, CDPATCH_VERB_REBUILD, CDPATCH_VERB_ADDRESS };
 /** What a line of a script has: nothing (blank or a comment), a head line, a patch, or an error. Errors are 4 to 14 in every release. A
  * later release may add values above 255, for the head lines of later versions of the language. */
-enum cdpatch_content { CDPATCH_NOTHING, CDPATCH_VERSION_1, CDPATCH_VERSION_2, CDPATCH_PATCH, CDPATCH_NO_HEAD, CDPATCH_UNKNOWN_VERB,
-                       CDPATCH_WORD_COUNT, CDPATCH_BAD_NUMBER, CDPATCH_BAD_HEX, CDPATCH_BAD_LENGTH, CDPATCH_BAD_OFFSET,
-                       CDPATCH_BAD_ADDRESS, CDPATCH_TOO_MANY, CDPATCH_NO_MEMORY, CDPATCH_NO_VERSION };
+enum cdpatch_content { CDPATCH_CONTENT_NOTHING, CDPATCH_CONTENT_VERSION_1, CDPATCH_CONTENT_VERSION_2, CDPATCH_CONTENT_PATCH,
+                       CDPATCH_CONTENT_NO_HEAD, CDPATCH_CONTENT_UNKNOWN_VERB, CDPATCH_CONTENT_WORD_COUNT, CDPATCH_CONTENT_BAD_NUMBER,
+                       CDPATCH_CONTENT_BAD_HEX, CDPATCH_CONTENT_BAD_LENGTH, CDPATCH_CONTENT_BAD_OFFSET, CDPATCH_CONTENT_BAD_ADDRESS,
+                       CDPATCH_CONTENT_TOO_MANY, CDPATCH_CONTENT_NO_MEMORY, CDPATCH_CONTENT_NO_VERSION };
 
 /** What is wrong: a byte of the Intermediate field is not 00; the EDC; how many of 86 P columns and of 52 Q diagonals. */
 struct cdpatch_defect { bool zeros; bool edc; uint8_t p; uint8_t q; };
@@ -79,12 +103,13 @@ struct cdpatch_defect { bool zeros; bool edc; uint8_t p; uint8_t q; };
 struct cdpatch_record { uint8_t kind; bool address; bool zeros; bool edc; uint8_t p; uint8_t q; };
 /** The bytes of a line without its end (LF, or CR LF), and with it. */
 struct cdpatch_line { size_t size; size_t taken; };
-/** A patch: its first block, at most 999999999; the user byte there at which it begins, at most 2047, and 0 for CDPATCH_REBUILD and
- * CDPATCH_ADDRESS; how many bytes it sets or fills, 1 to 4096; an `enum cdpatch_verb`; whether it has old bytes, 1 or 0; the byte that
- * fills; an address. The new and the old bytes of CDPATCH_SET are elsewhere.
+/** A patch: its first block, at most 999999999; the user byte there at which it begins, at most 2047, and 0 for CDPATCH_VERB_REBUILD and
+ * CDPATCH_VERB_ADDRESS; how many bytes it sets or fills, 1 to 4096; an `enum cdpatch_verb`; whether it has old bytes, 1 or 0; the byte that
+ * fills; an address. The new and the old bytes of CDPATCH_VERB_SET are elsewhere.
  *
- * cdpatch_apply_patch reads `block`, `offset`, and `verb` of each record. For CDPATCH_SET it also reads `count` and `has_old`, the new
- * bytes, and any old ones; for CDPATCH_FILL `count` and `value`; for CDPATCH_ADDRESS `address`. The other fields may hold anything. */
+ * cdpatch_apply_patch reads `block`, `offset`, and `verb` of each record. For CDPATCH_VERB_SET it also reads `count` and `has_old`, the new
+ * bytes, and any old ones; for CDPATCH_VERB_FILL `count` and `value`; for CDPATCH_VERB_ADDRESS `address`. The other fields may hold
+ * anything. */
 struct cdpatch_patch { uint32_t block; uint16_t offset; uint16_t count; uint8_t verb; uint8_t has_old; uint8_t value;
                        uint8_t address[3]; };
 /** The block that refuses a patch, and the user byte there that differs, else 0. */
@@ -93,9 +118,9 @@ struct cdpatch_place { uint32_t block; uint16_t offset; };
 struct cdpatch_sha1 { uint32_t hash[5]; uint8_t block[64]; uint64_t count; };
 
 /** Kinds of steps of a run. */
-enum cdpatch_step_kind { CDPATCH_END, CDPATCH_READ, CDPATCH_COPY, CDPATCH_WRITE, CDPATCH_LOG };
+enum cdpatch_step_kind { CDPATCH_STEP_END, CDPATCH_STEP_READ, CDPATCH_STEP_COPY, CDPATCH_STEP_WRITE, CDPATCH_STEP_LOG };
 /** The next step of a run. It moves `size` bytes, which are at `at` in the image and at `place` in the hand. `status` is that of
- * CDPATCH_END. `text` is a line of the log. For the line of a patch, `number` is the patch's line in the script, `result` an `enum
+ * CDPATCH_STEP_END. `text` is a line of the log. For the line of a patch, `number` is the patch's line in the script, `result` an `enum
  * cdpatch_result`, and `block` and `offset` are the place that refuses it. For any other line `number` is 0. */
 struct cdpatch_step { uint32_t kind; uint32_t status; uint32_t number; uint32_t result; uint32_t block; uint32_t offset; uint64_t at;
                       size_t place; size_t size; uint8_t text[CDPATCH_LINE_SIZE]; };
@@ -105,14 +130,19 @@ struct cdpatch_entry { uint32_t block; uint32_t number; uint32_t start; uint32_t
 struct cdpatch_run { uint64_t state[9]; };
 /** Memory for the bytes of one patch. */
 struct cdpatch_rooms { uint8_t new_bytes[CDPATCH_PATCH_SIZE]; uint8_t old_bytes[CDPATCH_PATCH_SIZE]; };
-/** Flags of cdpatch_run_begin. */
-enum cdpatch_run_flag { CDPATCH_CARRY = 1, CDPATCH_NO_COPY = 2, CDPATCH_WITHOUT_OLD = 4 };
+/** Memory for cdpatch_check and cdpatch_apply: the hand of a run, and its rooms. */
+struct cdpatch_buffers { uint8_t hand[7056]; uint8_t new_bytes[CDPATCH_PATCH_SIZE]; uint8_t old_bytes[CDPATCH_PATCH_SIZE]; };
+/** Flags: patches on damaged sectors are accepted, and the damage is carried; each sector is read and written, and none copied; old bytes
+ * are not compared. */
+enum cdpatch_run_flag { CDPATCH_FLAG_CARRY = 1, CDPATCH_FLAG_NO_COPY = 2, CDPATCH_FLAG_WITHOUT_OLD = 4 };
 /** The size of an image that is not known before its end. */
 #define CDPATCH_UNKNOWN_SIZE UINT64_MAX
 /** Passed to cdpatch_run_next, in place of a number of bytes, if a step failed. */
 #define CDPATCH_MOVE_FAILED SIZE_MAX
 /** Returned by cdpatch_run_begin if it refuses its arguments. */
 #define CDPATCH_REFUSED SIZE_MAX
+/** Returned by cdpatch_run_begin for a script that is invalid or too long. */
+#define CDPATCH_INVALID (SIZE_MAX - 1)
 
 /** Returns the version of the library, as CDPATCH_VERSION_NUMBER. */
 uint32_t cdpatch_version(void);
@@ -150,8 +180,8 @@ bool cdpatch_survey(const uint8_t *sectors, size_t count, uint32_t block, struct
 
 /** @}
  * @name Changes of a Mode 1 sector
- * EDC and parity are updated. If the result is not CDPATCH_OK, the sector stays as it was. The change calls refuse a damaged sector; the
- * carry calls keep its damage, and add none.
+ * EDC and parity are updated. If the result is not CDPATCH_RESULT_OK, the sector stays as it was. The change calls refuse a damaged sector;
+ * the carry calls keep its damage, and add none.
  * @{ */
 
 /** Makes any Mode 1 sector the one consistent sector with its header and user data. */
@@ -176,7 +206,7 @@ enum cdpatch_result cdpatch_carry_address(uint8_t sector[CDPATCH_AT_LEAST 2352],
  *
  * Cut the text with cdpatch_first_line, and read each line with cdpatch_read_line. `version` is 0 until a head line is read, and then the
  * content of that line; `earlier` counts the patches. The first error makes the script invalid. A text without a head line has
- * CDPATCH_NO_HEAD in the line after its last one.
+ * CDPATCH_CONTENT_NO_HEAD in the line after its last one.
  *
  * Then sort the patches by `block`; those of equal blocks keep their order. Give each to cdpatch_apply_patch, with the sectors from its
  * block on as the earlier patches left them: three, or as many as the image has there. Block B is sector B - base; a block below the base
@@ -192,21 +222,23 @@ enum cdpatch_result cdpatch_carry_address(uint8_t sector[CDPATCH_AT_LEAST 2352],
  * nothing. */
 CDPATCH_NODISCARD
 bool cdpatch_first_line(const uint8_t *text, size_t size, struct cdpatch_line line[CDPATCH_AT_LEAST 1]);
-/** Reads a line, without its end, and returns its content, never CDPATCH_NO_MEMORY, or CDPATCH_NO_VERSION if `version` is not 0, 1, or 2.
- * For CDPATCH_PATCH writes the patch and its new and old bytes, otherwise nothing. `earlier` decides only whether a patch is
- * CDPATCH_TOO_MANY, so 0 serves for a line that is read again. `number`, that of the line, has no effect. */
+/** Reads a line, without its end, and returns its content, never CDPATCH_CONTENT_NO_MEMORY, or CDPATCH_CONTENT_NO_VERSION if `version` is
+ * not 0, 1, or 2. For CDPATCH_CONTENT_PATCH writes the patch and its new and old bytes, otherwise nothing. `earlier` decides only whether
+ * a patch is CDPATCH_CONTENT_TOO_MANY, so 0 serves for a line that is read again. */
 CDPATCH_NODISCARD
-enum cdpatch_content cdpatch_read_line(uint32_t version, uint32_t number, size_t earlier, const uint8_t *line, size_t size,
+enum cdpatch_content cdpatch_read_line(uint32_t version, size_t earlier, const uint8_t *line, size_t size,
                                        struct cdpatch_patch patch[CDPATCH_AT_LEAST 1], uint8_t new_bytes[CDPATCH_AT_LEAST 4096],
                                        uint8_t old_bytes[CDPATCH_AT_LEAST 4096]);
 /** Applies a patch with its new and old bytes to `count` sectors from its block on; no more than three are looked at. Its blocks are tested
- * in turn, each for CDPATCH_NO_BLOCK, CDPATCH_NOT_MODE1, and CDPATCH_DAMAGED, and then the old bytes for CDPATCH_DIFFERS. `place` becomes
- * the place that refuses the patch; otherwise it stays. The sectors stay unless the result is CDPATCH_OK. With `carry` damage is not a
- * reason to refuse a patch, and stays; CDPATCH_REBUILD always removes it. */
+ * in turn, each for CDPATCH_RESULT_NO_BLOCK, CDPATCH_RESULT_NOT_MODE1, and CDPATCH_RESULT_DAMAGED, and then the old bytes for
+ * CDPATCH_RESULT_DIFFERS. `place` becomes the place that refuses the patch; otherwise it stays. The sectors stay unless the result is
+ * CDPATCH_RESULT_OK. With CDPATCH_FLAG_CARRY damage is not a reason to refuse a patch, and stays; CDPATCH_VERB_REBUILD always removes it.
+ * Other flags have no effect: old bytes are not compared if `has_old` is 0. */
 CDPATCH_NODISCARD
 enum cdpatch_result cdpatch_apply_patch(const struct cdpatch_patch patch[CDPATCH_AT_LEAST 1],
                                         const uint8_t new_bytes[CDPATCH_AT_LEAST 4096], const uint8_t old_bytes[CDPATCH_AT_LEAST 4096],
-                                        uint8_t *sectors, size_t count, bool carry, struct cdpatch_place place[CDPATCH_AT_LEAST 1]);
+                                        uint8_t *sectors, size_t count, uint32_t flags,
+                                        struct cdpatch_place place[CDPATCH_AT_LEAST 1]);
 
 /** @}
  * @name A run of patches
@@ -230,45 +262,45 @@ enum cdpatch_result cdpatch_apply_patch(const struct cdpatch_patch patch[CDPATCH
  *         struct cdpatch_step step;
  *         size_t done = 0, room = CDPATCH_MOST_PATCHES;
  *         size_t count = cdpatch_run_begin(&run, script, script_size, base, CDPATCH_UNKNOWN_SIZE, flags, entries, room);
- *         if (count > room) return CDPATCH_FAILED; // the base or the flags are refused
+ *         if (count > room && count != CDPATCH_INVALID) return CDPATCH_STATUS_FAILED; // the base or the flags are refused
  *         do {
  *             cdpatch_run_next(&run, done, script, script_size, entries, room, hand, CDPATCH_SECTORS_IN_HAND, &rooms, &step);
- *             if (step.kind == CDPATCH_READ) done = fread(hand + step.place, 1, step.size, in);
- *             if (step.kind == CDPATCH_COPY) done = pass_on(in, out, step.size);
- *             if (step.kind == CDPATCH_WRITE) done = fwrite(hand + step.place, 1, step.size, out);
- *             if (step.kind == CDPATCH_LOG) done = fwrite(step.text, 1, step.size, log);
+ *             if (step.kind == CDPATCH_STEP_READ) done = fread(hand + step.place, 1, step.size, in);
+ *             if (step.kind == CDPATCH_STEP_COPY) done = pass_on(in, out, step.size);
+ *             if (step.kind == CDPATCH_STEP_WRITE) done = fwrite(hand + step.place, 1, step.size, out);
+ *             if (step.kind == CDPATCH_STEP_LOG) done = fwrite(step.text, 1, step.size, log);
  *             if (ferror(in) || ferror(out) || ferror(log)) done = CDPATCH_MOVE_FAILED;
- *         } while (step.kind != CDPATCH_END);
- *         return fflush(out) || fflush(log) ? CDPATCH_FAILED : (int)step.status;
+ *         } while (step.kind != CDPATCH_STEP_END);
+ *         return fflush(out) || fflush(log) ? CDPATCH_STATUS_FAILED : (int)step.status;
  *     }
  *
  * Image, log, and status are then those of cdpatch_apply. READ and COPY go forward once over the image, and a sector is read only if a
  * patch looks at it. A client that needs only the log drops the image.
  *
- * An image of more than 2352000000 bytes ends the run with a line that says so, and CDPATCH_FAILED. So does an invalid or too long script,
- * before any byte is requested. Create the output at the first READ, COPY, or WRITE, or at an END that is not CDPATCH_FAILED: such a script
- * then leaves none.
+ * An image of more than 2352000000 bytes ends the run with a line that says so, and CDPATCH_STATUS_FAILED. So does an invalid or too long
+ * script, before any byte is requested. Create the output at the first READ, COPY, or WRITE, or at an END that is not
+ * CDPATCH_STATUS_FAILED: such a script then leaves none.
  *
- * If a read or a write failed, pass CDPATCH_MOVE_FAILED: the run ends with CDPATCH_FAILED, without a line. A failed read that is taken for
- * the end of the image leaves an incomplete image with the status of a whole one.
+ * If a read or a write failed, pass CDPATCH_MOVE_FAILED: the run ends with CDPATCH_STATUS_FAILED, without a line. A failed read that is
+ * taken for the end of the image leaves an incomplete image with the status of a whole one.
  * @{ */
 
 /** Begins a run over an image of `image_size` bytes, or CDPATCH_UNKNOWN_SIZE, whose first sector is block `base`. `flags` is 0 or a sum of
- * CDPATCH_CARRY (damage is carried), CDPATCH_NO_COPY (each sector is read and written, and none copied), and CDPATCH_WITHOUT_OLD (old bytes
- * are not compared). Reads the whole script, writes an entry for each patch to the first of `room` entries, and returns their number. For
- * an invalid or too long script it is 0. If there are more than `room`, nothing was begun: call again with that many. For a base above
- * 449849 or other flags returns CDPATCH_REFUSED and writes no entry. */
+ * flags. Reads the whole script, writes an entry for each patch to the first of `room` entries, and returns their number. If there are more
+ * than `room`, nothing was begun: call again with that many, or with an entry for each line of the script, which is enough for any. For an
+ * invalid or too long script returns CDPATCH_INVALID, and the first step is the line that says why. For a base above 449849 or other flags
+ * returns CDPATCH_REFUSED and writes no entry. */
 size_t cdpatch_run_begin(struct cdpatch_run run[CDPATCH_AT_LEAST 1], const uint8_t *script, size_t script_size, uint32_t base,
                          uint64_t image_size, uint32_t flags, struct cdpatch_entry *entries, size_t room);
 /** Notes that `done` bytes of the last step were moved, at first 0, and writes the next one, which moves `size` bytes: READ from the image
  * to `place` in the hand, COPY from the image to the output, WRITE from `place` in the hand to the output, or LOG from `text`. The last
  * step is END with a status. Fewer bytes may be read or copied only if the image ends there. If its size is known, that ends the run with
- * CDPATCH_FAILED and the line `cdpatch: reading the image failed`.
+ * CDPATCH_STATUS_FAILED and the line `cdpatch: reading the image failed`.
  *
  * The script and the entries are those of cdpatch_run_begin. The hand, of at least three `sectors`, keeps its bytes between calls; the
- * rooms need not. More than three are not used today. Whatever bytes these have, the call returns. It writes END with CDPATCH_FAILED if
- * state or entries cannot be those of a run, or if there are fewer than three sectors. It also does if more bytes were moved than
- * requested, or fewer written or logged. A state of zeros may be that of a finished run: call cdpatch_run_begin first. */
+ * rooms need not. More than three are not used today. Whatever bytes these have, the call returns. It writes END with CDPATCH_STATUS_FAILED
+ * if there are fewer than three sectors, if more bytes were moved than requested, or if fewer were written or logged. A state of zeros may
+ * be that of a finished run: call cdpatch_run_begin first. */
 void cdpatch_run_next(struct cdpatch_run run[CDPATCH_AT_LEAST 1], size_t done, const uint8_t *script, size_t script_size,
                       const struct cdpatch_entry *entries, size_t room, uint8_t *hand, size_t sectors,
                       struct cdpatch_rooms rooms[CDPATCH_AT_LEAST 1], struct cdpatch_step step[CDPATCH_AT_LEAST 1]);
@@ -282,7 +314,7 @@ void cdpatch_run_next(struct cdpatch_run run[CDPATCH_AT_LEAST 1], size_t done, c
 size_t cdpatch_outcome_line(uint32_t number, uint32_t outcome, uint32_t block, uint16_t offset, uint8_t text[CDPATCH_AT_LEAST 96]);
 /** The last line of the log. */
 size_t cdpatch_last_line(uint32_t applied, uint32_t refused, uint8_t text[CDPATCH_AT_LEAST 96]);
-/** The line for an error, CDPATCH_NO_HEAD to CDPATCH_NO_MEMORY, in line `number`. */
+/** The line for an error, CDPATCH_CONTENT_NO_HEAD to CDPATCH_CONTENT_NO_MEMORY, in line `number`. */
 size_t cdpatch_fault_line(uint32_t number, uint32_t fault, uint8_t text[CDPATCH_AT_LEAST 96]);
 /** The line of `list` for blocks of one `enum cdpatch_sector_kind`. */
 size_t cdpatch_list_line(uint32_t first, uint32_t last, uint32_t kind, uint8_t text[CDPATCH_AT_LEAST 96]);
@@ -309,8 +341,10 @@ void cdpatch_sha1_end(const struct cdpatch_sha1 state[CDPATCH_AT_LEAST 1], uint8
  * An image is `size` bytes, such as a mapped file, whose first sector is block `base`. Each call does the same as the command of that name
  * (cdpatch(1)), and returns its exit status. The text that the command prints has `*length` bytes.
  *
- * With CDPATCH_FAILED the last line says why, also if `out` is too small. Or the room is too small, and the beginning of the text fills it.
- * Or the base is above 449849: then nothing is written, and `*length` becomes 0.
+ * With CDPATCH_STATUS_FAILED the last line says why, also if `out` is too small. Or the room is too small, and the beginning of the text
+ * fills it. Or the base is above 449849: then nothing is written, and `*length` becomes 0. cdpatch_check and cdpatch_apply also do this if
+ * the flags are not a sum of flags, or if `most`, the number of entries, is less than that of the script's patches. An entry for each line
+ * of the script is enough, and so are CDPATCH_MOST_PATCHES. What entries and buffers hold before does not matter.
  *
  * This is enough room: 100 bytes and 40 for each sector; for a log 200 bytes and 80 for each line of the script, or 5243080 for any script.
  * @{ */
@@ -326,13 +360,16 @@ enum cdpatch_status cdpatch_audit(const uint8_t *image, size_t size, uint32_t ba
 /** Prints what cdpatch_apply would do with each patch of a script. */
 CDPATCH_NODISCARD
 enum cdpatch_status cdpatch_check(const uint8_t *image, size_t size, const uint8_t *script, size_t script_size, uint32_t base,
-                                  bool carry, uint8_t *log, size_t room, size_t length[CDPATCH_AT_LEAST 1]);
-/** Writes the patched image to the first `size` bytes of `out`, and prints what was done with each patch, with `carry` as in
- * cdpatch_apply_patch. After CDPATCH_FAILED `out` begins with a prefix of the patched image, perhaps an empty one. Its other bytes stay. */
+                                  uint32_t flags, struct cdpatch_entry *entries, size_t most,
+                                  struct cdpatch_buffers buffers[CDPATCH_AT_LEAST 1], uint8_t *log, size_t room,
+                                  size_t length[CDPATCH_AT_LEAST 1]);
+/** Writes the patched image to the first `size` bytes of `out`, and prints what was done with each patch. After CDPATCH_STATUS_FAILED `out`
+ * begins with a prefix of the patched image, perhaps an empty one. Its other bytes stay. */
 CDPATCH_NODISCARD
 enum cdpatch_status cdpatch_apply(const uint8_t *image, size_t size, const uint8_t *script, size_t script_size, uint32_t base,
-                                  bool carry, uint8_t *out, size_t out_size, uint8_t *log, size_t room,
-                                  size_t length[CDPATCH_AT_LEAST 1]);
+                                  uint32_t flags, struct cdpatch_entry *entries, size_t most,
+                                  struct cdpatch_buffers buffers[CDPATCH_AT_LEAST 1], uint8_t *out, size_t out_size, uint8_t *log,
+                                  size_t room, size_t length[CDPATCH_AT_LEAST 1]);
 
 /** @} */
 

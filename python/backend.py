@@ -15,7 +15,7 @@ from typing import Dict, Optional
 from zipfile import ZIP_DEFLATED, ZipFile, ZipInfo
 
 HERE = Path(__file__).resolve().parent
-LIBRARY = 'libcdpatch.so.1'
+LIBRARY = 'libcdpatch.so.2'
 LIBRARIES = (LIBRARY, 'cdpatch.dll')
 NOTICES = 'NOTICES'
 NUMBERS = '_numbers.py'
@@ -36,7 +36,7 @@ VERSION = _stated('cdpatch/__init__.py', '__version__')
 NAME = f'cdpatch-{VERSION}'
 ABOUT = f'{NAME}.dist-info'
 NEEDS = f"""This distribution has no library. It needs {LIBRARY} of cdpatch {VERSION} or later, which `make install` of cdpatch installs, and
-the Debian package libcdpatch1. The wheels for {PLATFORMS[62]}, {PLATFORMS[183]}, and win_amd64 have it.
+the Debian package libcdpatch2. The wheels for {PLATFORMS[62]}, {PLATFORMS[183]}, and win_amd64 have it.
 
 """
 

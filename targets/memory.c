@@ -1,5 +1,5 @@
-/* The toolchain's functions for memory, over malloc, for systems for which it has no library of C. The prover trusts their contracts
-   (docs/TRUST.md). Each has the name that it has in every libcdpatch, so that a program can use another library of the toolchain too. */
+/* The toolchain's functions for memory, over malloc, which the program needs on systems for which the toolchain has no library of C. The
+   prover trusts their contracts (docs/TRUST.md). */
 
 #include <stdint.h>
 #include <stdlib.h>
@@ -24,20 +24,20 @@ static struct tried tried(void *block)
 }
 
 /* Allocates `size` bytes that nothing else uses, aligned to `align`, which divides 16. A block of no bytes has an address of its own. */
-AS_ON_LINUX struct tried cdpatchalloc(uint64_t size, uint64_t align)
+AS_ON_LINUX struct tried rattle_alloc(uint64_t size, uint64_t align)
 {
     return tried(malloc(size ? size : align));
 }
 
 /* Resizes the block to `size` bytes, perhaps at a new address. Its first `kept` bytes do not change. A refusal leaves it unchanged. */
-AS_ON_LINUX struct tried cdpatchrealloc(void *block, uint64_t kept, uint64_t size, uint64_t align)
+AS_ON_LINUX struct tried rattle_realloc(void *block, uint64_t kept, uint64_t size, uint64_t align)
 {
     (void)kept;
     return tried(realloc(block, size ? size : align));
 }
 
 /* Frees a block that one of the two functions above returned. */
-void cdpatchdealloc(void *block)
+void rattle_dealloc(void *block)
 {
     free(block);
 }

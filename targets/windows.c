@@ -240,6 +240,17 @@ int64_t __write(int32_t descriptor, const void *bytes, int64_t size)
     return shim_write(descriptor, bytes, size);
 }
 
+/* The console's code page before the program. */
+static UINT page_before;
+
+/* Restores the code page if the console ends the program, for example by Ctrl-C. The next handler, which is the system's, ends it. */
+BOOL WINAPI restore_page(DWORD event)
+{
+    (void)event;
+    SetConsoleOutputCP(page_before);
+    return FALSE;
+}
+
 /* Calls the program's own `main` with its arguments and streams, and a console that shows UTF-8. A stream that is closed stays closed. */
 int main(void)
 {
@@ -254,9 +265,10 @@ int main(void)
         shim_write(1, refused, sizeof refused - 1);
         return 2;
     }
-    UINT page = GetConsoleOutputCP();
+    page_before = GetConsoleOutputCP();
+    SetConsoleCtrlHandler(restore_page, TRUE);
     SetConsoleOutputCP(CP_UTF8);
     int32_t status = rattle_main();
-    SetConsoleOutputCP(page);
+    SetConsoleOutputCP(page_before);
     return status;
 }

@@ -2,8 +2,8 @@
 # Builds the files of a release from the files that `make` built in this tree: `tools/dist.sh DIRECTORY [KEY]`. DIRECTORY gets the tarball,
 # in which `make install` works without a toolchain; cdscript as cdscript.js, which node runs on any system; the page; packages for Debian,
 # pip, and npm; and the source packages of the first two. Each has its checksum and, with an ssh KEY, its signature. If `make windows` and
-# `make arm64` were run, there are also an archive for Windows, and a tarball and packages for Debian and pip. It reports what it cannot
-# build because a command or a built file is missing. The bytes depend only on those of the files and on the tools, not on the place, the
+# `make arm64` were run, there are also an archive for Windows, and a tarball and packages for Debian and pip. It reports which packages it
+# cannot build because a command is missing. The bytes depend only on those of the files and on the tools, not on the place, the
 # time, or the user.
 set -euo pipefail
 umask 022
@@ -54,7 +54,7 @@ debian_packages() {
     take "$room"/*.deb
 }
 
-fill_in_address() { sed -i "s/ <>/ <$(bash tools/owner.sh address)>/" "$1/debian/control" "$1/debian/changelog"; }
+fill_in_address() { sed -i "s/ <>/ <$(sed -n 's/^address: *//p' tools/owner.txt)>/" "$1/debian/control" "$1/debian/changelog"; }
 
 # debian_sources: builds the source package from the sources in git.
 debian_sources() {
@@ -88,6 +88,7 @@ python_packages() {
 arm64_tree() {
     cp -r "$tree" "$arm64"
     rm -r "$arm64/library/x86-64-v3"
+    sed -i '/x86-64-v3/d' "$arm64/dist.list"
     cp arm64/cdpatch "$arm64"
     cp arm64/libcdpatch.* "$arm64/library"
 }
@@ -96,8 +97,7 @@ arm64_tree() {
 windows_archive() {
     local room=$scratch/cdpatch-$version-windows-x86_64
     mkdir "$room"
-    cp windows/* include/cdpatch.h CHANGELOG.md "$room"
-    [ ! -e "$tree/cdscript" ] || cp "$scratch/cdscript.js" "$tree/cdpatch.html" "$room"
+    cp windows/* include/cdpatch.h CHANGELOG.md "$scratch/cdscript.js" "$tree/cdpatch.html" "$room"
     sed "s/@version@/$version/; s/\$/\r/" tools/README.windows.txt > "$room/README.txt"
     python3 -B - "$room" << 'EOF_ZIP'
 import sys
@@ -120,16 +120,12 @@ take() {
 release_tree
 archive "$tree" "$scratch/${tree##*/}.tar.gz"
 take "$tree.tar.gz"
-if [ -e "$tree/cdscript" ]; then
-    cp "$tree/cdscript" "$scratch/cdscript.js"
-    take "$scratch/cdscript.js" "$tree/cdpatch.html"
-else
-    echo 'cdscript and cdpatch.html were not made, so they are not packed.' >&2
-fi
+cp "$tree/cdscript" "$scratch/cdscript.js"
+take "$scratch/cdscript.js" "$tree/cdpatch.html"
 if has 'the packages for Debian are' dh debhelper dh_python3 dh-python; then debian_packages "$tree" --build=binary; fi
 if [ -e .git ] && has "Debian's source package is" git git dpkg-source dpkg-dev; then debian_sources; fi
-if has 'the packages for pip are' python3 python3; then python_packages "$tree/library/libcdpatch.so.1" wheel sdist; fi
-if [ -e "$tree/cdscript" ] && has 'the package for npm is' tsc node-typescript esbuild esbuild; then
+if has 'the packages for pip are' python3 python3; then python_packages "$tree/library/libcdpatch.so.2" wheel sdist; fi
+if has 'the package for npm is' tsc node-typescript esbuild esbuild; then
     name=$(bash tools/npm.sh library cdscript "$version" "$scratch")
     take "$scratch/$name"
 fi
@@ -149,11 +145,11 @@ else
     if has 'the packages for Debian on arm64 are' dh debhelper aarch64-linux-gnu-objdump binutils-aarch64-linux-gnu; then
         debian_packages "$arm64" --build=any --host-arch=arm64 --no-check-builddeps
     fi
-    if has 'the wheel for aarch64 is' python3 python3; then python_packages arm64/libcdpatch.so.1 wheel; fi
+    if has 'the wheel for aarch64 is' python3 python3; then python_packages arm64/libcdpatch.so.2 wheel; fi
 fi
 cd "$directory"
 for file in "${made[@]}"; do
     sha256sum "$file" | tee "$file.sha256"
 done
 [ -z "$key" ] || bash "$OLDPWD/tools/sign.sh" "$key" "${made[@]}"
-{ bash "$OLDPWD/tools/owner.sh" || true; } | sed 's/^/warning: this is not fit to be released: /' >&2
+bash "$OLDPWD/tools/fit.sh" owner >&2 || true

@@ -9,10 +9,9 @@ trap 'rm -rf "$room"' EXIT
 
 # each COMMAND: calls a command with the source, the target, and the mode of each file, with patterns expanded.
 each() {
-    while read -r source place mode package needed; do
+    while read -r source place mode package; do
         case $source in '' | '#'*) continue ;; esac
         [ "${PACKAGE:-$package}" = "$package" ] || continue
-        [ -z "$needed" ] || [ -e "$needed" ] || [ "$1" = remove ] || continue
         directory=
         [ -n "${copy-}" ] || eval "directory=\$${place%%/*}"
         place=${place#*/}
@@ -27,10 +26,7 @@ each() {
 # The calls of the library, for each of which there is a man page of that name.
 calls() { sed -n '/^\.Sh SYNOPSIS/,/^\.Sh DESCRIPTION/s/^\.Fn \([a-z0-9_]*\) .*/\1/p' man/libcdpatch.3; }
 
-assert_made() {
-    case $3 in link | gone) return ;; esac
-    [ -e "$1" ] || { echo "There is no $1: run make first." >&2; exit 1; }
-}
+assert_made() { [ "$3" = link ] || [ -e "$1" ] || { echo "There is no $1: run make first." >&2; exit 1; }; }
 
 # page FILE: prints a page without the parts that are left out.
 page() {
@@ -40,23 +36,25 @@ page() {
     sed -f "$room/parts" "$1"
 }
 
+# literal TEXT: prints a text so that sed takes each of its characters as it is, as a replacement and, at its place, in a pattern.
+literal() { printf '%s' "$1" | sed 's/[][\\&|*.^$]/\\&/g'; }
+
 # text FILE: prints a page, which names /usr/local, with the directories of this installation; or a file for other programs, in which they
 # are written @libdir@.
 text() {
     page "$1" | sed -e 's|/usr/local/share/cdpatch/python|@pythondir@|g; s|/usr/local/share/cdpatch|@pagedir@|g' \
-        -e 's|/usr/local/share/doc/cdpatch|@docdir@|g' | sed -e "s|@pythondir@|$pythondir|g; s|@pagedir@|$pagedir|g; s|@docdir@|$docdir|g" \
-        -e "s|@prefix@|$prefix|; s|@libdir@|$libdir|; s|@includedir@|$includedir|; s|@version@|$VERSION|" \
-        -e "s|@libraries@|$(realpath -ms --relative-to="$cmakedir" "$libdir")|" \
-        -e "s|@includes@|$(realpath -ms --relative-to="$cmakedir" "$includedir")|" -e "/^[a-z]*dir=/s|=$prefix/|=\${prefix}/|"
+        -e 's|/usr/local/share/doc/cdpatch|@docdir@|g' | sed -e "s|@pythondir@|$(literal "$pythondir")|g" \
+        -e "s|@pagedir@|$(literal "$pagedir")|g; s|@docdir@|$(literal "$docdir")|g; s|@prefix@|$(literal "$prefix")|" \
+        -e "s|@libdir@|$(literal "$libdir")|; s|@includedir@|$(literal "$includedir")|; s|@version@|$VERSION|" \
+        -e "s|@libraries@|$(literal "$(realpath -ms --relative-to="$cmakedir" "$libdir")")|" \
+        -e "s|@includes@|$(literal "$(realpath -ms --relative-to="$cmakedir" "$includedir")")|" \
+        -e "/^[a-z]*dir=/s|=$(literal "$prefix")/|=\${prefix}/|"
 }
 
 # place: installs a text from a temporary file: a redirection would follow a link at the target.
 place() {
     target=$DESTDIR$2
-    case $3 in
-        gone) rm -f "$target" && return ;;
-        *) $INSTALL -d "${target%/*}" ;;
-    esac
+    $INSTALL -d "${target%/*}"
     case $3 in
         link) ln -sf "$1" "$target" ;;
         text) text "$1" > "$room/text" && $INSTALL -m 644 "$room/text" "$target" ;;
@@ -67,7 +65,7 @@ place() {
 remove() { rm -f "$DESTDIR$2"; }
 
 copy() {
-    case $3 in link | gone) return ;; esac
+    [ "$3" != link ] || return 0
     install -d "$copy/$(dirname "$1")"
     case $3 in
         text) page "$1" > "$copy/$1" ;;
@@ -75,7 +73,7 @@ copy() {
     esac
 }
 
-# remove_compiled: removes the files that Python compiled, whatever release they are from.
+# remove_compiled: removes the files that Python compiled.
 remove_compiled() {
     rm -rf "$DESTDIR$pythondir/cdpatch/__pycache__"
     rm -f "$DESTDIR$pythondir"/__pycache__/backend.*.pyc
@@ -92,7 +90,6 @@ remove_directories() {
 case $1 in
     install)
         each assert_made
-        remove_compiled
         each place
         ;;
     uninstall)

@@ -1,28 +1,24 @@
 #!/usr/bin/env bash
 # `tools/library.sh DIRECTORY` links libcdpatch from the static libraries that tools/prove.py has built: it writes libcdpatch.a,
-# libcdpatch.so.1, and NOTICES to DIRECTORY, and the shared library for x86-64-v3 to a directory of that name in it. It uses the toolchain's
+# libcdpatch.so.2, and NOTICES to DIRECTORY, and the shared library for x86-64-v3 to a directory of that name in it. It uses the toolchain's
 # own archiver, linker, and C library.
 set -euo pipefail
 mkdir -p "$1/x86-64-v3"
 directory=$(realpath "$1")
 cd "$(dirname "$0")/.."
-read -ra crates < <(bash tools/library_crates.sh)
+mapfile -t crates < <(sed -n 's/ staticlib:.*//p' crates.txt)
 kit=$(rt doc)
 kit=$(dirname "$kit")
 scratch=$(mktemp -d)
 trap 'rm -rf "$scratch"' EXIT
 
-# objects SUFFIX DIRECTORY: creates a directory with the objects of the crates built with this suffix, and with the toolchain's three
-# functions for memory, over malloc. Every library of this toolchain has these three under the same names. They are renamed here, to names
-# of the same length, so that a program can also use a different such library. sed does this, so that make does not need objcopy.
+# objects SUFFIX DIRECTORY: creates a directory with the objects of the crates built with this suffix.
 objects() {
     local name
     mkdir "$2"
     for name in "${crates[@]}"; do
         "$kit/toolchain/bin/llvm-ar" x --output "$2" "crates/$name/out/lib$name$1.a"
     done
-    "$kit/toolchain/bin/llvm-ar" x --output "$2" "$kit/c/liblibc_c.a" heap.pic.o
-    find "$2" -type f -exec env LC_ALL=C sed -i -z -E 's/^rattle_(alloc|dealloc|realloc)$/cdpatch\1/' {} +
 }
 
 # calls_of FILE..: prints the options by which the linker keeps the calls of these source files of cd_c.
@@ -58,7 +54,7 @@ note() {
 # link OBJECTS LEVELS FILE: links a shared library that exports only the calls.
 link() {
     note "$2" "$scratch/note.o"
-    "$kit/toolchain/bin/ld.lld" -shared -soname libcdpatch.so.1 --version-script=tools/libcdpatch.map -z now -z noexecstack \
+    "$kit/toolchain/bin/ld.lld" -shared -soname libcdpatch.so.2 --version-script=tools/libcdpatch.map -z now -z noexecstack \
         --build-id=none --no-undefined "$scratch/note.o" "$1"/*.o "$kit/toolchain/lib/libc.so.6" -o "$3"
     chmod 644 "$3"
 }
@@ -67,8 +63,8 @@ plain=$scratch/plain
 fast=$scratch/fast
 objects '' "$plain"
 objects -x86-64-v3 "$fast"
-link "$plain" 3 "$directory/libcdpatch.so.1"
-link "$fast" 7 "$directory/x86-64-v3/libcdpatch.so.1"
+link "$plain" 3 "$directory/libcdpatch.so.2"
+link "$fast" 7 "$directory/x86-64-v3/libcdpatch.so.2"
 part "$plain"
 archive "$plain" "$directory/libcdpatch.a"
 bash tools/notices.sh "$directory/NOTICES"

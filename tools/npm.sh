@@ -21,10 +21,9 @@ joined cdpatch.js --external:node:fs/promises
 joined browser.js --alias:node:fs/promises=./web/npm/no_files.js
 tsc --allowJs --strict --declaration --emitDeclarationOnly --target es2022 --module es2022 --moduleResolution node --lib es2022,dom \
     --outDir "$scratch/types" web/npm/cdpatch.js web/npm/node.d.ts
-mkdir -p "$scratch"/package/types/{npm,core/module}
-for file in npm/{cdpatch,errors} core/module/{arena,calls,index,numbers,records,sector_calls}; do
-    cp "$scratch/types/$file.d.ts" "$scratch/package/types/$file.d.ts"
-done
+mkdir -p "$scratch"/package/types/{npm,core}
+cp "$scratch"/types/npm/{cdpatch,errors}.d.ts "$scratch/package/types/npm"
+cp -r "$scratch/types/core/module" "$scratch/package/types/core"
 cp web/npm/README.md web/npm/example.html "$library"/{cdpatch.wasm,NOTICES} "$scratch/package"
 [ ! -f LICENSE ] || cp LICENSE "$scratch/package"
 # npm starts a command by its first line on all systems.

@@ -1,25 +1,25 @@
 #!/usr/bin/env python3
-"""Generates files from the help of cdpatch and cdscript: `python3 tools/options.py completions DIRECTORY PROGRAM..` writes completions for three
-shells, `pages PROGRAM..` updates parts of the man pages and of the README, and `check PROGRAM..` prints which of these pages differ.
+"""Generates files from the help of cdpatch, and from the jobs and options that `cdscript --forms` prints: `python3 tools/options.py
+completions DIRECTORY PROGRAM..` writes completions for three shells, `pages PROGRAM..` updates parts of the man pages and of the README,
+and `check PROGRAM..` prints which of these pages differ.
 
-In a page a part is between marks, such as `made: synopsis` and `end of synopsis`; tools/header_pages.py generates other parts. In the lists
+In a page a part is between marks, such as `made: synopsis` and `end of synopsis`; tools/header.py generates other parts. In the lists
 of commands and options only the heads are generated. The prose below each is written by hand, and a new head gets its description in help.
 """
 
+import json
 import re
 import subprocess
 import sys
 import textwrap
 from collections.abc import Callable, Iterable, Sequence
-from dataclasses import dataclass
+from dataclasses import dataclass, field
 from pathlib import Path
 
 TOP = Path(__file__).resolve().parent.parent
 
-# Placeholders that are not existing file names: created files, texts and numbers, and paths and texts of single commands.
+# Placeholders of files that are created.
 NEW_FILES = {'OUT'}
-WORDS = {'TEXT', 'BLOCK', 'OFFSET', 'N', 'HEX', 'NAME'}
-WORDS_OF = {'extract': {'PATH'}, 'replace-file': {'PATH'}, 'replace': {'OLD', 'NEW'}, 'texts': {'PATH'}}
 
 
 @dataclass
@@ -29,30 +29,24 @@ class Option:
     long: str
     value: str
     does: str
+    repeated: bool = False
+    values: list[str] = field(default_factory=list)
 
     @property
     def word(self) -> str:
         return self.long or self.short
 
-    @property
-    def repeated(self) -> bool:
-        return 'may be repeated' in self.does
-
-    @property
-    def values(self) -> list[str]:
-        """The values that help lists, such as `how texts are written: hex, CP932`."""
-        listed = re.search(r': ((?:[\w-]+, )+[\w-]+)$', self.does) if self.value == 'NAME' else None
-        return listed.group(1).split(', ') if listed else []
-
 
 @dataclass
 class Command:
-    """A command: its description, the arguments of each of its forms, its options, and the meaning of status 1."""
+    """A command: its description, the arguments of each of its forms, its options, the meaning of status 1, and the arguments that are
+    not files."""
     name: str
     says: str
     forms: list[list[str]]
     options: list[Option]
-    found: str
+    found: str = ''
+    words: list[str] = field(default_factory=list)
 
 
 @dataclass
@@ -82,32 +76,45 @@ def options_in(text: str) -> list[Option]:
             for short, long, value, does in rows if short or long]
 
 
+def arguments_in(usage: str) -> list[str]:
+    return re.findall(r'\[[^]]*\]|--?\S+|[A-Z]+(?:\.\.)?', usage.replace('<', '').replace('>', ''))
+
+
 def forms_in(text: str, name: str) -> list[list[str]]:
     """The arguments of each form of a command: `IMAGE`, `OTHER..`, and optional ones in brackets."""
-    usages = re.findall(rf'(?m)^(?:Usage:|      ) \w+ {name} \[OPTIONS\] (.*)$', text)
-    return [re.findall(r'\[[^]]*\]|--?\S+|[A-Z]+(?:\.\.)?', usage.replace('<', '').replace('>', '')) for usage in usages]
+    return [arguments_in(usage) for usage in re.findall(rf'(?m)^(?:Usage:|      ) \w+ {name} \[OPTIONS\] (.*)$', text)]
+
+
+def program_by_help(path: Path, whole: str) -> Program:
+    """A program, as its help describes it."""
+    listed = re.search(r'(?m)^Commands:\n((?:  .*\n)+)', whole)
+    commands = []
+    for name, says in re.findall(r'(?m)^  ([a-z-]+) +(\S.*)$', listed.group(1) if listed else ''):
+        text = printed(str(path), name, '--help')
+        commands.append(Command(name, says, forms_in(text, name), options_in(text)))
+    usage = re.search(r'(?m)^Usage: (\w+)', whole)
+    return Program(usage.group(1) if usage else path.name, path, commands, options_in(whole))
 
 
 def program_of(path: Path) -> Program:
     whole = printed(str(path), '--help')
-    listed = re.search(r'(?m)^(?:Commands|Jobs):\n((?:  .*\n)+)', whole)
-    commands = []
-    for name, says in re.findall(r'(?m)^  ([a-z-]+) +(\S.*)$', listed.group(1) if listed else ''):
-        text = printed(str(path), name, '--help')
-        found = re.search(r'Status: 0 .*?; 1 (.*); 2 ', ' '.join(text.split()))
-        commands.append(Command(name, says, forms_in(text, name), options_in(text), found.group(1) if found else ''))
-    name = re.search(r'(?m)^Usage: (\w+)', whole)
-    return Program(name.group(1) if name else path.name, path, commands, options_in(whole))
+    if '--forms' not in whole:
+        return program_by_help(path, whole)
+    found = json.loads(printed(str(path), '--forms'))
+    options = [Option(**option) for option in found['options']]
+    commands = [Command(job['name'], job['says'], [arguments_in(usage) for usage in job['forms']],
+                        [Option(**option) for option in job['options']], job['found'], job['words']) for job in found['jobs']]
+    return Program(found['name'], path, commands, options)
 
 
 # ---- completions
 
-def offered(command: str, name: str) -> str:
+def offered(command: Command, name: str) -> str:
     """The kind of an argument: `files`; `directories` for the place of a new file; or '' if no shell can complete it."""
     bare = re.sub(r'\.\.$', '', name)
     if bare in NEW_FILES:
         return 'directories'
-    return '' if bare in WORDS | WORDS_OF.get(command, set()) or name.startswith('[') else 'files'
+    return '' if bare in command.words or name.startswith('[') else 'files'
 
 
 def offered_value(option: Option) -> str:
@@ -121,8 +128,8 @@ def places(command: Command) -> list[tuple[str, str]]:
     found: list[tuple[str, str]] = []
     for number, name in enumerate(command.forms[0]):
         if name.endswith('..'):
-            return [*found, (f'{number}+', offered(command.name, name))]
-        found.append((str(number), offered(command.name, name)))
+            return [*found, (f'{number}+', offered(command, name))]
+        found.append((str(number), offered(command, name)))
     return found
 
 
@@ -165,7 +172,7 @@ def zsh_option(option: Option) -> str:
     kinds = {'files': '_files', 'directories': '_path_files -/', '': ' '}
     both = f'{{{option.short},{option.long}}}' if option.short and option.long else ''
     if not option.value:
-        alone = '(- : *)' if option.word in ('--help', '--version', '--notices') else ''
+        alone = '(- : *)' if option.word in ('--help', '--version', '--notices', '--forms') else ''
         if both:
             return quoted(alone) + both + quoted(f'[{zsh_text(option.does)}]')
         return quoted(f'{alone}{option.word}[{zsh_text(option.does)}]')

@@ -1,7 +1,8 @@
-"""Packs a door into one file by esbuild: `pack.py command MODULE OUT` builds cdscript from web/command, and `pack.py page MODULE OUT` builds
-cdpatch.html from web/page. The licence notices are the file NOTICES in the directory of MODULE, or the file that `--notices` names.
-MODULE.txt says which tools built the module. `--web DIRECTORY` names another `web`. joined_command.js and joined_page.js define the object
-JOINED of the packed modules. The page has its script gzipped, and page_loader.js, which starts it. The bytes depend only on these files and on the versions of esbuild and zlib, which `pack.py --versions` prints.
+"""Packs an interface into one file by esbuild: `pack.py command MODULE OUT` builds cdscript from web/command, and `pack.py page MODULE OUT`
+builds cdpatch.html from web/page. The licence notices are the file NOTICES in the directory of MODULE, or the file that `--notices` names.
+`--web DIRECTORY` names another `web`. joined_command.js and joined_page.js define the object JOINED of the packed modules. The page has its
+script gzipped, and page_loader.js, which starts it. The bytes depend only on these files and on the versions of esbuild and zlib, which
+`pack.py --versions` prints.
 
 `page.html` has these lines, each once; the policy comes after the first of them, and the last two are its end:
     <meta charset="utf-8">
@@ -150,8 +151,8 @@ def page(parts: Path, made: list[str]) -> str:
     return whole
 
 
-def packed_door(door: str, web: Path, module: Path, notices: Path) -> str:
-    """Packs a door in a temporary directory in which all input files have fixed names."""
+def packed_interface(interface: str, web: Path, module: Path, notices: Path) -> str:
+    """Packs an interface in a temporary directory in which all input files have fixed names."""
     with tempfile.TemporaryDirectory() as name:
         parts = Path(name)
         (parts / 'web').symlink_to(web.resolve())
@@ -159,25 +160,25 @@ def packed_door(door: str, web: Path, module: Path, notices: Path) -> str:
         (parts / 'none.json').write_text('{}')
         (parts / 'module.gz').write_bytes(packed(read(module)))
         (parts / 'notices.gz').write_bytes(packed(read(notices)))
-        if door == 'command':
+        if interface == 'command':
             return command(parts)
-        return page(parts, [*versions(), read(Path(f'{module}.txt')).decode().strip()])
+        return page(parts, versions())
 
 
 def main() -> None:
     if sys.argv[1:] == ['--versions']:
         print('\n'.join(versions()))
         return
-    words = argparse.ArgumentParser(description='Packs a door into one file, by esbuild.')
-    words.add_argument('door', choices=['command', 'page'])
+    words = argparse.ArgumentParser(description='Packs an interface into one file, by esbuild.')
+    words.add_argument('interface', choices=['command', 'page'])
     words.add_argument('module', type=Path, help='the WebAssembly module')
     words.add_argument('out', type=Path)
     words.add_argument('--notices', type=Path)
     words.add_argument('--web', type=Path, default=TOOLS.parent / 'web')
     given = words.parse_args()
-    text = packed_door(given.door, given.web, given.module, given.notices or given.module.with_name('NOTICES'))
+    text = packed_interface(given.interface, given.web, given.module, given.notices or given.module.with_name('NOTICES'))
     given.out.write_text(text, 'utf-8', newline='\n')
-    if given.door == 'command':
+    if given.interface == 'command':
         given.out.chmod(0o755)
 
 

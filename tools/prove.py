@@ -3,15 +3,15 @@
 
 The proof of a crate begins once all crates below it are proved. At most AT_ONCE run in parallel, and no more than processors and memory
 allow; crates on the longest path up to a goal come first. CPU is the processor to build for, by default any x86-64-v2. A static library
-NAME is out/libNAME.a, and is also built for x86-64-v3, as out/libNAME-x86-64-v3.a. The goal `wasm` generates the WebAssembly modules, with
-tools/wasm.sh. With AFTER_CI=1 the libraries that `rt ci` has just proved and built are used unchanged. TREE=DIRECTORY is
-another repository than this file's.
+NAME is out/libNAME.a, and is also built for x86-64-v3, as out/libNAME-x86-64-v3.a. The module of LLVM that it was lowered to is kept for
+tools/targets.py. With AFTER_CI=1 the libraries that `rt ci` has just proved and built are used unchanged.
 
 It calls rt's own module, so that libraries are built as `rt ci` builds them: with only their statements, over which the crates above are
 proved in half the time. rt has no flag for that, and a run of rt excludes every other run from all crates below its own until it ends.
 """
 
 import copy
+import hashlib
 import os
 import re
 import shutil
@@ -20,35 +20,33 @@ import sys
 import tempfile
 import time
 from concurrent.futures import FIRST_COMPLETED, ThreadPoolExecutor, wait
+from functools import cache
 from graphlib import TopologicalSorter
 from pathlib import Path
 
 sys.path.insert(0, str(Path(shutil.which('rt') or sys.exit('There is no rt on the path.')).resolve().parent))
 import rtlib  # noqa: E402
 
+# Otherwise the sources of a crate would be read again for each path to it from each crate above.
+rtlib.Crate.stamp = cache(rtlib.Crate.stamp)
+
 TOP = Path(__file__).resolve().parent.parent
 MEMORY = 2_000_000_000  # bytes, the most that the proof of a crate takes
-MODULES = 'wasm'
-ROOM = TOP / 'crates/cd_words/out/wasm64'
-
-
-def crates_for_modules():
-    """The crates that are proved again for the modules, by separate names; that of exports is MODULES. tools/wasm.sh explains why."""
-    subprocess.run(['bash', TOP / 'tools/wasm.sh', ROOM], check=True)
-    own = [crate for crate in rtlib.crates_below(str(ROOM)) if not os.path.islink(f'{crate.folder}/out')]
-    return {MODULES if crate.is_static else f'{crate.name} over words': crate for crate in own}
+KIT = Path(rtlib.KIT, 'toolchain')
+# The toolchain's clang, which first copies the module of LLVM and the flags that it is called with.
+CLANG = """#!/bin/sh
+cp module.bc '{kept}.bc' && printf '%s\\n' "$@" | grep -v '^--sysroot=' > '{kept}.flags' && exec '{kit}/bin/clang' "$@"
+"""
 
 
 def crates_of(goals):
     """All crates by name, and for those that the goals need the names of the crates that they use."""
     crates = {crate.name: crate for crate in rtlib.crates_below(str(TOP))}
-    crates |= crates_for_modules() if MODULES in goals else {}
-    names = {crate.folder: name for name, crate in crates.items()}
     graph = {}
     while goals:
         for name in goals - set(crates):
             sys.exit(f'crates.txt has no {name}')
-        graph |= {name: {names.get(low.folder, low.name) for low in crates[name].deps} for name in goals}
+        graph |= {name: {low.name for low in crates[name].deps} for name in goals}
         goals = set().union(*graph.values()) - set(graph)
     return crates, graph
 
@@ -80,37 +78,73 @@ def prove_library(crate, jobs):
     return status
 
 
-def prove_static(crate, jobs, cpu):
-    """Proves and builds a static library twice. The second build uses the proofs of the first."""
-    made = f'{crate.folder}/out/lib{crate.name}'
-    status = crate.build_static([*jobs, '--cpu', 'x86-64-v3'])
-    if status == 0:
-        os.replace(f'{made}.a', f'{made}-x86-64-v3.a')
-    return status or crate.build_static([*jobs, *cpu])
+def toolchain_in(room, kept):
+    """Creates a directory with the toolchain whose clang copies what it is called with to files of this name."""
+    (room / 'bin').mkdir()
+    (room / 'lib').symlink_to(KIT / 'lib')
+    for tool in (KIT / 'bin').iterdir():
+        if tool.name != 'clang':
+            (room / 'bin' / tool.name).symlink_to(tool.resolve())
+    clang = room / 'bin/clang'
+    clang.write_text(CLANG.format(kept=kept, kit=KIT), encoding='utf-8')
+    clang.chmod(0o755)
 
 
-def prove_modules(crate, jobs):
-    """Writes the modules to library/ with the verdict, unless they are up to date."""
-    made, kept = 'library/cdpatch', Path(crate.folder, 'out/made_of')
-    made_of = crate.stamp() + Path('tools/lower.sh').read_text(encoding='utf-8')
-    files = [Path(f'{made}{end}') for end in ('-wasm64.wasm', '-wasm64.txt', '.wasm', '.wasm.txt')]
-    if all(file.exists() for file in [kept, *files]) and kept.read_text(encoding='utf-8') == made_of:
-        return 0
-    status = crate.build_static(jobs)
+def module_of(crate):
+    """The module of LLVM that a program or static library was lowered to, and the flags that clang was called with."""
+    return Path(crate.folder, f'out/{crate.name}.bc'), Path(crate.folder, f'out/{crate.name}.flags')
+
+
+def has_module(crate):
+    """Whether the module was kept, and the crate has not changed since."""
+    return is_made(module_of(crate)[0].with_suffix('.made_of'), crate.stamp(), *module_of(crate))
+
+
+def keep_module(crate, jobs):
+    """Proves and builds a program's object or a static library for x86-64-v2, and keeps its module."""
+    made = f'out/lib{crate.name}.a' if crate.is_static else f'out/{crate.name}.o'
+    module = module_of(crate)[0]
+    with tempfile.TemporaryDirectory() as room:
+        toolchain_in(Path(room), module.with_suffix(''))
+        words = [*crate.words(jobs), '--toolchain', room, '--backend', 'llvm', *rtlib.KEPT, '-o', made]
+        status = crate.call(rtlib.RATTLE, 'build', *words)
     if status == 0:
-        os.makedirs('library', exist_ok=True)
-        os.replace(f'{crate.folder}/out/{crate.name}.wasm', f'{made}-wasm64.wasm')
-        os.chmod(f'{made}-wasm64.wasm', 0o644)
-        crate.out.seek(0)
-        Path(f'{made}-wasm64.txt').write_text(''.join(line for line in crate.out if line.startswith('logic=proved ')), encoding='utf-8')
-        words = [*rtlib.guarded(), 'bash', 'tools/lower.sh', f'{made}-wasm64.wasm', f'{made}.wasm']
-        status = subprocess.run(words, stdout=crate.out, stderr=crate.out).returncode
-    if status == 0:
-        kept.write_text(made_of, encoding='utf-8')
+        record_made(module.with_suffix('.made_of'), crate.stamp(), *module_of(crate))
     return status
 
 
-def prove(name, crate, jobs, cpu):
+def is_made(record, made_of, *files):
+    """Whether files were made of this, and have not changed since, by the record that `record_made` left."""
+    return all(file.exists() for file in (record, *files)) and record.read_text(encoding='utf-8') == summed(made_of, files)
+
+
+def record_made(record, made_of, *files):
+    record.write_text(summed(made_of, files), encoding='utf-8')
+
+
+def summed(made_of, files):
+    return '\n'.join([made_of, *(hashlib.sha256(file.read_bytes()).hexdigest() for file in files)])
+
+
+def prove_static(crate, jobs, cpu):
+    """Proves and builds a static library twice, and keeps its module, unless nothing has changed. The second build uses the proofs of the
+    first."""
+    made = Path(crate.folder, f'out/lib{crate.name}.a')
+    fast, record, made_of = made.with_name(f'lib{crate.name}-x86-64-v3.a'), made.with_suffix('.made_of'), ' '.join([crate.stamp(), *cpu])
+    if has_module(crate) and is_made(record, made_of, made, fast):
+        return 0
+    status = crate.build_static([*jobs, '--cpu', 'x86-64-v3'])
+    if status == 0:
+        os.replace(made, fast)
+        status = keep_module(crate, jobs)
+    if status == 0 and cpu:
+        status = crate.build_static([*jobs, *cpu])
+    if status == 0:
+        record_made(record, made_of, made, fast)
+    return status
+
+
+def prove(crate, jobs, cpu):
     """Proves a crate. Returns the status and the output, which is empty if nothing has changed."""
     with tempfile.TemporaryFile('w+', errors='replace') as out:
         if crate.is_program:
@@ -120,10 +154,7 @@ def prove(name, crate, jobs, cpu):
         else:
             crate, held = copy.copy(crate), rtlib.lock([crate])
             crate.out = out
-            if name == MODULES:
-                status = prove_modules(crate, jobs)
-            else:
-                status = prove_static(crate, jobs, cpu) if crate.is_static else prove_library(crate, jobs)
+            status = prove_static(crate, jobs, cpu) if crate.is_static else prove_library(crate, jobs)
             os.close(*held)
         out.seek(0)
         return status, re.sub('rt: (nothing has changed|running|chose) .*\n', '', out.read())
@@ -147,7 +178,7 @@ def prove_all(crates, graph, at_once, cpu):
             while ready and len(running) < at_once:
                 name = ready.pop()
                 jobs = ['--jobs', str(share(name, [*running.values(), *ready], at_once, longest))]
-                running[pool.submit(prove, name, crates[name], jobs, cpu)] = name
+                running[pool.submit(prove, crates[name], jobs, cpu)] = name
             for future in wait(running, return_when=FIRST_COMPLETED).done:
                 name, (status, text) = running.pop(future), future.result()
                 if status:

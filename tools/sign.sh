@@ -6,7 +6,7 @@ key=$(realpath "$1")
 shift
 signers=$(mktemp)
 trap 'rm -f "$signers"' EXIT
-printf 'cdpatch %s\n' "$(bash "$(dirname "$0")/owner.sh" key)" > "$signers"
+printf 'cdpatch %s\n' "$(sed -n 's/^key: *//p' "$(dirname "$0")/owner.txt")" > "$signers"
 rm -f "${@/%/.sig}"
 for file; do
     ssh-keygen -q -Y sign -f "$key" -n file "$file"

@@ -1,9 +1,9 @@
 #!/usr/bin/env python3
-"""Builds the program and libcdpatch for another system from the crates that `make` has proved: `targets.py windows` or `targets.py arm64`.
+"""Makes the program and libcdpatch for another system from what `make` has proved for Linux on x86-64: `targets.py windows|arm64|wasm`.
 
 It writes to windows/ the program, the DLL, its import libraries for MinGW and for MSVC, and the static library; to arm64/ the program and
-both libraries for Linux on aarch64. Rattle proves the crates with exports again for aarch64, which is a target of the toolchain; for
-Windows it compiles the same proved module with tools/retarget.py. `targets.py SYSTEM SHIM PROGRAM` only links the program again, with a
+both libraries for Linux on aarch64; and to library/ the WebAssembly module. Nothing is proved again: the toolchain's clang compiles the
+module of LLVM that was proved, with the edits of tools/retarget.py. `targets.py SYSTEM SHIM PROGRAM` only links the program again, with a
 different shim.
 """
 
@@ -17,15 +17,25 @@ from pathlib import Path
 from typing import Any
 
 import prove
+import retarget
 
 TOP = prove.TOP
-KIT = Path(prove.rtlib.KIT, 'toolchain')
+KIT = prove.KIT
 COMPILERS = {'windows': 'x86_64-w64-mingw32-gcc', 'arm64': 'aarch64-linux-gnu-gcc'}
 SHIMS = {'windows': 'windows.c', 'arm64': 'linux.c'}
-LIBRARIES = subprocess.run(['bash', TOP / 'tools/library_crates.sh'], stdout=subprocess.PIPE, encoding='utf-8', check=True).stdout.split()
+LIBRARIES = re.findall(r'(?m)^(\w+) staticlib:', (TOP / 'crates.txt').read_text(encoding='utf-8'))
+# What each system is made of.
+CRATES = {'windows': ['cdpatch', *LIBRARIES], 'arm64': ['cdpatch', *LIBRARIES], 'wasm': LIBRARIES}
 SMALL = ['-s', '-Wl,--gc-sections']
 LINKS = {'windows': [*SMALL, '-static-libgcc', '-Wl,--no-insert-timestamp', '-lshell32'],
          'arm64': [*SMALL, '-Wl,-z,now', '-Wl,-z,noexecstack', '-Wl,--build-id=none']}
+MODULE_LINK = ['--no-entry', '--gc-sections', '-s', '--stack-first', '-z', 'stack-size=1048576', '--export=__heap_base']
+# The module as text, as it was lowered.
+AS_TEXT = ['--no-default-config', '-fintegrated-cc1', '-Xclang', '-disable-llvm-passes', '-S', '-emit-llvm', '-x', 'ir']
+# The flags of Linux on x86-64, and those of each other system. Windows and WebAssembly move all code, so clang knows no flag for that.
+OF_LINUX = ('--target=', '--sysroot=', '-march=', '-fPI')
+FLAGS = {'windows': ['--target=x86_64-w64-windows-gnu'], 'arm64': ['--target=aarch64-unknown-linux-gnu', '-fPIC'],
+         'wasm': ['--target=wasm32-unknown-unknown', '-mcpu=lime1', '-msimd128']}
 
 
 def run(*words: str | Path, **how: Any) -> None:
@@ -56,62 +66,50 @@ def packages(system: str) -> str:
     return re.findall(rf'(?m)^{COMPILERS[system]}: (.*)$', text)[0].replace(' ', ' and ')
 
 
-def toolchain_for_windows(room: Path, crate: str) -> Path:
-    """Creates a directory with the toolchain in which tools/retarget.py is clang."""
-    made = room / crate
-    (made / 'bin').mkdir(parents=True)
-    (made / 'lib').symlink_to(KIT / 'lib')
-    for tool in (KIT / 'bin').iterdir():
-        if tool.name != 'clang':
-            (made / 'bin' / tool.name).symlink_to(tool.resolve())
-    clang = made / 'bin/clang'
-    clang.write_text(f'#!/bin/sh\nexec "{sys.executable}" -B "{TOP}/tools/retarget.py" "{KIT}/bin/clang" {crate} "$@"\n', encoding='utf-8')
-    clang.chmod(0o755)
-    return made
-
-
 # ---- the objects of the proved crates
 
 def object_of(system: str, crate: str) -> Path:
     return TOP / f'crates/{crate}/out/{crate}-{system}.o'
 
 
-def built(system: str, crate: Any, room: Path) -> tuple[int, str]:
-    """Proves and compiles a crate for a system, if it has changed. Returns the status and the output."""
-    made, kept = object_of(system, crate.name), object_of(system, crate.name).with_suffix('.made_of')
-    made_of = crate.stamp() + (TOP / 'tools/retarget.py').read_text(encoding='utf-8')
-    if made.exists() and kept.exists() and kept.read_text(encoding='utf-8') == made_of:
-        return 0, ''
-    archive = room / f'{crate.name}.a'
-    toolchain, flags = (toolchain_for_windows(room, crate.name), []) if system == 'windows' else (KIT, ['--target', 'aarch64-unknown-linux-gnu'])
-    with tempfile.TemporaryFile('w+', errors='replace') as out:
-        crate.out = out
-        held = prove.rtlib.lock([crate])
-        words = [*crate.words(['--jobs', '1', *flags]), '--toolchain', str(toolchain), '--backend', 'llvm', *prove.rtlib.KEPT]
-        status = crate.call(prove.rtlib.RATTLE, 'build', *words, '-o', str(archive if crate.is_static else made))
-        if status == 0 and crate.is_static:
-            # Rattle's archive contains one object, named after the crate.
-            by_clang('llvm-ar', 'x', '--output', room, archive)
-            os.replace(room / f'{crate.name}.o', made)
-        os.close(*held)
-        out.seek(0)
-        if status == 0:
-            kept.write_text(made_of, encoding='utf-8')
-        return status, out.read()
+def keep_modules(crates: list[Any]) -> None:
+    """Keeps the modules of LLVM that are missing. `make` keeps those of the libraries."""
+    for crate in crates:
+        if prove.has_module(crate):
+            continue
+        with tempfile.TemporaryFile('w+', errors='replace') as crate.out:
+            held = prove.rtlib.lock([crate])
+            status = prove.keep_module(crate, ['--jobs', '1'])
+            os.close(*held)
+            crate.out.seek(0)
+            if status:
+                sys.exit(f'FAILED {crate.name}: {crate.out.read().strip()[-2000:]}')
+
+
+def build_object(system: str, crate: Any, room: Path) -> None:
+    """Compiles the module of LLVM of a crate for a system, if it has changed."""
+    module, flags = prove.module_of(crate)
+    made, tools = object_of(system, crate.name), (TOP / 'tools/retarget.py', TOP / 'tools/targets.py')
+    made_of = prove.summed('', (module, flags, *tools))
+    if prove.is_made(made.with_suffix('.made_of'), made_of, made):
+        return
+    text = room / f'{crate.name}.ll'
+    by_clang('clang', *AS_TEXT, module, '-o', text)
+    text.write_text(retarget.retargeted(text.read_text(encoding='utf-8'), system, crate.name), encoding='utf-8')
+    given = [flag for flag in flags.read_text(encoding='utf-8').split('\n') if flag and not flag.startswith(OF_LINUX)]
+    by_clang('clang', *FLAGS[system], *({'module.bc': text, 'module.o': made}.get(flag, flag) for flag in given))
+    prove.record_made(made.with_suffix('.made_of'), made_of, made)
 
 
 def build_objects(system: str, room: Path) -> None:
     crates = {crate.name: crate for crate in prove.rtlib.crates_below(str(TOP))}
-    wanted = [crates[name] for name in ('cdpatch', *LIBRARIES)]
+    wanted = [crates[name] for name in CRATES[system]]
     if not all(low.is_built() for crate in wanted for low in crate.below()):
         sys.exit(f'targets.py: run make before make {system}: crates are not proved.')
-    at_once = sum(prove.rtlib.fits(*[prove.MEMORY] * number) for number in range(1, len(wanted) + 1))
-    with ThreadPoolExecutor(max(at_once, 1)) as pool:
-        for crate, (status, text) in zip(wanted, pool.map(lambda crate: built(system, crate, room), wanted)):
-            if status:
-                said = re.search('^(retarget.py: .*|.*: error.*)', text, re.MULTILINE)
-                sys.exit(f'FAILED {crate.name} for {system}: {said[0] if said else text.strip()[-2000:]}')
-            print(re.sub(' native=.*', '', text.strip().split('\n')[-1]) if text else 'unchanged', f'{crate.name} for {system}', flush=True)
+    keep_modules(wanted)
+    with ThreadPoolExecutor() as pool:
+        for _ in pool.map(lambda crate: build_object(system, crate, room), wanted):
+            pass
 
 
 # ---- what is linked
@@ -122,40 +120,39 @@ def compiled(system: str, source: Path, room: Path) -> Path:
     return made
 
 
-def linked_objects(system: str, crates: list[str], room: Path) -> list[Path]:
-    """The objects of crates, with the functions for memory renamed as in targets/memory.c, and the object of those functions."""
-    objects = [object_of(system, crate) for crate in crates]
-    if system == 'arm64':
-        names = [f'--redefine-sym=rattle_{name}=cdpatch{name}' for name in ('alloc', 'realloc', 'dealloc')]
-        for i, made in enumerate(objects):
-            objects[i] = room / f'{crates[i]}.o'
-            run(COMPILERS[system].replace('gcc', 'objcopy'), *names, made, objects[i])
-    return [*objects, compiled(system, TOP / 'targets/memory.c', room)]
-
-
 def link_program(system: str, shim: Path, program: Path, room: Path) -> None:
-    run(COMPILERS[system], *linked_objects(system, ['cdpatch'], room), compiled(system, shim, room), *LINKS[system], '-o', program)
+    sources = TOP / 'targets/memory.c', shim
+    run(COMPILERS[system], object_of(system, 'cdpatch'), *(compiled(system, source, room) for source in sources), *LINKS[system], '-o', program)
+
+
+def calls() -> list[str]:
+    return re.findall(r'\bcdpatch_\w+(?=;)', (TOP / 'tools/libcdpatch.map').read_text(encoding='utf-8'))
 
 
 def link_libraries(system: str, directory: Path, room: Path) -> None:
-    objects = linked_objects(system, LIBRARIES, room)
+    objects = [object_of(system, crate) for crate in LIBRARIES]
     (directory / 'libcdpatch.a').unlink(missing_ok=True)
     by_clang('llvm-ar', 'rc', directory / 'libcdpatch.a', *objects)
-    exports = TOP / 'tools/libcdpatch.map'
     if system == 'arm64':
-        run(COMPILERS[system], '-shared', '-nostartfiles', *objects, *LINKS[system], '-Wl,-soname,libcdpatch.so.1',
-            f'-Wl,--version-script={exports}', '-Wl,--no-undefined', '-o', directory / 'libcdpatch.so.1')
+        run(COMPILERS[system], '-shared', '-nostartfiles', *objects, *LINKS[system], '-Wl,-soname,libcdpatch.so.2',
+            f'-Wl,--version-script={TOP}/tools/libcdpatch.map', '-Wl,--no-undefined', '-o', directory / 'libcdpatch.so.2')
         return
-    names = re.findall(r'\bcdpatch_\w+(?=;)', exports.read_text(encoding='utf-8'))
-    calls = room / 'cdpatch.def'
-    calls.write_text('\n'.join(['LIBRARY cdpatch.dll', 'EXPORTS', *names, '']), encoding='utf-8')
-    run(COMPILERS[system], '-shared', *objects, calls, *LINKS[system], f'-Wl,--out-implib,{directory}/libcdpatch.dll.a',
+    definition = room / 'cdpatch.def'
+    definition.write_text('\n'.join(['LIBRARY cdpatch.dll', 'EXPORTS', *calls(), '']), encoding='utf-8')
+    run(COMPILERS[system], '-shared', *objects, definition, *LINKS[system], f'-Wl,--out-implib,{directory}/libcdpatch.dll.a',
         '-o', directory / 'cdpatch.dll')
-    by_clang('llvm-dlltool', '-m', 'i386:x86-64', '-d', calls, '-l', directory / 'cdpatch.lib')
+    by_clang('llvm-dlltool', '-m', 'i386:x86-64', '-d', definition, '-l', directory / 'cdpatch.lib')
+
+
+def link_module(module: Path) -> None:
+    """Links the WebAssembly module. A call that needs a function that it does not have ends this with an error."""
+    exports = [f'--export-if-defined={name}' for name in calls()]
+    by_clang('wasm-ld', *MODULE_LINK, *exports, *(object_of('wasm', name) for name in CRATES['wasm']), '-o', module)
+    module.chmod(0o644)
 
 
 def main(system: str, shim: str = '', program: str = '') -> int:
-    if not has_compiler(system):
+    if system in COMPILERS and not has_compiler(system):
         sys.exit(f"make {system} needs {COMPILERS[system]} (Debian's packages {packages(system)}).")
     with tempfile.TemporaryDirectory() as name:
         room = Path(name)
@@ -165,6 +162,9 @@ def main(system: str, shim: str = '', program: str = '') -> int:
         prove.rtlib.guarded()  # all processes from here on end with this one
         prove.rtlib.Crate.cuts_libraries = True
         build_objects(system, room)
+        if system == 'wasm':
+            link_module(TOP / 'library/cdpatch.wasm')
+            return 0
         directory = TOP / system
         directory.mkdir(exist_ok=True)
         link_program(system, TOP / 'targets' / SHIMS[system], directory / ('cdpatch.exe' if system == 'windows' else 'cdpatch'), room)

@@ -47,6 +47,8 @@ buffer of items of any size; help calls these ReadableBuffer. They are read in p
 of `apply`, a WriteableBuffer, is written. Pages of a mapped file that were read count as memory of the process (RSS) until the system
 reclaims them.
 
+This package is tested, not proved; the calls of libcdpatch that it makes are proved.
+
 Threads may call at the same time, also with the same bytes, unless one of them writes these bytes.
 
 The library is the file that CDPATCH_LIBRARY names. Without that variable it is the one in the directory of this package, else the one that
@@ -63,7 +65,7 @@ from ._reports import Report
 from ._sectors import (KINDS, Broken, Defect, address, broken, defect, edc, encode, is_consistent, kind, rebuild, survey, with_address,
                        with_parity, with_user)
 
-__version__ = '1.4.0'
+__version__ = '2.0.0'
 __all__ = [
     'KINDS', 'LAST_BASE', 'SECTOR_SIZE', 'USER_SIZE', 'Broken', 'Damaged', 'Defect', 'Failed', 'NotMode1', 'OutOfRange', 'Patched',
     'Reader', 'Record', 'Refused', 'Report', 'Writer', 'address', 'apply', 'audit', 'audit_end', 'audit_line', 'broken', 'check', 'defect',
@@ -73,6 +75,6 @@ __all__ = [
 
 
 def library_version() -> str:
-    """Returns the version of the library that this package has loaded, for example '1.4.0'."""
+    """Returns the version of the library that this package has loaded, for example '2.0.0'."""
     number = library.cdpatch_version()
     return f'{number // 10000}.{number // 100 % 100}.{number % 100}'

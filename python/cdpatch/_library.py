@@ -11,7 +11,7 @@ from typing import Callable, Type
 
 from ._numbers import RecordStruct
 
-NAME = 'cdpatch.dll' if sys.platform == 'win32' else 'libcdpatch.so.1'
+NAME = 'cdpatch.dll' if sys.platform == 'win32' else 'libcdpatch.so.2'
 HERE = Path(__file__).resolve().parent
 # Where `make install` and pip put the package below a prefix. Anywhere else, the directories above may belong to somebody else.
 INSTALLED = ('share/cdpatch/python/cdpatch', 'lib*/python3*/site-packages/cdpatch', 'lib*/python3*/dist-packages/cdpatch')

@@ -24,6 +24,7 @@ import by_lines  # noqa: E402
 import commands  # noqa: E402
 
 TIME = 300  # seconds, more than any command needs
+PATCHING = ('check', 'apply')  # the commands of cdpatch that cdscript has too
 # Files are in memory if possible: a command that creates one waits until it is on the disk.
 ROOM = '/dev/shm' if os.access('/dev/shm', os.W_OK) else None
 
@@ -67,10 +68,11 @@ def parity_changes(place, amount):
 
 class Commands:
     """Answers what a command can show, by the method `run` of its class."""
+    answers = COMMANDS
 
     def answer(self, call, given):
         if call in COMMANDS:
-            return self.run(call, *given)
+            return self.run(call, *given) if call in self.answers else None
         if call == 'order':
             # In an empty image each patch finds no block, and has its line in the log.
             printed = self.run('check', *given).text
@@ -155,7 +157,7 @@ class Python(Coat):
 
     @property
     def package(self):
-        os.environ.setdefault('CDPATCH_LIBRARY', str(TESTS.parent / 'library/libcdpatch.so.1'))
+        os.environ.setdefault('CDPATCH_LIBRARY', str(TESTS.parent / 'library/libcdpatch.so.2'))
         if self.path not in sys.path:
             sys.path.append(self.path)
         return importlib.import_module('cdpatch')
@@ -248,6 +250,7 @@ class Core(Served):
 class Command(Served):
     """cdscript, whose `main` is called in one process."""
     name = 'cdscript'
+    answers = PATCHING
     server = 'cdscript/serve.mjs'
 
 
@@ -302,6 +305,7 @@ class Program(Commands):
 class CommandProcess(Program):
     """cdscript as a process. It always gets the base, since without one it uses the addresses rather than 0."""
     name = 'cdscript as a process'
+    answers = PATCHING
     before = ('node',)
 
     def base_words(self, base):
@@ -311,6 +315,11 @@ class CommandProcess(Program):
         words = case.words or [case.command, '-']
         words = words if '--base' in words else [*words, *self.base_words(case.base)]
         return self.ended(words, case.image, case.script, case.image if case.piped else b'')
+
+    def ended(self, words, image, script, given=b''):
+        status, printed, out = super().ended(words, image, script, given)
+        # The program does not say this.
+        return status, re.sub(rb'^cdscript: no sector of .* is Mode 1, .*\n', b'', printed, flags=re.MULTILINE), out
 
 
 class ForWindows(Program):

@@ -1,4 +1,4 @@
-"""Judges worked cases by the model and by the named clients: `run PROGRAM [FILE..]`, `run model [FILE..]`."""
+"""Judges worked cases by the model and by the named clients: `judge.py PROGRAM [FILE..]`, `judge.py model [FILE..]`."""
 
 import argparse
 import os
@@ -79,7 +79,7 @@ def size(line):
 
 def judges_named():
     """The judges and the arguments of the command line."""
-    words = argparse.ArgumentParser(prog='tests/cases/run', description='Judges worked cases by the model and by clients.')
+    words = argparse.ArgumentParser(prog='tests/cases/judge.py', description='Judges worked cases by the model and by clients.')
     words.add_argument('asked', help="the program, or 'model' for only the model and the clients that options name")
     words.add_argument('files', nargs='*', help='files of cases; all if there are none')
     words.add_argument('--without-model', action='store_true', help='does not ask the model')

@@ -41,15 +41,15 @@ test('each script says for which base it is written, and is applied at no other 
     sameFile(read(room, 'due'), later, 'what the program makes of the script');
 }));
 
-test('addresses of Mode 2 say the base of an image, but list counts from 0', () => inDirectory(async room => {
+test('addresses of Mode 2 say the base of an image, but check counts from 0', () => inDirectory(async room => {
     const image = imageOf(room, 40, 150);
     for (let i = 0; i < 40; i++) image[2352 * i + 15] = 2;
-    write(room, { 'ps.bin': image });
+    write(room, { 'ps.bin': image, script: 'cdpatch 1\nset 39 0 00\n' });
     const info = await run(['info', 'ps.bin'], { cwd: room });
-    assert.deepEqual([info.status, info.errors], [0, '']);
+    assert.deepEqual([info.status, info.errors], [1, '']);
     assert.match(info.out, /\ntrack 1 data blocks 150-189 in ps\.bin\nbase 150\n150-189 mode2\n/);
-    const list = await run(['list', 'ps.bin'], { cwd: room });
-    assert.deepEqual([list.status, list.out, list.errors], [0, '0-39 mode2\nsectors 40 tail 0\n', '']);
+    const check = await run(['check', 'ps.bin', 'script'], { cwd: room });
+    assert.deepEqual([check.status, check.out], [1, 'line 2: refused: block 39 is not mode 1\napplied 0 refused 1\n']);
 }));
 
 test('an undo of a script for another base is refused', () => inDirectory(async room => {
@@ -64,23 +64,22 @@ test('an undo of a script for another base is refused', () => inDirectory(async 
 test('what most addresses say is not passed over without --base', () => inDirectory(async room => {
     writeLater(room);
     write(room, { script: 'cdpatch 1\nrebuild 8\n' });
-    const JOBS = [['list', 'hurt.bin'], ['audit', 'hurt.bin'], ['check', 'hurt.bin', 'script'], ['apply', 'hurt.bin', 'script', 'out']];
-    for (const words of JOBS) {
+    for (const words of [['check', 'hurt.bin', 'script'], ['apply', 'hurt.bin', 'script', 'out']]) {
         const { status, out, errors } = await run(words, { cwd: room });
         assert.deepEqual([status, out, errors, read(room, 'out')], [2, '', `cdscript: ${WAYS}\n`, null], words.join(' '));
     }
     // With --base the result is that of the program.
     for (const base of ['0', '150']) {
-        const due = tool('sh', ['-c', `"${program}" audit --base ${base} hurt.bin; echo $?`], { cwd: room }).toString();
-        const { status, out, errors } = await run(['audit', 'hurt.bin', '--base', base], { cwd: room });
+        const due = tool('sh', ['-c', `"${program}" check --base ${base} hurt.bin script; echo $?`], { cwd: room }).toString();
+        const { status, out, errors } = await run(['check', 'hurt.bin', 'script', '--base', base], { cwd: room });
         assert.deepEqual([`${out}${status}\n`, errors], [due, '']);
     }
     // Most addresses agree, but some do not.
     const some = Buffer.concat([read(room, 'later.bin'), imageOf(room, 30, 900)]);
     write(room, { some, half: Buffer.concat([some, imageOf(room, 20, 500)]) });
-    assert.match((await run(['list', 'some'], { cwd: room })).errors, /^cdscript: most addresses in some say that it begins with block 150: /);
-    assert.equal((await run(['list', 'half'], { cwd: room })).status, 0);
+    assert.match((await run(['check', 'some', 'script'], { cwd: room })).errors, /^cdscript: most addresses in some say that it begins with block 150: /);
+    assert.equal((await run(['check', 'half', 'script'], { cwd: room })).status, 0);
     // A few addresses are not enough.
-    const few = await run(['audit', 'few.bin'], { cwd: room });
-    assert.deepEqual([few.status, few.errors], [1, 'cdscript: this image begins with block 150: use --base 150\n']);
+    const few = await run(['check', 'few.bin', 'script'], { cwd: room });
+    assert.deepEqual([few.status, few.errors], [0, 'cdscript: this image begins with block 150: use --base 150\n']);
 }));

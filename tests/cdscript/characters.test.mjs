@@ -88,13 +88,14 @@ test('show keeps characters whole over rows, and goes on in the next block', () 
 
 test('encodings of other languages are searched if they are named', () => inDirectory(async room => {
     const others = ENCODINGS_KNOWN.filter(({ found }) => found);
-    writeImage(room, ...others.map(({ found: [, bytes] }, i) => [2 + i, 100, bytes]));
+    const placeOf = i => [2 + i % 4, 100 + 200 * Math.floor(i / 4)];
+    writeImage(room, ...others.map(({ found: [, bytes] }, i) => [...placeOf(i), bytes]));
     for (const [i, { name, found: [text, bytes] }] of others.entries()) {
         const named = await run(['find', 'image', text, '--encoding', name.toLowerCase()], { cwd: room });
-        assert.deepEqual(named.out.split('\t').slice(0, 3), [String(2 + i), '100', '4']);
+        assert.deepEqual(named.out.split('\t').slice(0, 3), [...placeOf(i).map(String), '4']);
         assert.ok(named.out.includes(text));
         const shorter = await run(['replace', 'image', text, 'go', '--encoding', name], { cwd: room });
-        assert.equal(shorter.out, `cdpatch 1\nset ${2 + i} 100 676F2020 was ${bytes}\n`);
+        assert.equal(shorter.out, `cdpatch 1\nset ${placeOf(i).join(' ')} 676F2020 was ${bytes}\n`);
         const other = await run(['find', 'image', text], { cwd: room });
         assert.deepEqual([other.status, other.out, others.some(it => other.errors.includes(it.name))], [1, '', false]);
     }

@@ -5,7 +5,7 @@ const fs = require('node:fs');
 
 const faults = { hit: () => null };
 
-for (const name of ['open', 'openSync', 'fstatSync', 'read', 'readSync', 'writeSync', 'fsync', 'readdirSync', 'linkSync', 'fsyncSync', 'renameSync']) {
+for (const name of ['open', 'openSync', 'fstatSync', 'read', 'readSync', 'writeSync', 'fsync', 'readdirSync', 'linkSync', 'fsyncSync', 'renameSync', 'closeSync', 'unlinkSync']) {
     const right = fs[name];
     const isRead = name.startsWith('read');
     const isLate = !name.endsWith('Sync');

@@ -7,6 +7,7 @@ import { mkdirSync, readdirSync, writeFileSync } from 'node:fs';
 import { join } from 'node:path';
 import { test } from 'node:test';
 import { harmlessVolume, recordOf, volumeOf } from '../core/strangers.mjs';
+import { MESSAGES } from '../lib/messages.mjs';
 import { command, damaged, imageOf, inDirectory, program, read, run, runProcess, sameFile, tool, write } from './common.mjs';
 
 const hasDisc = tool('genisoimage', ['--version']) !== null;
@@ -22,7 +23,7 @@ test('a hole between Mode 1 sectors is a finding of merge and info', () => inDir
     const image = imageOf(room, 300);
     write(room, { zeros: filled(image, [100, 101], 0), fives: filled(image, [100, 101], 0x55), end: filled(image, [299], 0) });
     const merged = await run(['merge', 'zeros', 'fives', 'out'], { cwd: room });
-    assert.deepEqual([merged.status, merged.out], [1, '100-101 not mode1 in any\ntaken 0 damaged 0 disputed 0 different 0\n']);
+    assert.deepEqual([merged.status, merged.out], [1, '100-101 lost, without a sound copy\ntaken 0 damaged 0 disputed 0 different 0\n']);
     const info = await run(['info', 'zeros'], { cwd: room });
     assert.equal(info.status, 1);
     assert.match(info.out, /\nmode1 298 damaged 0 address 0\n100-101 not mode1 in a track of mode1\n$/);
@@ -52,7 +53,8 @@ test('a file that the sheet names and that is not there is a finding of info', (
         'FILE "two.bin" BINARY\n TRACK 02 AUDIO\n INDEX 01 00:00:00\n' });
     const { status, out } = await run(['info', 'set.cue'], { cwd: room });
     assert.equal(status, 1);
-    assert.match(out, /\ntrack 2 AUDIO in a missing file\n/);
+    assert.match(out, /\ntrack 2 AUDIO in the missing file two.bin\n/);
+    assert.match((await run(['scan', 'set.cue'], { cwd: room })).errors, /^cdscript: track 2 of set\.cue is in the missing file two\.bin$/m);
 }));
 
 test('diff --partial leaves out what no script can make', () => inDirectory(async room => {
@@ -117,12 +119,10 @@ test('a record of another volume, or in one byte order only, is not what it seem
 }));
 
 test('a file that only seems to be empty is read', () => inDirectory(async room => {
-    const { status, out } = await run(['audit', '/proc/self/maps'], { cwd: room });
-    const due = tool('sh', ['-c', `cat /proc/self/maps | "${program}" audit - | cut -d ' ' -f 1`], { cwd: room }).toString();
-    assert.deepEqual([status, out.split(' ')[0]], [0, due.trim()]);
-    assert.notEqual(out.split(' ').pop(), '0\n');
+    const { kind, bytes } = JSON.parse((await run(['info', '--json', '/proc/self/maps'])).out);
+    assert.deepEqual([kind, bytes > 0], ['text', true]);
     write(room, { empty: '' });
-    assert.equal((await run(['audit', 'empty'], { cwd: room })).out, 'sectors 0 mode1 0 damaged 0 tail 0\n');
+    assert.match((await run(['info', 'empty'], { cwd: room })).out, /^empty: an empty file\n/);
 }));
 
 /** Runs a job with this class in place of node's threads. */
@@ -156,11 +156,11 @@ test('a job that waits for what never comes fails, and leaves no file', () => in
     assert.deepEqual(readdirSync(room).sort(), [...there, 'silent.cjs'].sort());
 }));
 
-test('a list of kinds begins no threads', () => inDirectory(room => {
+test('only a long image begins threads', () => inDirectory(room => {
     const sector = imageOf(room, 1);
-    write(room, { image: Buffer.concat(Array.from({ length: 9000 }, () => sector)) });
+    write(room, { image: Buffer.concat(Array.from({ length: 9000 }, () => sector)), short: imageOf(room, 100) });
     const maker = "class { constructor() { console.log('a thread'); throw new Error('EAGAIN'); } }";
-    assert.deepEqual(withThreads(room, 'counts.cjs', maker, ['list', 'image']), [0, '0-8999 mode1\nsectors 9000 tail 0\n', '']);
+    assert.match(withThreads(room, 'counts.cjs', maker, ['rebuilds', 'short'])[1], /^cdpatch 1\n/);
     assert.match(withThreads(room, 'counts.cjs', maker, ['rebuilds', 'image'])[1], /^a thread\n/);
 }));
 
@@ -175,11 +175,14 @@ test('an undo names the block whose damage is gone, also if nothing else is take
 test('apply makes its output before it reads the image, as the program does', () => inDirectory(room => {
     write(room, { out: 'there', script: 'cdpatch 1\n' });
     mkdirSync(join(room, 'folder'));
-    for (const name of ['folder', '-', 'nothing']) {
+    const [opened, made] = ['open nothing: there is no such file or directory', 'create out: it already exists'];
+    for (const [name, first] of [['folder', made], ['-', made], ['nothing', opened]]) {
         const due = spawnSync(program, ['apply', name, 'script', 'out'], { cwd: room, encoding: 'utf8', input: '' });
         const came = runProcess(['apply', name, 'script', 'out'], { cwd: room, input: '' });
-        assert.deepEqual([came.status, came.out], [due.status, due.stdout], name);
+        assert.deepEqual([due.stdout, came.status, came.errors], [`${first === opened ? MESSAGES.no_image : MESSAGES.no_output}\n`, due.status,
+            `cdscript: cannot ${first}\n`], name);
     }
-    const base = runProcess(['list', '--base', '+7', 'script'], { cwd: room });
-    assert.deepEqual([base.status, base.out], [0, tool(program, ['list', '--base', '+7', 'script'], { cwd: room }).toString()]);
+    const based = ['check', '--base', '+7', 'script', 'script'];
+    const base = runProcess(based, { cwd: room });
+    assert.deepEqual([base.status, base.out], [0, tool(program, based, { cwd: room }).toString()]);
 }));

@@ -5,9 +5,8 @@ import { createHash } from 'node:crypto';
 import { existsSync } from 'node:fs';
 import { join } from 'node:path';
 import { test } from 'node:test';
-import { MESSAGES } from '../lib/messages.mjs';
-import { ENCODINGS_KNOWN, damaged, imageOf, inDirectory, program, read, run, sameFile, tool, write } from './common.mjs';
-import { files, makeDisc } from './discs.mjs';
+import { ENCODINGS_KNOWN, damaged, imageOf, inDirectory, program, read, run, sameFile, tool, top, write } from './common.mjs';
+import { files, makeDisc, noise } from './discs.mjs';
 
 const skip = tool('genisoimage', ['--version']) === null && 'no genisoimage';
 const sheet = (name, type = 'MODE1/2352') => `FILE "${name}" BINARY\n  TRACK 01 ${type}\n    INDEX 01 00:00:00\n`;
@@ -45,13 +44,30 @@ test('a raw image goes on to the last block with an address', () => inDirectory(
     await fails(['raw', 'two.iso', 'out', '--first', '1', '--base', '1'], '--base and --first cannot be used together', room);
 }));
 
+test('an image with subchannels is made raw, by its sync fields and not by its size', () => inDirectory(async room => {
+    // More sectors than are copied at a time; and images of 2352 bytes a sector whose size is a multiple of 2448.
+    for (const count of [1, 2, 51, 700]) {
+        const image = imageOf(room, count);
+        const longer = Buffer.concat(Array.from({ length: count }, (_, i) => Buffer.concat([image.subarray(2352 * i, 2352 * (i + 1)), Buffer.alloc(96, i)])));
+        write(room, { 'longer.bin': longer });
+        assert.deepEqual(await run(['raw', 'longer.bin', `raw ${count}`], { cwd: room }).then(it => [it.status, it.errors]), [0, '']);
+        sameFile(read(room, `raw ${count}`), image, `${count} sectors`);
+    }
+    write(room, { 'plain.bin': imageOf(room, 51), 'cut.bin': read(room, 'longer.bin').subarray(0, -1) });
+    assert.equal(read(room, 'plain.bin').length % 2448, 0);
+    await fails(['raw', 'plain.bin', 'out'], 'plain.bin is a raw image, 2352 bytes a sector, not an ISO image or one with subchannels', room);
+    await fails(['raw', 'cut.bin', 'out'], `cut.bin has ${2448 * 700 - 1} bytes, which is not a multiple of 2448`, room);
+    await fails(['raw', 'longer.bin', 'out', '--base', '0'], 'longer.bin has addresses, so it needs no --base', room);
+    assert.equal(read(room, 'out'), null);
+}));
+
 test('what can not be made raw, or has no user data', { skip }, () => inDirectory(async room => {
     await makeDisc(room);
-    await fails(['raw', 'disc.bin', 'out'], 'disc.bin is a raw image, 2352 bytes a sector, not an ISO image', room);
+    await fails(['raw', 'disc.bin', 'out'], 'disc.bin is a raw image, 2352 bytes a sector, not an ISO image or one with subchannels', room);
     write(room, { 'cut.iso': read(room, 'disc.iso').subarray(0, 100000) });
     await fails(['raw', 'cut.iso', 'out'], 'cut.iso has 100000 bytes, which is not a multiple of 2048', room);
-    await fails(['user', 'disc.iso', 'out'], 'disc.iso is an ISO image, 2048 bytes a sector. Convert it to a raw image with cdscript raw, patch that, ' +
-        'and extract its user data as an ISO image.', room);
+    await fails(['user', 'disc.iso', 'out'], 'disc.iso is an ISO image, 2048 bytes a sector. Convert it to a raw image with cdscript raw. ' +
+        'Then merge that with a dump, or patch it and extract its user data as an ISO image.', room);
     await fails(['raw', 'nothing.iso', 'out'], 'cannot open nothing.iso: there is no such file or directory', room);
 }));
 
@@ -90,9 +106,9 @@ test('info of a disc', () => inDirectory(async room => {
     const hash = createHash('sha1').update(image).digest('hex');
     const { status, out, errors } = await run(['info', 'image.bin'], { cwd: room });
     assert.deepEqual([status, errors], [1, '']);
-    assert.equal(out, ['image.bin: a raw image, 2352 bytes a sector', `file image.bin bytes ${image.length} sha1 ${hash}`,
+    assert.equal(out, ['image.bin: a raw image, 2352 bytes a sector', 'verdict: 2 of 39 data sectors are damaged; 1 data sector is lost', `file image.bin bytes ${image.length} sha1 ${hash}`,
         'track 1 data blocks 75-114 in image.bin', 'base 75', '75-94 mode1', '95-95 nosync', '96-114 mode1', 'sectors 40 tail 0',
-        'mode1 39 damaged 2 address 0', '80-81 mode1 damaged', '95-95 not mode1 in a track of mode1', ''].join('\n'));
+        'mode1 39 damaged 2 address 0', '80-80 mode1 damaged: edc p=1 q=1', '81-81 mode1 damaged: p=1 q=1', '95-95 not mode1 in a track of mode1', ''].join('\n'));
 }));
 
 test('info of what is no raw image', () => inDirectory(async room => {
@@ -109,15 +125,49 @@ test('info of what can not be patched as it is', { skip }, () => inDirectory(asy
     assert.ok((await run(['info', 'disc.iso'], { cwd: room })).out.endsWith('\n`cdscript raw` writes the raw image, and `cdscript user` the ISO image.\n'));
     const mode2 = imageOf(room, 20);
     for (let i = 0; i < 20; i++) mode2[2352 * i + 15] = 2;
-    write(room, { mode2, 'audio.bin': Buffer.alloc(2352 * 3, 7), 'cooked.cue': 'FILE "disc.iso" BINARY\n  TRACK 01 MODE1/2048\n    INDEX 01 00:00:00\n',
+    write(room, { mode2, 'audio.bin': noise(2352 * 3, 7), 'cooked.cue': 'FILE "disc.iso" BINARY\n  TRACK 01 MODE1/2048\n    INDEX 01 00:00:00\n',
         'audio.cue': 'FILE "audio.bin" BINARY\n  TRACK 01 AUDIO\n    INDEX 01 00:00:00\n' });
-    const cases = { mode2: [0, 'mode2 20: Mode 2 sectors cannot be audited or patched; PlayStation discs have them'],
+    const untested = 'not tested 3: blocks 0 to 2 are';
+    const cases = { mode2: [1, 'mode2 20: Mode 2 sectors cannot be audited or patched; PlayStation discs have them'],
         'cooked.cue': [1, 'track 1 has 2048 bytes a sector: it cannot be audited or patched'],
-        'audio.cue': [1, 'no data track: audio cannot be audited or patched'], 'audio.bin': [1, 'no data track: audio cannot be audited or patched'] };
+        'audio.cue': [0, `${untested} audio`], 'audio.bin': [0, `${untested} not mode1; a cue sheet would say whether they are audio`] };
     for (const [name, [due, line]] of Object.entries(cases)) {
         const { status, out, errors } = await run(['info', name], { cwd: room });
         assert.deepEqual([status, out.split('\n').at(-2), errors], [due, line, ''], name);
     }
+}));
+
+test('the jobs of the program refuse what is recognised as something else', { skip }, () => inDirectory(async room => {
+    await makeDisc(room);
+    write(room, { 'disc.chd': Buffer.from('MComprHD'.padEnd(3000)), 'read.me': 'It is a text,\r\nand no disc.\r\n'.repeat(200), script: 'cdpatch 1\n',
+        'mode2.bin': tool('python3', ['-B', `${top}/tests/lib/mode2_sectors.py`, '40', '3']) });
+    for (const [name, what] of [['disc.iso', 'is an ISO image'], ['disc.chd', 'is a CHD file'], ['read.me', 'is a text file'],
+        ['mode2.bin', 'is an image of Mode 2']]) {
+        for (const words of [['check', name, 'script'], ['apply', name, 'script', 'out'], ['check', name, 'script', '--base', '0']]) {
+            const { status, out, errors } = await run(words, { cwd: room });
+            assert.deepEqual([status, out, errors.startsWith(`cdscript: ${name} ${what}`), read(room, 'out')], [2, '', true, null], words.join(' '));
+        }
+    }
+}));
+
+test('check and apply say that no sector is Mode 1, also with a cue sheet, and give the result of the program', { skip }, () => inDirectory(async room => {
+    const mode2 = tool('python3', ['-B', `${top}/tests/lib/mode2_sectors.py`, '40', '3']);
+    const [unsound, audio] = [Buffer.from(mode2), noise(2352 * 1000, 5)];
+    for (let i = 0; i < 40; i++) unsound[2352 * i + 16] ^= 1;
+    imageOf(room, 1, 500).copy(audio, 2352 * 500);
+    write(room, { unsound, words: 'a text without lines '.repeat(1000), empty: '', 'audio': noise(2352 * 20, 5), mostly: audio, 'mode2.bin': mode2,
+        script: 'cdpatch 1\nset 3 0 00\nset 500 0 00\n', 'mode2.cue': sheet('mode2.bin').replace('MODE1', 'MODE2') });
+    for (const [name, said] of [['unsound', true], ['words', true], ['empty', true], ['audio', true], ['mostly', false]]) {
+        const due = tool('sh', ['-c', `"${program}" check ${name} script; true`], { cwd: room }).toString();
+        for (const words of [['check', name, 'script'], ['apply', name, 'script', `${name}.new`]]) {
+            const { status, out, errors } = await run(words, { cwd: room });
+            assert.deepEqual([status, out, errors], [1, due, said ? `cdscript: no sector of ${name} is Mode 1, and scripts patch no others\n` : ''], words.join(' '));
+        }
+        assert.equal(read(room, `${name}.new`).length, read(room, name).length);
+    }
+    const { status, out, errors } = await run(['apply', 'mode2.cue', 'script', 'new'], { cwd: room });
+    assert.deepEqual([status, out, read(room, 'new')], [2, '', null]);
+    assert.match(errors, /^cdscript: mode2.bin is an image of Mode 2, /m);
 }));
 
 test('user says how the way back goes', () => inDirectory(async room => {
@@ -139,7 +189,7 @@ test('a cue sheet gives tracks, files and bases', () => inDirectory(async room =
     const { status, out } = await run(['info', 'disc.cue', '--track', '3'], { cwd: room });
     assert.equal(status, 0);
     assert.match(out, /^track 2 AUDIO blocks 30-179 in Two.BIN\ntrack 3 MODE1\/2352 blocks 180-199 in three.bin\nbase 180\n180-199 mode1$/m);
-    assert.deepEqual((await run(['audit', 'disc.cue'], { cwd: room })).out, 'sectors 30 mode1 30 damaged 0 tail 0\n');
+    assert.match((await run(['info', 'disc.cue'], { cwd: room })).out, /\ntrack 1 base 0\n0-29 mode1\nsectors 30 tail 0\nmode1 30 damaged 0 address 0\n/);
     await fails(['user', 'disc.cue', 'out', '--track', '2'], 'Track 2 is not a data track with 2352-byte sectors. Choose a different track.', room);
     tool('rm', ['three.bin'], { cwd: room });
     assert.match((await run(['info', 'disc.cue'], { cwd: room })).errors, /^cdscript: disc.cue names C:\\discs\\three.bin, which is not in the directory of the cue sheet\.\n$/);
@@ -155,7 +205,7 @@ test('a repair takes sound sectors only, of the first image that has one', () =>
     });
     const { status, out, errors } = await run(['merge', 'old', 'first', 'second', 'out'], { cwd: room });
     assert.deepEqual([status, errors], [1, '']);
-    assert.equal(out, '31-31 from first\n40-40 from second\n41-41 from first\n50-50 damaged in all\ntaken 3 damaged 1 disputed 0 different 0\n');
+    assert.equal(out, '31-31 from first\n40-40 from second\n41-41 from first\n50-50 damaged, without a sound copy\ntaken 3 damaged 1 disputed 0 different 0\n');
     sameFile(read(room, 'out'), withTail(damaged(good, 30, [50, 1000])), 'the repaired image');
     write(room, { sound: withTail(good) });
     assert.equal((await run(['merge', 'old', 'sound', 'whole'], { cwd: room })).status, 0);
@@ -174,7 +224,7 @@ test('a repair takes what the EDC of the damaged sector fits, and names what it 
     sameFile(read(room, 'one'), good, 'the repaired image');
     const other = await run(['merge', 'old', 'door.bin', 'two'], { cwd: room });
     assert.deepEqual([other.status, other.errors],
-        [1, "cdscript: block 17: copied from door.bin, but the EDC in OLD is different: perhaps the dumps are of different versions\n"]);
+        [1, "cdscript: block 17: copied from door.bin, but old has neither its data nor its EDC: perhaps the dumps are of different versions\n"]);
 }));
 
 test('a repair of many places names the first of them', () => inDirectory(async room => {
@@ -199,7 +249,7 @@ test('dumps that begin or end elsewhere repair the blocks that both have', () =>
         long: Buffer.concat([good, Buffer.alloc(2352)]) });
     const short = await run(['merge', 'old', 'short', 'out'], { cwd: room });
     assert.deepEqual([short.status, short.errors], [1, 'cdscript: short has only blocks 30 to 324 of old\n']);
-    assert.equal(short.out, '40-40 from short\n320-320 from short\n327-327 damaged in all\ntaken 2 damaged 1 disputed 0 different 0\n');
+    assert.equal(short.out, '40-40 from short\n320-320 from short\n327-327 damaged, without a sound copy\ntaken 2 damaged 1 disputed 0 different 0\n');
     const later = await run(['merge', 'old', 'later', 'long', 'all'], { cwd: room });
     const beyond = 'cdscript: block 330 is in long but not in old, so all lacks it too; to include it, name long first\n';
     assert.deepEqual([later.status, later.errors], [0, `cdscript: later has only blocks 50 to 329 of old\n${beyond}`]);
@@ -271,11 +321,11 @@ test('what no repair takes', () => inDirectory(async room => {
 
 test('threads give what one thread gives', () => inDirectory(async room => {
     const image = imageOf(room, 9000);
-    const hurt = damaged(image, 0, [3, 100], [1023, 2000], [1024, 16], [4500, 77], [8999, 2300]);
+    const hurt = damaged(image, 0, [3, 100], [1023, 2000], [1024, 2200], [4500, 77], [8999, 2300]);
     write(room, { image, hurt });
-    for (const job of ['list', 'audit']) {
-        assert.equal((await run([job, 'hurt'], { cwd: room })).out, tool('sh', ['-c', `"${program}" ${job} hurt || true`], { cwd: room }).toString());
-    }
+    const audit = tool('sh', ['-c', `"${program}" audit hurt || true`], { cwd: room }).toString().split('\n').slice(0, -2);
+    const due = audit.map(line => line.replace(/^(\d+) (.*)$/, '$1-$1 mode1 damaged: $2\n')).join('');
+    assert.ok((await run(['info', 'hurt'], { cwd: room })).out.endsWith(`\nmode1 9000 damaged 5 address 0\n${due}`));
     assert.equal((await run(['merge', 'hurt', 'image', 'out'], { cwd: room })).status, 0);
     sameFile(read(room, 'out'), image, 'the repaired image');
     assert.equal((await run(['rebuilds', 'hurt'], { cwd: room })).out, 'cdpatch 1\nrebuild 3\nrebuild 1023\nrebuild 1024\nrebuild 4500\nrebuild 8999\n');
@@ -283,29 +333,30 @@ test('threads give what one thread gives', () => inDirectory(async room => {
 
 test('a file that exists stays', () => inDirectory(async room => {
     write(room, { image: imageOf(room, 10), out: 'kept', script: 'cdpatch 1\n' });
-    for (const words of [['user', 'image', 'out'], ['merge', 'image', 'image', 'out'], ['diff', 'image', 'image', '-o', 'out']]) {
-        const { status, errors } = await run(words, { cwd: room });
-        assert.deepEqual([status, errors, read(room, 'out').toString()], [2, 'cdscript: cannot create out: it already exists\n', 'kept']);
+    for (const words of [['user', 'image', 'out'], ['merge', 'image', 'image', 'out'], ['diff', 'image', 'image', '-o', 'out'],
+        ['apply', 'image', 'script', 'out']]) {
+        const { status, out, errors } = await run(words, { cwd: room });
+        assert.deepEqual([status, out, errors, read(room, 'out').toString()], [2, '', 'cdscript: cannot create out: it already exists\n', 'kept']);
     }
-    assert.deepEqual([(await run(['apply', 'image', 'script', 'out'], { cwd: room })).out, read(room, 'out').toString()],
-        [`${MESSAGES.no_output}\n`, 'kept']);
 }));
 
 /** Wrong command lines and their messages. */
 const WRONG_WORDS = {
     '': 'no job given; see cdscript --help',
     'frob': "unknown job 'frob'; see cdscript --help",
-    'list': 'list needs IMAGE; see cdscript list --help',
+    'list': "unknown job 'list'; use cdscript info or cdpatch list",
+    'help audit': "unknown job 'audit'; use cdscript info or cdpatch audit",
+    'info': 'info needs IMAGE; see cdscript info --help',
     'apply a b': 'apply needs IMAGE SCRIPT OUT; see cdscript apply --help',
-    'list a b': 'list needs IMAGE; see cdscript list --help',
+    'info a b': 'info needs IMAGE; see cdscript info --help',
     'replace a 1 b c': 'replace needs IMAGE [BLOCK OFFSET] OLD NEW; see cdscript replace --help',
     'merge a b': 'merge needs OLD OTHER.. OUT; see cdscript merge --help',
-    'list --frob a': 'unknown option --frob; put names that begin with - after --',
-    'list --carry a': 'list has no option --carry; see cdscript list --help',
-    'list --base': '--base needs N',
-    'list --base 449850 a': "--base must be a number from 0 to 449849, not '449850'",
-    'list --base=x a': "--base must be a number from 0 to 449849, not 'x'",
-    'list --base 1 --base 1 a': '--base was given twice',
+    'info --frob a': 'unknown option --frob; put names that begin with - after --',
+    'info --carry a': 'info has no option --carry; see cdscript info --help',
+    'info --base': '--base needs N',
+    'info --base 449850 a': "--base must be a number from 0 to 449849, not '449850'",
+    'info --base=x a': "--base must be a number from 0 to 449849, not 'x'",
+    'info --base 1 --base 1 a': '--base was given twice',
     'check --carry=1 a b': '--carry does not accept a value',
     'find a b --encoding latin': "unknown encoding 'latin'; known encodings: " +
         ENCODINGS_KNOWN.map(({ name }) => name).join(', '),
@@ -329,11 +380,10 @@ test('wrong arguments are one line and status 2', () => inDirectory(async room =
 
 test('options in any place, and names that begin with -', () => inDirectory(async room => {
     write(room, { '-image': imageOf(room, 3, 75), image: imageOf(room, 3, 75) });
-    const due = 'sectors 3 mode1 3 damaged 0 tail 0\n';
-    for (const words of [['--base', '75', 'audit', 'image'], ['audit', 'image', '--base=75'], ['audit', '--base=75', '--', '-image']]) {
-        assert.deepEqual((await run(words, { cwd: room })).out, due);
+    for (const words of [['--base', '80', 'info', 'image'], ['info', 'image', '--base=80'], ['info', '--base=80', '--', '-image']]) {
+        assert.match((await run(words, { cwd: room })).out, /\nbase 80\n80-82 mode1\nsectors 3 tail 0\nmode1 3 damaged 0 address 3\n/);
     }
     assert.match((await run(['--version'])).out, /^cdscript \d+\.\d+\.\d+\n$/);
     assert.match((await run(['--notices'])).out, /\n/);
-    assert.equal((await run(['list', '-h'])).out, (await run(['list', '--help'])).out);
+    assert.equal((await run(['info', '-h'])).out, (await run(['info', '--help'])).out);
 }));

@@ -232,7 +232,7 @@ test('a text over extents that lie apart is found, listed and replaced', () => i
     });
     write(room, { list });
     const made = await run(['replace', 'disc.bin', '--list', 'list'], { cwd: room });
-    const characters = 'cdscript: no old text has these characters, so the font of the game may lack them: 新し in row 3\n';
+    const characters = 'cdscript: 2 characters are in no old text: し 新. Does the font of the game have them?\n';
     assert.deepEqual([made.status, made.errors, made.out.split('\n').length], [0, characters, 6]);
     await patched(room, made.bytes);
     await run(['extract', 'new.bin', '/BIG', 'out'], { cwd: room });

@@ -16,7 +16,7 @@ function writeImage(room, ...places) {
 }
 
 /** Messages without the one about characters that only new texts have. */
-const withoutGlyphs = errors => errors.replace(/^(?:cdscript: )?no old text has these characters.*\n/m, '');
+const withoutGlyphs = errors => errors.replace(/^(?:cdscript: )?\d+ characters? \w+ in no old text.*\n/m, '');
 
 /** Runs `replace --list` with these rows below the head. */
 const listed = async (room, head, rows, ...more) => {
@@ -92,7 +92,8 @@ test('all rows that do not fit are named, and left out only if that is asked for
     const refused = await listed(room, head, rows, '--encoding', 'CP932');
     const why = ['row 2: CP932 cannot encode \'é\' (U+00E9), character 1 of the text', 'row 3: the old text is not there',
         'row 4: the image has only the blocks 0 to 7', 'row 5: block or offset is not a number', 'row 7: it overlaps the text of row 6',
-        'row 8: the old text is not there', 'row 9: CP932 cannot encode \'é\' (U+00E9), character 1 of the text'];
+        'row 8: the old text is not there', 'row 9: CP932 cannot encode \'é\' (U+00E9), character 1 of the text',
+        'if the font of the game can show a character that the encoding lacks, a table of characters (--table) gives it a code'];
     assert.deepEqual([refused.status, refused.out, refused.errors.split('\n').slice(0, -2)], [2, '', why.map(line => `cdscript: ${line}`)]);
     const partial = await listed(room, head, rows, '--encoding', 'CP932', '--partial');
     assert.deepEqual([partial.status, partial.out], [1, 'cdpatch 1\nset 3 2046 6F6B2020 was 83418343\n']);

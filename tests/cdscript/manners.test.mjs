@@ -2,9 +2,11 @@
 
 import assert from 'node:assert/strict';
 import { spawnSync } from 'node:child_process';
+import { mkdirSync, readdirSync } from 'node:fs';
+import { join } from 'node:path';
 import { test } from 'node:test';
-import { MESSAGES } from '../lib/messages.mjs';
-import { ENCODINGS_KNOWN, command, damaged, imageOf, inDirectory, read, run, tool, write } from './common.mjs';
+import { harmlessVolume } from '../core/strangers.mjs';
+import { ENCODINGS_KNOWN, command, damaged, imageOf, inDirectory, read, run, runProcess, tool, write } from './common.mjs';
 import { makeDisc } from './discs.mjs';
 
 const hasDisc = tool('genisoimage', ['--version']) !== null;
@@ -22,8 +24,8 @@ test('a mistyped job, option or encoding is answered by what was meant', async (
         'arw x': "unknown job 'arw'; did you mean raw?; see cdscript --help",
         'wra x': "unknown job 'wra'; see cdscript --help",
         'frobnicate x': "unknown job 'frobnicate'; see cdscript --help",
-        'list --bsae 0 x': 'unknown option --bsae; did you mean --base?',
-        'list --frobnicate x': 'unknown option --frobnicate; put names that begin with - after --',
+        'info --bsae 0 x': 'unknown option --bsae; did you mean --base?',
+        'info --frobnicate x': 'unknown option --frobnicate; put names that begin with - after --',
         'find x y --encoding latin1': "unknown encoding 'latin1'; known encodings: " +
         ENCODINGS_KNOWN.map(({ name }) => name).join(', '),
         'help fnd': "unknown job 'fnd'; did you mean find?; see cdscript --help",
@@ -71,10 +73,10 @@ test('help of each job has an example that is right, and says all of the program
             assertAligned(help);
             const words = tool('sh', ['-c', `printf '%s\\n' ${example}`]).toString().split('\n').slice(0, -1);
             const { out, errors } = await run(words, { cwd: room });
-            assert.match(out + errors, /^(cdscript: cannot (open|read) |cdpatch: cannot (open the image|read the script)\n)/, example);
+            assert.match(out + errors, /^cdscript: cannot (open|read) /, example);
         }
     });
-    for (const job of ['list', 'audit', 'check', 'apply']) {
+    for (const job of ['check', 'apply']) {
         assert.match((await run(['help', job])).out, /like\s+cdpatch\s.*The\s+first\s+sector\s+is\s+block\s+0\s/s, job);
     }
     assert.match((await run(['help', 'replace-file'])).out, /--fill HEX +pad with this byte, such as 20\n/);
@@ -88,18 +90,52 @@ test('a dash after -o is standard output', () => inDirectory(async room => {
 }));
 
 test('nothing is said to a reader that has ended', () => inDirectory(room => {
-    const sector = imageOf(room, 1);
+    const sector = damaged(imageOf(room, 1), 0, [0, 100]);
     write(room, { many: Buffer.concat(Array.from({ length: 20000 }, () => sector)) });
-    const { stdout, stderr } = spawnSync('sh', ['-c', `{ "${process.execPath}" "${command}" audit many; echo $? > status; } | head -n 1`],
+    const { stdout, stderr } = spawnSync('sh', ['-c', `{ "${process.execPath}" "${command}" rebuilds --base 0 many; echo $? > status; } | head -n 1`],
         { cwd: room, encoding: 'utf8' });
-    assert.deepEqual([stdout, stderr, read(room, 'status').toString()], ['1 address\n', '', '2\n']);
+    assert.deepEqual([stdout, stderr, read(room, 'status').toString()], ['cdpatch 1\n', '', '2\n']);
 }));
 
-test('why apply cannot make its output is said beside the program\'s line', () => inDirectory(async room => {
-    write(room, { image: imageOf(room, 3), script: 'cdpatch 1\n', there: 'x' });
-    for (const [out, why] of [['there', 'it already exists'], ['nowhere/out', 'there is no such file or directory'], ['image/out', 'a part of the path is not a directory']]) {
-        const came = await run(['apply', 'image', 'script', out], { cwd: room });
-        assert.deepEqual([came.status, came.out, came.errors], [2, `${MESSAGES.no_output}\n`, `cdscript: cannot create ${out}: ${why}\n`]);
+/** Every job that reads an image, with its name and that of another file that is read. NEW is the name of a new file. */
+const READING = { info: 'info IMAGE --dat OTHER', scan: 'scan IMAGE --dat OTHER', check: 'check IMAGE OTHER', apply: 'apply IMAGE OTHER NEW',
+    files: 'files IMAGE', find: 'find IMAGE A --table OTHER', texts: 'texts IMAGE --list OTHER', show: 'show IMAGE 1 0 --table OTHER',
+    extract: 'extract IMAGE /FILE NEW', replace: 'replace IMAGE --list OTHER', 'replace-file': 'replace-file IMAGE /FILE OTHER', diff: 'diff IMAGE OTHER',
+    merge: 'merge IMAGE OTHER NEW', rebuilds: 'rebuilds IMAGE', undo: 'undo IMAGE OTHER', raw: 'raw IMAGE NEW', user: 'user IMAGE NEW' };
+
+test('every job names the file that cannot be read, and the reason, and makes no file', () => inDirectory(async room => {
+    assert.deepEqual(Object.keys(READING).sort(), JSON.parse((await run(['--forms'])).out).jobs.map(it => it.name).sort());
+    write(room, { iso: harmlessVolume(30), script: 'cdpatch 1\n', 'list.dat': `<datafile><game name="a"><rom name="a" size="9" sha1="${'0'.repeat(40)}"/></game></datafile>`, list: 'block\toffset\ttext\tnew\n', table: '41=A\n' });
+    await run(['raw', 'iso', 'image'], { cwd: room });
+    mkdirSync(join(room, 'folder'));
+    const there = readdirSync(room);
+    const fits = { check: 'script', apply: 'script', undo: 'script', 'replace-file': 'script', find: 'table', show: 'table', texts: 'list', replace: 'list',
+        diff: 'image', merge: 'image' };
+    for (const [job, form] of Object.entries(READING)) {
+        for (const [name, reason] of [['none', 'there is no such file or directory'], ['folder', 'it is a directory']]) {
+            const other = fits[job] ?? 'list.dat';
+            const isFolder = job === 'scan' && name === 'folder'; // it scans the directory
+            for (const [image, second] of [...isFolder ? [] : [[name, other]], ...form.includes('OTHER') ? [['image', name]] : []]) {
+                const words = form.replace('IMAGE', image).replace('OTHER', second).replace('NEW', 'new');
+                const { status, out, errors } = await run(words.split(' '), { cwd: room });
+                assert.deepEqual([status, out], [2, ''], words);
+                assert.match(errors, new RegExp(`^cdscript: cannot (open|read) ${name}: ${reason}$`, 'm'), words);
+            }
+        }
+    }
+    assert.deepEqual(readdirSync(room), there);
+}));
+
+test('every job that makes a file names the one that it cannot make, and the reason', () => inDirectory(async room => {
+    write(room, { image: imageOf(room, 30), script: 'cdpatch 1\n', there: 'x', iso: harmlessVolume(30) });
+    const FORMS = ['apply image script NEW', 'merge image image NEW', 'raw iso NEW', 'user image NEW', 'extract image /A NEW', 'files image -o NEW',
+        'find image A -o NEW', 'texts image -o NEW', 'replace image A B -o NEW', 'diff image image -o NEW', 'rebuilds image -o NEW', 'undo image script -o NEW',
+        'scan image -o NEW', 'replace-file image /A script -o NEW'];
+    for (const [name, why] of [['there', 'it already exists'], ['nowhere/out', 'there is no such file or directory'], ['image/out', 'a part of the path is not a directory']]) {
+        for (const form of FORMS) {
+            const { status, out, errors } = await run(form.replace('NEW', name).split(' '), { cwd: room });
+            assert.deepEqual([status, out, errors], [2, '', `cdscript: cannot create ${name}: ${why}\n`], form);
+        }
     }
 }));
 
@@ -111,3 +147,27 @@ test('apply, check and undo show how far they are', { skip: !hasTerminal && 'no 
         assert.match(shown, /\r\d+ % of 3000 sectors[^\n]*\r\x1b\[K/, words);
     }
 }));
+
+test('a device such as /dev/null is an output, and a file that exists is not', () => inDirectory(async room => {
+    imageOf(room, 20);
+    const [printed, none, refused] = await Promise.all(['-', '/dev/null', 'made.txt'].map(name =>
+        runProcess(['diff', 'made.bin', 'made.out', '-o', name], { cwd: room })));
+    assert.match(printed.out, /^cdpatch 2\n/);
+    assert.deepEqual([printed.status, none.status, none.out, refused.status], [0, 0, '', 2]);
+    assert.match(refused.errors, /already exists/);
+}));
+
+test('--forms prints each job and option of help as JSON', async () => {
+    const { status, out } = await run(['--forms']);
+    const { name, jobs } = JSON.parse(out);
+    assert.deepEqual([status, name], [0, 'cdscript']);
+    const whole = (await run(['--help'])).out;
+    assert.deepEqual(jobs.map(job => job.name), [...whole.matchAll(/^ {2}([a-z-]+) {2,}[A-Z]/gm)].map(([, it]) => it));
+    for (const job of jobs) {
+        const help = (await run([job.name, '--help'])).out;
+        const options = [...help.matchAll(/^ {2}(?:(-\w)(?:, )?| {4})(--[a-z-]+)? *([A-Z]*)(?: {2}|$)/gm)].filter(([, short, long]) => short || long);
+        assert.deepEqual(job.options.map(it => [it.short, it.long, it.value]), options.map(([, short = '', long = '', value]) => [short, long, value]), job.name);
+        assert.deepEqual(job.forms.map(form => `cdscript ${job.name} [OPTIONS] ${form}`), help.match(/cdscript \S+ \[OPTIONS\] .*/g), job.name);
+        assert.equal(help.replace(/\s+/g, ' ').includes(`1 ${job.found}; 2 `), job.found !== '', job.name);
+    }
+});

@@ -93,7 +93,7 @@ test('info and merge --json say where damage is, and merge repairs it', { skip }
     const [sound] = FORM1;
     for (const image of [disc, old, other]) for (const i of [8, 16, 24, 32]) if (image !== old) at(i, sound).copy(image, RAW * i);
     at(8, sound).copy(old, RAW * 8);
-    old[RAW * 8 + 500] ^= 1;
+    old[RAW * 8 + 20] ^= 1;
     at(24, sound).copy(old, RAW * 24);
     old[RAW * 24 + 14] ^= 1;
     at(32, sound).copy(old, RAW * 32);
@@ -111,7 +111,7 @@ test('info and merge --json say where damage is, and merge repairs it', { skip }
     due[RAW * 32 + 600] ^= 1;
     sameFile(read(room, 'out'), due, 'the repaired image');
     const text = await run(['info', 'old.bin'], { cwd: room });
-    assert.match(text.out, /\nmode2 39 damaged 2 address 1\n8-8 mode2 damaged\n32-32 mode2 damaged\n24-24 mode2 with a wrong address\n/);
+    assert.match(text.out, /\nmode2 39 damaged 2 address 1\n8-8 mode2 damaged: subheader edc parity\n32-32 mode2 damaged: edc parity\n24-24 mode2 with a wrong address\n/);
     assert.ok(text.out.includes('\n16-16 not mode2 in a track of mode2'));
 }));
 
@@ -131,8 +131,8 @@ test('--json gives the name in the DAT, and is refused together with --resume', 
     write(room, { 'mine.bin': image, 'a.zip': 'PK\x03\x04', 'x.dat': `<datafile><rom name="Game (Japan).bin" size="${size}" sha1="${sha1}"/></datafile>` });
     const { out } = runProcess(['scan', '--json', '--dat', 'x.dat', 'mine.bin', 'a.zip'], { cwd: room });
     const objects = JSON.parse(tool('jq', ['-s', 'sort_by(.name) | map({name, kind, dat, damaged, findings, sectors})'], { input: out }));
-    assert.deepEqual(objects, [{ name: 'a.zip', kind: 'archive', dat: { verdict: 'unknown', name: null, others: 0 }, damaged: null, findings: null, sectors: null },
-        { name: 'mine.bin', kind: 'image', dat: { verdict: 'verified', name: 'Game (Japan).bin', others: 0 }, damaged: 0, findings: 0, sectors: { mode2: FORM1.length } }]);
+    assert.deepEqual(objects, [{ name: 'a.zip', kind: 'archive', dat: { verdict: 'unknown', name: null, game: null, others: 0 }, damaged: null, findings: null, sectors: null },
+        { name: 'mine.bin', kind: 'image', dat: { verdict: 'verified', name: 'Game (Japan).bin', game: null, others: 0 }, damaged: 0, findings: 0, sectors: { mode2: FORM1.length } }]);
     const odd = 'Game\u202E\u009B.bin';
     write(room, { 'odd.dat': `<datafile><rom name="${odd}" size="${size}" sha1="${sha1}"/></datafile>` });
     const escaped = await run(['scan', '--json', '--dat', 'odd.dat', 'mine.bin'], { cwd: room });
@@ -140,4 +140,16 @@ test('--json gives the name in the DAT, and is refused together with --resume', 
     assert.equal(JSON.parse(escaped.out).dat.name, odd);
     const both = await run(['scan', '--json', '--resume', 'list', 'mine.bin'], { cwd: room });
     assert.deepEqual([both.status, both.out, both.errors], [2, '', 'cdscript: --json and --resume cannot be used together\n']);
+}));
+
+test('rebuilds says that it does not test Mode 2 sectors', () => inDirectory(async room => {
+    const [one, two] = [damaged(imageOf(room, 24), 0, [3, 99]), imageOf(room, 24)];
+    for (let i = 0; i < 24; i++) two[2352 * i + 15] = 2;
+    write(room, { one, two, both: Buffer.concat([one, two.subarray(0, 2352 * 5)]) });
+    const said = async name => {
+        const { out, errors } = await run(['rebuilds', name, '--base', '0'], { cwd: room });
+        return [out, errors.match(/^cdscript: not tested, .*: Mode 2 sectors, (\d+) in all/)?.[1]];
+    };
+    const script = 'cdpatch 1\nrebuild 3\n';
+    assert.deepEqual([await said('one'), await said('both'), await said('two')], [[script, undefined], [script, '5'], ['cdpatch 1\n', '24']]);
 }));

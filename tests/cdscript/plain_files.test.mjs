@@ -22,7 +22,7 @@ function fileOf(size) {
 }
 
 /** The messages of a job without the one about new characters. */
-const messages = ({ errors }) => errors.replace(/^cdscript: no old text has .*\n/m, '');
+const messages = ({ errors }) => errors.replace(/^cdscript: \d+ characters? \w+ in no old text.*\n/m, '');
 
 const HEAD = 'block\toffset\tbytes\troom\tencoding\tfile\ttext\tnew';
 
@@ -48,6 +48,41 @@ test('a file is listed, searched, and copied with new texts, byte for byte', () 
     const piped = runProcess(['replace', '--file', '-', '--list', 'list', 'piped.bin'], { cwd: room, input: file });
     assert.equal(piped.status, 0, piped.errors);
     sameFile(read(room, 'piped.bin'), due, 'the copy of a pipe');
+}));
+
+/** Words of CP932, each followed by a byte. */
+const ended = (words, end) => Buffer.concat([Buffer.alloc(40), ...words.flatMap(word => [word, Buffer.of(end)]), Buffer.alloc(40, 1)]);
+
+test('the byte that ends texts is found and reported, or given with --end, and no new text replaces it', () => inDirectory(async room => {
+    const words = ['96F2', '8C95', '8F8282C6', '82CD82B682DF82A982E7', '82A882ED82E8', '92CA82B7', '96BC914F', '90E791BA', '8CAE82CC', '93B9'].map(it => Buffer.from(`${it}82A2`, 'hex'));
+    write(room, { 'a.bin': ended([...words, START, END, ...words], 0xFE), 'b.bin': Buffer.alloc(99, 1) });
+    const listed = await run(['texts', '--file', 'a.bin'], { cwd: room });
+    const rows = listed.out.split('\n').slice(1, -1);
+    assert.equal(listed.errors, `cdscript: the texts of a.bin end with FE; --end selects a different byte\ncdscript: texts ${rows.length}\n`);
+    assert.ok(rows.length > 20);
+    assert.ok(rows.every(row => row.split('\t')[2] === row.split('\t')[3]));
+    const given = await run(['texts', '--file', 'a.bin', '--end', 'fe'], { cwd: room });
+    assert.deepEqual([given.out, given.errors], [listed.out, `cdscript: texts ${rows.length}\n`]);
+    assert.notEqual((await run(['texts', '--file', 'a.bin', '--end', '00'], { cwd: room })).out, listed.out);
+    write(room, { list: [HEAD, `${rows[0]}a`, ''].join('\n') });
+    await run(['replace', '--file', 'a.bin', '--list', 'list', '--end', 'FE', '--fill', 'end', 'out.bin'], { cwd: room });
+    const [at, size] = rows[0].split('\t').slice(1, 3).map(Number);
+    assert.equal(read(room, 'out.bin').subarray(at, at + size + 1).toString('hex'), `61${'fe'.repeat(size)}`);
+    const none = await run(['texts', '--file', 'b.bin'], { cwd: room });
+    assert.match(none.errors, /texts 0\ncdscript: no Japanese text was found: .*--encoding/);
+    const wrong = await run(['texts', '--file', 'a.bin', '--end', 'F'], { cwd: room });
+    assert.deepEqual([wrong.status, wrong.errors], [2, "cdscript: --end needs two hexadecimal digits, such as FF, not 'F'\n"]);
+}));
+
+test('an unknown encoding in a row is an error of that row, and a character that it lacks has advice', () => inDirectory(async room => {
+    write(room, { 'a.bin': fileOf(5000), list: `${HEAD}\n-\t100\t10\t10\tcp1259\t\tはじめから\tStart\n-\t4994\t6\t9\tCP932\t\tおわり\té\n` });
+    const { status, errors } = await run(['replace', '--file', 'a.bin', '--list', 'list', 'out.bin'], { cwd: room });
+    assert.equal(status, 2);
+    assert.match(errors, /^cdscript: row 2: unknown encoding 'cp1259'; known encodings: hex, CP932, .*Windows-1252/m);
+    assert.match(errors, /^cdscript: row 3: CP932 cannot encode .*\ncdscript: if the font .*table of characters \(--table\)/m);
+    write(room, { list: Buffer.from('msgid ""\nmsgstr ""\n"Content-Type: text/plain; charset=CP932\\n"\n\n#: -+100\nmsgid "\x82\xCD"\nmsgstr "a"\n', 'latin1') });
+    const po = await run(['replace', '--file', 'a.bin', '--list', 'list', 'out.bin'], { cwd: room });
+    assert.deepEqual([po.status, po.errors], [2, 'cdscript: the list is not in UTF-8 or UTF-16; msgconv -t UTF-8 converts it\n']);
 }));
 
 test('rows that do not fit a file are named, and left out only if that is asked for', () => inDirectory(async room => {

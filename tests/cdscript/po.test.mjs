@@ -154,5 +154,5 @@ test('a PO file of 100 MB is read in bounded memory', () => inDirectory(room => 
 test('characters that only new texts have are listed once, with their first rows', () => inDirectory(async room => {
     write(room, { list: entry('アイA', 'AZé', '. room 9 bytes, UTF-8', ': 28+0') + entry('アイ', 'éア', '. room 9 bytes, UTF-8', ': 29+0') });
     const { errors } = await run(['replace', '--check', 'list'], { cwd: room });
-    assert.equal(errors, 'cdscript: no old text has these characters, so the font of the game may lack them: Zé in line 3 (28+0)\n');
+    assert.equal(errors, 'cdscript: 2 characters are in no old text: Z é. Does the font of the game have them?\n');
 }));

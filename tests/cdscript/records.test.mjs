@@ -19,7 +19,7 @@ function tableOf(filler) {
 }
 
 /** The messages of a job without the one about new characters. */
-const messages = ({ errors }) => errors.replace(/^cdscript: no old text has .*\n/m, '');
+const messages = ({ errors }) => errors.replace(/^cdscript: \d+ characters? \w+ in no old text.*\n/m, '');
 
 const WORDS = ['--every', '24', '--length', '16', '--skip', '6'];
 

@@ -13,6 +13,7 @@ import { gzipSync } from 'node:zlib';
 // Must run before cdscript is loaded, which binds the calls.
 const faults = createRequire(import.meta.url)('./faulty.cjs');
 const { call, command, damaged, imageOf, inDirectory, read, run, sameFile, tool, write } = await import('./common.mjs');
+const { noise } = await import('./discs.mjs');
 
 const preload = fileURLToPath(new URL('./faulty.cjs', import.meta.url));
 const shaOf = bytes => createHash('sha1').update(bytes).digest('hex');
@@ -23,7 +24,7 @@ const datOf = files => `<?xml version="1.0"?>\n<datafile>${Object.entries(files)
     `<game name="G"><rom name="${name}" size="${bytes.length}" sha1="${shaOf(bytes)}"/></game>`).join('\n')}</datafile>\n`;
 
 /** The summary for a collection of `writeCollection`. */
-const COUNTED = 'cdscript: verified 20, known as bad 0, not in the DAT 20\n';
+const COUNTED = 'cdscript: games: whole 0, in part 1, missing 0\ncdscript: verified 20, known as bad 0, not in the DAT 20\n';
 
 /** The remark about a file that is not in a DAT. */
 const ONLY_SIZE = 'the DAT has a dump of this size, but none with this SHA-1: perhaps another dump of the disc repairs it';
@@ -32,12 +33,12 @@ const NOT_EVEN_SIZE = 'the DAT has no dump of this size: perhaps the file is cut
 /** A row as it is without a list of dumps. */
 const withoutDat = row => row.split('\t').map((cell, i) => i === 6 ? '-' : cell).join('\t');
 
-/** The columns of version 1.3.0. */
+/** The first seven columns. */
 const seven = row => row.split('\t').slice(0, 7).join('\t');
 
 /** A row with the later columns: bytes and time, and no hashes, which no DAT needs here. */
 function dated(room, row) {
-    const { size, mtime } = statSync(join(room, row.split('\t')[0]));
+    const { size, mtime } = statSync(join(room, row.split('\t')[0]), { bigint: true });
     return [row, size, mtime.toISOString(), '-', '-'].join('\t');
 }
 
@@ -102,7 +103,7 @@ test('each file that is looked at has a row, which names what info names and wha
     iso.write('CD001', 16 * 2048 + 1);
     const longer = Buffer.concat(Array.from({ length: 9 }, (_, i) => Buffer.concat([imageOf(room, 1, i), Buffer.alloc(96, 0x40)])));
     const others = { 'disc.iso': iso, 'game.zip': Buffer.from('PK\x03\x04 and more'), 'nothing.bin': Buffer.alloc(0), 'sub.bin': longer, 'notes.txt': Buffer.from('notes') };
-    const images = { 'audio only.bin': Buffer.alloc(2352 * 30, 7), 'ps.bin': mode2Of(room, 40) };
+    const images = { 'audio only.bin': noise(2352 * 30, 7), 'ps.bin': mode2Of(room, 40) };
     mkdirSync(join(room, 'set'));
     write(join(room, 'set'), { ...others, ...images });
     write(room, { 'all.dat': datOf({ 'Audio (Japan).bin': images['audio only.bin'], 'Disc.iso': iso, 'PS.bin': images['ps.bin'] }) });
@@ -123,7 +124,7 @@ test('each file that is looked at has a row, which names what info names and wha
     const words = ['scan', 'set/disc.iso', 'set/audio only.bin', '--dat', 'all.dat', '--resume', 'set/list'];
     for (let i = 0; i < 2; i++) {
         const { status, errors } = await run(words, { cwd: room });
-        assert.deepEqual([status, errors], [2, 'cdscript: set/disc.iso is an ISO image, 2048 bytes a sector\ncdscript: verified 2, known as bad 0, not in the DAT 0\n']);
+        assert.deepEqual([status, errors], [2, 'cdscript: set/disc.iso is an ISO image, 2048 bytes a sector\ncdscript: games: whole 0, in part 1, missing 0\ncdscript: verified 2, known as bad 0, not in the DAT 0\n']);
     }
     // The list is not a part of the collection that contains it.
     const all = await run(['scan', 'set', '--dat', 'all.dat', '--resume', 'set/list'], { cwd: room });
@@ -138,8 +139,8 @@ test('a column of what was not tested has no number', () => inDirectory(async ro
         'hole.cue': sheet('hole.bin'), 'a.bin': Buffer.concat([imageOf(room, 20), mode2Of(room, 9)]) });
     const { status, out } = await run(['scan', 'ps.bin', 'data.cue', 'hole.cue', 'a.bin'], { cwd: room });
     const rows = out.split('\n').filter(Boolean).map(row => row.split('\t').slice(0, 5).join(' ')).sort();
-    assert.deepEqual([status, rows], [1, ['a.bin mode2 9,mode1 20 0 9 9', 'data.iso mode1/2048 - - -', 'hole.bin mode2 1,nosync 7 - 8 0',
-        'ps.bin mode2 20,tail 5 - 1 0', 'sound.wav audio - - -']]);
+    assert.deepEqual([status, rows], [1, ['a.bin mode2 9,mode1 20 0 10 9', 'data.iso mode1/2048 - 1 -', 'hole.bin mode2 1,nosync 7 - 8 0',
+        'ps.bin mode2 20,tail 5 - 2 0', 'sound.wav audio - - -']]);
 }));
 
 test('a list that goes on with a DAT says of each line what that knows', () => inDirectory(async room => {
@@ -207,14 +208,14 @@ test('a list goes on where it was interrupted, and tells nothing twice', () => i
     write(room, { list: `${rows[30]}\n${rows[3]}\n${rows[7].slice(0, 20)}` });
     const { status, out } = await run(['scan', 'one', 'two', '--resume', 'list'], { cwd: room });
     assert.deepEqual([status, out], [1, '']);
-    const lines = read(room, 'list').toString().split('\n').filter(Boolean);
-    assert.deepEqual([lines.slice(0, 2), [...lines].sort()], [[rows[30], rows[3]], rows]);
+    const lines = () => read(room, 'list').toString().split('\n').filter(Boolean);
+    assert.deepEqual(lines(), rows);
     const again = await run(['scan', 'one', 'two', '--resume', 'list'], { cwd: room });
-    assert.deepEqual([again.status, read(room, 'list').toString().split('\n').filter(Boolean).sort()], [1, rows]);
+    assert.deepEqual([again.status, lines()], [1, rows]);
 }));
 
 test('an image that is cut is marked, and the last column says whether there was a list of dumps', () => inDirectory(async room => {
-    const [image, track] = [imageOf(room, 20), Buffer.alloc(2352 * 4 + 7, 3)];
+    const [image, track] = [imageOf(room, 20), noise(2352 * 4 + 7, 3)];
     write(room, { 'a.bin': image, 'cut.bin': image.subarray(0, -1000), 'hurt.bin': damaged(image.subarray(0, -1), 0, [3, 100]), 'track.bin': track,
         'disc.cue': 'FILE "track.bin" BINARY\n TRACK 01 AUDIO\n INDEX 01 00:00:00\n', 'a.dat': datOf({ 'A.bin': image }) });
     const names = ['a.bin', 'cut.bin', 'hurt.bin', 'disc.cue'];
@@ -227,10 +228,10 @@ test('an image that is cut is marked, and the last column says whether there was
     assert.deepEqual(await columns([]), [1, kinds.map(row => [...row, '-'])]);
     const known = ['verified A.bin', 'not in the DAT', 'not in the DAT', 'not in the DAT'];
     assert.deepEqual(await columns(['--dat', 'a.dat']), [1, kinds.map((row, i) => [...row, known[i]])]);
-    // An earlier version wrote `-` for files not in the list of dumps, 0 for tests not made, and no tails. Its rows are replaced; the row
-    // of a deleted file stays.
-    const [earlier] = (await run(['scan', 'cut.bin'], { cwd: room })).out.split('\n');
-    write(room, { list: `${seven(earlier).replace(',tail 1352\t0\t1', '\t0\t0')}\ngone.bin\taudio\t0\t0\t0\t${shaOf(track)}\t-\n` });
+    // The row of a file that has changed is replaced; the row of a deleted file stays.
+    const [row] = (await run(['scan', 'cut.bin'], { cwd: room })).out.split('\n');
+    const longer = row.replace(',tail 1352\t0\t1', '\t0\t0').replace(`\t${image.length - 1000}\t`, `\t${image.length}\t`);
+    write(room, { list: `${longer}\ngone.bin\taudio\t-\t1\t-\t${shaOf(track)}\t-\t${track.length}\t-\t-\t-\n` });
     const mended = await run(['scan', 'a.bin', 'cut.bin', '--dat', 'a.dat', '--resume', 'list'], { cwd: room });
     assert.deepEqual([mended.status, mended.errors.split('\n')[0]], [1, 'cdscript: list: 1 file no longer exists, but its line is kept']);
     assert.deepEqual(read(room, 'list').toString().split('\n').map(row => row.split('\t').slice(0, 7)).map(row => `${row[0]} ${row[1]} ${row[6]}`).sort(),
@@ -244,7 +245,7 @@ test('a file that is no list is not gone on with, and stays as it is', () => inD
     write(room, { 'a.bin': image, 'b.bin': damaged(image, 0, [3, 100]) });
     const row = dated(room, `a.bin\tmode1 20\t0\t0\t0\t${shaOf(image)}\t-`);
     const others = { 'x.bin': damaged(image, 0, [2, 9]), note: 'no list, and no end of a line', 'k.dat': datOf({ 'a.bin': image }), lines: `${row}\nmine\n`,
-        columns: `${row}\n${row}\tmore\n`, half: row, some: `${seven(row)}\t5\n` };
+        columns: `${row}\n${row}\tmore\n`, half: row, some: `${seven(row)}\t5\n`, few: `${seven(row)}\n` };
     write(room, others);
     for (const [name, bytes] of Object.entries(others)) {
         const { status, errors } = await run(['scan', '--resume', name, 'a.bin', 'b.bin'], { cwd: room });
@@ -390,33 +391,18 @@ test('a list goes on with files that were replaced, and names how many are gone'
     assert.deepEqual(linesOf(room, 'list'), after);
 }));
 
-test('a line of an earlier version is made anew', () => inDirectory(async room => {
-    write(room, { 'a.bin': imageOf(room, 20), list: `a.bin\tmode1 20\t7\t7\t0\t${'0'.repeat(40)}\tverified A.bin\n` });
-    const { status } = await run(['scan', 'a.bin', '--resume', 'list'], { cwd: room });
-    const due = dated(room, `a.bin\tmode1 20\t0\t0\t0\t${shaOf(read(room, 'a.bin'))}\t-`);
-    assert.deepEqual([status, read(room, 'list').toString()], [0, `${due}\n`]);
-}));
-
-test('two runs on one list double none of its lines', () => inDirectory(async room => {
-    const rows = writeCollection(room).map(withoutDat);
-    const started = () => {
-        const child = spawn(process.execPath, ['-r', preload, command, 'scan', 'one', 'two', '--resume', 'list'],
-            { cwd: room, env: { ...process.env, SLOW: '20' }, stdio: ['ignore', 'ignore', 'pipe'] });
-        let errors = '';
-        child.stderr.on('data', text => { errors += text; });
-        return new Promise(resolve => child.on('close', status => resolve({ status, errors })));
-    };
-    const [one, other] = (await Promise.all([started(), started()])).sort((a, b) => a.status - b.status);
-    assert.deepEqual([one.status, other.status], [1, 2]);
-    assert.match(other.errors, /^cdscript: another run \(process \d+\) is writing to list: wait for it, or remove .*list\.lock if it has ended\n$/);
-    assert.deepEqual(read(room, 'list').toString().split('\n').filter(Boolean).sort(), rows);
-    assert.equal(existsSync(join(room, 'list.lock')), false);
-    // A killed run has left a lock.
-    write(room, { 'list.lock': `${spawnSync('true').pid}\n` });
-    assert.equal((await run(['scan', 'one', '--resume', 'list'], { cwd: room })).status, 1);
+test('a list that is no regular file is refused, and what is beside the list does not matter', () => inDirectory(async room => {
+    write(room, { 'a.bin': imageOf(room, 20), list: '' });
+    tool('mkfifo', ['pipe'], { cwd: room });
+    symlinkSync('/dev/zero', join(room, 'endless'));
+    for (const name of ['pipe', 'endless']) {
+        const { status, stderr } = spawnSync(process.execPath, [command, 'scan', '--resume', name, 'a.bin'], { cwd: room, encoding: 'utf8', timeout: 30000 });
+        assert.deepEqual([status, stderr], [2, `cdscript: cannot open ${name}: it is not a regular file\n`]);
+    }
     write(room, { 'list.lock': `${process.ppid}\n` });
-    const held = await run(['scan', '.', '--resume', 'list'], { cwd: room });
-    assert.deepEqual([held.status, existsSync(join(room, 'list.lock')), read(room, 'list').toString().includes('lock')], [2, true, false]);
+    const there = readdirSync(room);
+    assert.equal((await run(['scan', 'a.bin', '--resume', 'list'], { cwd: room })).status, 0);
+    assert.deepEqual(readdirSync(room), there);
 }));
 
 /** A row of a DAT without a SHA-1. */
@@ -439,7 +425,7 @@ test('a DAT without SHA-1 is looked up by CRC32 and MD5, also for a list that la
     const { status, errors } = await run(['scan', ...names, '--resume', 'list', '--dat', 'a.dat'], { cwd: room });
     const said = [...linesOf(room, 'list').values()].sort().map(line => line.split('\t')).map(row => [row[6], row[9], row[10].length]);
     assert.deepEqual(said, [['verified A.bin', crc32Of(image), 32], ['verified B.bin', crc32Of(files['b.bin']), 32], ['not in the DAT', crc32Of(files['c.bin']), 32]]);
-    assert.deepEqual([status, errors], [1, 'cdscript: 1 entry of the DAT has no size or no hash, and cannot match a file\ncdscript: verified 2, known as bad 0, not in the DAT 1\n']);
+    assert.deepEqual([status, errors], [1, 'cdscript: 1 entry of the DAT has no size or no hash, and cannot match a file\ncdscript: games: whole 1, in part 0, missing 0\ncdscript: verified 2, known as bad 0, not in the DAT 1\n']);
     const info = await run(['info', 'a.bin', '--dat', 'a.dat'], { cwd: room });
     assert.match(info.out, /\nverified A\.bin\n/);
     // Only one of the two hashes, and a CRC-32 that begins with 0.
@@ -479,7 +465,7 @@ test('the status and the last line say what a DAT knows', () => inDirectory(asyn
     assert.deepEqual(await info('a.bin', '--dat', 'two.dat'), [0, 'verified a.bin, and 1 other', counts(1, 0, 0)]);
     assert.deepEqual(await info('a.bin', '--dat', 'none.dat'), [1, NOT_EVEN_SIZE, counts(0, 0, 1)]);
     assert.deepEqual(await info('a.bin', '--dat', 'bad.dat'), [1, 'known as a bad dump: Bad.bin', counts(0, 1, 0)]);
-    assert.deepEqual(await info('g.iso', '--dat', 'two.dat'), [1, 'verified I.iso', counts(1, 0, 0)]);
+    assert.deepEqual(await info('g.iso', '--dat', 'two.dat'), [0, 'verified I.iso', counts(1, 0, 0)]);
     for (const [dat, due] of [['bad.dat', 1], ['none.dat', 0], ['two.dat', 0]]) {
         assert.equal((await run(['merge', 'b.bin', 'a.bin', `out ${dat}`, '--dat', dat], { cwd: room })).status, due, dat);
     }

@@ -14,5 +14,7 @@ await inDirectory(room => serve(async ({ call, base, carry }, [image, script]) =
     const options = ['--base', String(base), ...carry ? ['--carry'] : []];
     const names = { check: [scriptName], apply: [scriptName, outName] }[call] ?? [];
     const { status, bytes, errors } = await called(room, [call, ...options, imageName, ...names]);
-    return { status, text: Buffer.concat([bytes, Buffer.from(errors)]), out: read(room, 'out') };
+    // The program does not say this.
+    const others = errors.replace(/^cdscript: no sector of .* is Mode 1, .*\n/, '');
+    return { status, text: Buffer.concat([bytes, Buffer.from(others)]), out: read(room, 'out') };
 }));

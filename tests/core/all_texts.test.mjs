@@ -3,7 +3,7 @@
 import assert from 'node:assert/strict';
 import { test } from 'node:test';
 import { core, diceOf, readerOf } from './common.mjs';
-import { localCrew } from './crews.mjs';
+import { localPool } from './pools.mjs';
 import { rawOf } from './discs.mjs';
 
 const { allTexts, stretchesOf } = await core('texts/all_texts.js');
@@ -35,7 +35,7 @@ test('a track is looked at file by file, and what lies between files by itself',
 test('a row says where a text is and how much room it has, and the progress ends with all sectors', async () => {
     const [track, told, texts] = [someTrack(), [], []];
     const how = { options: {}, progress: (done, all) => { told.push([done, all]); } };
-    for await (const some of allTexts(localCrew(), track, stretchesOf(track, FILES), how)) texts.push(...some);
+    for await (const some of allTexts(localPool(), track, stretchesOf(track, FILES), how)) texts.push(...some);
     // A text ends with a 00. The bytes after it, up to the end of its file or of the gap between files, are its room.
     assert.deepEqual(texts, [
         { block: 51, offset: 100, bytes: 10, room: 3000 - 100 - 1, encoding: 'CP932', file: '/a+100', text: 'はじめから' },
@@ -76,7 +76,7 @@ async function rowsIn(bytes, name, lines = false) {
     const asked = { encoding: JAPANESE.includes(name) ? undefined : name, lines };
     const out = [];
     const file = [{ path: '/a', before: 0, first: 0, size: bytes.length }];
-    for await (const some of allTexts(localCrew(), track, file, { options: asked, least: lines ? undefined : 1 })) out.push(...some);
+    for await (const some of allTexts(localPool(), track, file, { options: asked, least: lines ? undefined : 1 })) out.push(...some);
     return out.map(({ bytes: size, room, file: place, text }) => {
         const start = Number(place.split('+').pop());
         return { start, end: start + size, room, text };
@@ -118,7 +118,9 @@ test('each line of a file of text is a row, without its line end', async () => {
     for (const name of TOLD) for (const lineEnd of ['\n', '\r\n']) {
         const { bytes, places } = linesIn(name, 9000, lineEnd);
         const rows = await rowsIn(bytes, name, true);
-        assert.deepEqual(rows.map(({ start, end }) => [start, end]), places, `${name} ${JSON.stringify(lineEnd)}`);
+        // Without a named encoding, lines in ASCII are left out.
+        const isRow = ([start, end]) => !JAPANESE.includes(name) || /[\u0080-\uFFFF]/.test(encodingOf(name).text(bytes.subarray(start, end)));
+        assert.deepEqual(rows.map(({ start, end }) => [start, end]), places.filter(isRow), `${name} ${JSON.stringify(lineEnd)}`);
         assert.ok(rows.every(({ start, end, room }) => room === end - start), name);
     }
 });
@@ -140,7 +142,7 @@ test('neither a text nor its room goes on into the numbers of a table', async ()
 
 test('without a table the room of a text is what one filling after it has', async () => {
     const text = Buffer.from(encodeText(encodingOf('CP932'), '城の地下に宝があるらしい。'));
-    for (const [filling, room] of [[[0], 5], [[0x20], 6], [[0xFF], 6], [[0x81, 0x40], 6], [[0x07], 0]]) {
+    for (const [filling, room] of [[[0], 5], [[0x20], 6], [[0xFF], 0], [[0x81, 0x40], 6], [[0x07], 0]]) {
         const bytes = Buffer.concat([Buffer.from([0xFF, 0]), text, Buffer.alloc(6, Buffer.from(filling)), Buffer.from([0x80, 0x01])]);
         const [row, ...others] = await rowsIn(bytes, 'CP932');
         assert.deepEqual([row.start, row.end, row.room, others.length], [2, 2 + text.length, text.length + room, 0], `${filling}`);

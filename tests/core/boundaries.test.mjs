@@ -2,10 +2,10 @@
 
 import assert from 'node:assert/strict';
 import { test } from 'node:test';
-import { ENCODINGS_KNOWN, core, diceOf } from './common.mjs';
+import { ENCODINGS_KNOWN, core, diceOf, tableOf } from './common.mjs';
 
 const { LOOKED_BACK, bytesInside, charactersFrom } = await core('texts/boundaries.js');
-const { encodingOf, tableOf } = await core('encodings/encodings.js');
+const { encodingOf } = await core('encodings/encodings.js');
 const { encodeText } = await core('encodings/encoding.js');
 
 /** Sample characters of each encoding that has characters. */

@@ -6,7 +6,7 @@ export const withAllCalls = (Calls, sized) => class extends Calls {
     report(name, image, base) {
         const room = 100 + 40 * Math.floor(image.length / 2352);
         const [at, text] = this.put(image, room);
-        const status = Number(this.exports[name](at, BigInt(image.length), base, text, BigInt(room), this.places.answer));
+        const status = Number(this.exports[name](at, BigInt(image.length), base, text, BigInt(room), this.answer));
         return { status, text: this.copied(text, this.view.getUint32(this.answer, true)) };
     }
 
@@ -32,7 +32,7 @@ export const withAllCalls = (Calls, sized) => class extends Calls {
     }
 
     findDefect(sector) {
-        this.exports.cdpatch_find_defect(this.put(sized(sector, 2352))[0], this.places.answer);
+        this.exports.cdpatch_find_defect(this.put(sized(sector, 2352))[0], this.answer);
         const [zeros, edc, p, q] = this.copied(this.answer, 4);
         return { zeros: Boolean(zeros), edc: Boolean(edc), p, q };
     }
@@ -69,8 +69,8 @@ export const withAllCalls = (Calls, sized) => class extends Calls {
 
     /** Applies the patch of the last line that was read to held sectors, from a byte on. Returns the result with its place. */
     applyPatch(from, count, carry) {
-        const at = BigInt(this.arena + this.within(from + count * 2352) - count * 2352);
-        const { patch, fresh, old, answer } = this.places;
+        const at = this.arena + this.within(from + count * 2352) - count * 2352;
+        const { patch, fresh, old, answer } = this;
         const result = this.exports.cdpatch_apply_patch(patch, fresh, old, at, BigInt(count), Number(carry), answer);
         return { result, block: this.view.getUint32(this.answer, true), offset: this.view.getUint16(this.answer + 4, true) };
     }

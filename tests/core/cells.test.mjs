@@ -2,24 +2,18 @@
 
 import assert from 'node:assert/strict';
 import { test } from 'node:test';
-import { calls, core, readerOf } from './common.mjs';
+import { calls, core, readerOf, tableOf } from './common.mjs';
+import { listedRows, replacedRows } from './lists.mjs';
 
 const { MARKS, Table, rowText } = await core('texts/cells.js');
 const { assertMeant, cellOf, codesLeftOut, controlsTyped, shownCell, unitsOfCell } = await core('texts/codes.js');
-const { fillingAfter } = await core('encodings/encoding.js');
-const { encodingOf, tableOf, textOfFile } = await core('encodings/encodings.js');
-const { replaceList } = await core('tasks/list.js');
-const { listRows } = await core('tasks/list_rows.js');
+const { fillingAfter, withEnd } = await core('encodings/encoding.js');
+const { encodingOf, textOfFile } = await core('encodings/encodings.js');
 const { longTextOf } = await core('texts/long_file.js');
 
 const rowsOf = (text, mark = MARKS.find(it => text.includes(it)) ?? '\t') => [...new Table(text, mark).rows()];
 const cells = (text, mark) => rowsOf(text, mark).map(row => row.cells);
 const numbered = text => rowsOf(text).flatMap(row => row.cells.length === 0 ? [] : [[row.number, ...row.cells]]);
-const listed = async (list, ...more) => {
-    const rows = [];
-    for await (const row of listRows(list, ...more)) rows.push(row);
-    return rows;
-};
 const hex = bytes => Buffer.from(bytes).toString('hex').toUpperCase();
 const bytesOf = (name, cell) => unitsOfCell(encodingOf(name), cell).map(([usual]) => hex(usual)).join('');
 
@@ -40,7 +34,7 @@ test('a cell in quotes may have line ends, what stands between cells, and quotes
 test('between tabs, quotes that are not needed are kept, unless the cells of the first row are all in quotes', async () => {
     assert.deepEqual(cells('a\tb\n"A herb!"\t"x ""y"" z"\n""\t"1\n2"\n'), [['a', 'b'], ['"A herb!"', 'x "y" z'], ['""', '1\n2']]);
     const plain = 'block\toffset\ttext\tnew\n1\t2\tx\t"A herb!"\n';
-    const texts = async list => (await listed(list)).map(({ text, fresh }) => [text, fresh]);
+    const texts = async list => (await listedRows(list)).map(({ text, fresh }) => [text, fresh]);
     assert.deepEqual(await texts(plain), [['x', '"A herb!"']]);
     assert.deepEqual(await texts('"block"\t"offset"\t"text"\t"new"\n"1"\t"2"\t"x"\t"A herb!"\n'), [['x', 'A herb!']]);
     assert.deepEqual(await texts('"block"\toffset\ttext\tnew\n1\t2\tx\t"A herb!"\n'), [['x', '"A herb!"']]);
@@ -52,11 +46,11 @@ const runsOn = row => ({ code: 'list/cell-runs-on', facts: { row } });
 
 test('a cell in quotes between tabs that runs on to a row with a place names both rows', async () => {
     const list = 'block\toffset\ttext\tnew\n1\t0\told\t"Halt!\n1\t75\tother\tGo."\n2\t0\tx\t"two\nlines"\n3\t0\ty\t"\n\n3\t9\tz\t."\n';
-    const rows = (await listed(list)).map(({ number, fresh, fault }) => [number, fresh, fault]);
+    const rows = (await listedRows(list)).map(({ number, fresh, fault }) => [number, fresh, fault]);
     assert.deepEqual(rows, [[2, '"Halt!', runsOn(3)], [3, 'Go."', null], [4, 'two\nlines', null],
         [5, '"', runsOn(7)], [7, '."', null]]);
     const other = 'text\tblock\toffset\tnew\n"x\na\t1\t2\tq"\n';
-    assert.deepEqual((await listed(other)).map(({ fault }) => fault), [runsOn(3), null]);
+    assert.deepEqual((await listedRows(other)).map(({ fault }) => fault), [runsOn(3), null]);
 });
 
 test('a carriage return within a row is part of its cell, and ends rows only of a table without other line ends', () => {
@@ -108,24 +102,24 @@ test('codes in a cell are their bytes, and a cell is read as the bytes from whic
 
 test('a list has the rows with a new text, by the names of its columns', async () => {
     const list = 'New,Offset,block,text,note\nx,5,1,old,\n,6,1,other,\ny,+7,1,"a,b",z\n';
-    const rows = await listed(list);
+    const rows = await listedRows(list);
     const shared = { list: '', unit: 'row', place: '', block: 1, room: -1, encoding: '', fill: '', fault: null, isFuzzy: false, isInFile: false };
     assert.deepEqual(rows, [{ ...shared, number: 2, offset: 5, text: 'old', fresh: 'x' }, { ...shared, number: 4, offset: -1, text: 'a,b', fresh: 'y' }]);
-    const more = await listed(list, ({ offset }) => offset === 6);
+    const more = await listedRows(list, ({ offset }) => offset === 6);
     assert.deepEqual(more.map(({ number, fresh }) => [number, fresh]), [[2, 'x'], [3, ''], [4, 'y']]);
-    assert.deepEqual(await listed(list, () => false), rows);
-    await assert.rejects(listed('1\t2\told\tnew\n'), { code: 'list/no-column', facts: { row: 1, columns: ['block', 'offset', 'text'] } });
-    await assert.rejects(listed('block,text,new,offset,New\n1,x,y,0,z\n'), { code: 'list/column-twice', facts: { row: 1, column: 'new' } });
+    assert.deepEqual(await listedRows(list, () => false), rows);
+    await assert.rejects(listedRows('1\t2\told\tnew\n'), { code: 'list/no-column', facts: { row: 1, columns: ['block', 'offset', 'text'] } });
+    await assert.rejects(listedRows('block,text,new,offset,New\n1,x,y,0,z\n'), { code: 'list/column-twice', facts: { row: 1, column: 'new' } });
 });
 
 test('rows before the one that names the columns are passed over, and tell nothing of what stands between cells', async () => {
     const rows = 'block;offset;text;new\n1;2;x, y;z\n';
     for (const before of [';;;\n', '"The second part, by us";;;\n', 'sep=;\n', '\n\nTitle\tand more\n;;;\n', `${'A title\n'.repeat(19)}`]) {
-        const [{ number, text, fresh }] = await listed(before + rows);
+        const [{ number, text, fresh }] = await listedRows(before + rows);
         assert.deepEqual([number, text, fresh], [before.split('\n').length + 1, 'x, y', 'z']);
     }
-    await assert.rejects(listed('A title\n'.repeat(20) + rows), { facts: { row: 1, columns: ['block', 'offset', 'text', 'new'] } });
-    await assert.rejects(listed(`A title\nblock;offset;text;Neu\n`), { code: 'list/no-column', facts: { row: 2, columns: ['new'] } });
+    await assert.rejects(listedRows('A title\n'.repeat(20) + rows), { facts: { row: 1, columns: ['block', 'offset', 'text', 'new'] } });
+    await assert.rejects(listedRows(`A title\nblock;offset;text;Neu\n`), { code: 'list/no-column', facts: { row: 2, columns: ['new'] } });
 });
 
 test('of rows in one block that can not be patched each is left by its own number, and the others are replaced', async () => {
@@ -134,7 +128,7 @@ test('of rows in one block that can not be patched each is left by its own numbe
     const image = { name: 'image', base: 0, sectors: 3, reader: readerOf(sectors) };
     const rows = [[2, 0, 4], [3, 1, 4], [4, 1, 90], [7, 2, 4], [8, 2, 2047]].map(([number, block, offset]) =>
         ({ list: '', unit: 'row', number, place: '', block, offset, room: -1, encoding: '', text: 'A', fresh: 'B', fault: null }));
-    const made = list => replaceList(calls, image, list, () => [encodingOf('CP932')], null);
+    const made = list => replacedRows(image, list, [encodingOf('CP932')]);
     const damaged = { code: 'replace/damaged', facts: { block: 1 } };
     const { parts, left } = await made(rows);
     assert.deepEqual([parts.patches, left], [3, [{ text: rows[1], why: damaged }, { text: rows[2], why: damaged }]]);
@@ -147,13 +141,18 @@ test('of rows in one block that can not be patched each is left by its own numbe
 });
 
 test('what fills up the room of a text is one byte over and over, in whole spaces, but for the 00 that ends the text', () => {
-    const rows = [['CP932', '41000042', 1], ['CP932', '412020200042', 3], ['CP932', '41FFFF20', 2], ['CP932', '414242', 0],
+    const rows = [['CP932', '41000042', 1], ['CP932', '412020200042', 3], ['CP932', '41FFFF20', 0], ['CP932', '414242', 0], ['CP932', '412042', 0], ['CP932', '412000', 1],
         ['CP932', '41', 0], ['CP932', '4181408140', 4], ['UTF-16LE', '41000000000041', 2], ['UTF-16LE', '4100000000000000FF', 4],
-        ['UTF-16LE', '4100FFFFFF20', 2]];
+        ['UTF-16LE', '4100FFFFFF20', 0]];
     for (const [name, digits, due] of rows) {
         assert.equal(fillingAfter(encodingOf(name), Buffer.from(digits, 'hex'), name === 'CP932' ? 1 : 2), due, `${name} ${digits}`);
     }
     assert.equal(fillingAfter(encodingOf('CP932'), new Uint8Array(9), 1, 5), 3);
+    // FF is filling in a field, or if texts end with a different byte; the last byte that ends them never is.
+    for (const [end, digits, isField, due] of [[0, '41FFFF20', true, 2], [0xFF, '41FFFF20', true, 1], [3, '41FFFF03', false, 2], [0xFF, '41FFFF20', false, 1],
+        [0xFF, '41FF', false, 0], [3, '4103030342', false, 0], [3, '412003', false, 1], [3, '410000', false, 1]]) {
+        assert.equal(fillingAfter(withEnd(encodingOf('CP932'), end), Buffer.from(digits, 'hex'), 1, undefined, isField), due, `${end} ${digits} ${isField}`);
+    }
 });
 
 test('what a spreadsheet would run stands as a code at the beginning of a cell, and comes back', () => {
@@ -172,7 +171,7 @@ test('the error of a formula and a mistyped code are nothing that somebody meant
         assert.throws(() => assertMeant(cp932, cell), { code: 'list/formula', facts: { cell } });
     }
     const why = code => ({ code: 'list/no-code', facts: { code } });
-    for (const code of ['{zz}', '{O1}', '{0}', '{0D0}']) assert.throws(() => assertMeant(cp932, `a${code}b{0A}`), why(code));
+    for (const code of ['{zz}', '{O1}', '{0}', '{0D0}', '{00 00}', '{0D 0A 1}']) assert.throws(() => assertMeant(cp932, `a${code}b{0A}`), why(code));
     for (const cell of ['Err:509 ', '# NAME?', '#WOW!', '{0D0a}', '{あ}', '{}', '{7B}zz}', '{ a}']) assertMeant(cp932, cell);
     const table = tableOf(new TextEncoder().encode('F0={NAME}\n41=A\n'));
     assertMeant(table, 'A{NAME}');
@@ -191,16 +190,16 @@ test('codes that new texts leave out are told by number, each once, with the fir
     assert.deepEqual(await left([[`${'{00}'.repeat(20000)}`, 'a']]), []);
 });
 
-test('control characters that were typed are told with their first row, unless an old text has their code', async () => {
-    const typed = async (rows, encoding = encodingOf('CP932')) => (await controlsTyped(rows.map(([text, fresh], i) => ({ number: i + 2, encoding: '', text, fresh })),
-        () => [encoding])).map(({ character, row }) => [character, row.number]);
-    assert.deepEqual(await typed([['a', 'b'], ['a', 'b\nc\n'], ['a', '\td\n'], ['a', '{0B}\n']]), [['{0A}', 3], ['{09}', 4]]);
+test('control characters that were typed are told once, unless an old text has their code', async () => {
+    const typed = (rows, encoding = encodingOf('CP932')) => controlsTyped(rows.map(([text, fresh], i) => ({ number: i + 2, encoding: '', text, fresh })),
+        () => [encoding]);
+    assert.deepEqual(await typed([['a', 'b'], ['a', 'b\nc\n'], ['a', '\td\n'], ['a', '{0B}\n']]), ['{0A}', '{09}']);
     assert.deepEqual(await typed([['a', 'b\nc'], ['a{0D0A}', 'a']]), []);
     assert.deepEqual(await typed([['a', 'b\nc'], ['\n', 'a']]), []);
-    assert.deepEqual(await typed([['a{0000}', 'b\n']], encodingOf('UTF-16LE')), [['{0A00}', 2]]);
+    assert.deepEqual(await typed([['a{0000}', 'b\n']], encodingOf('UTF-16LE')), ['{0A00}']);
     const table = tableOf(new TextEncoder().encode('*FE\n41=A\n'));
     assert.deepEqual(await typed([['A{FE}', 'A\nA']], table), []);
-    assert.deepEqual(await typed([['A', 'A\nA']], table), [['{FE}', 2]]);
+    assert.deepEqual(await typed([['A', 'A\nA']], table), ['{FE}']);
 });
 
 test('a long file is read in parts as if it were read at once, and only in Unicode', async () => {

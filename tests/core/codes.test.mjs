@@ -88,7 +88,8 @@ test('the lines of list and of audit', () => {
 test('addresses and their blocks', () => {
     for (const block of [0, 1, 74, 75, 4349, 4350, 150000, 449848, 449849]) assert.equal(blockAt(calls, calls.address(block)), block);
     for (const block of [-1, 449850, 2 ** 32, 2 ** 32 + 5]) assert.equal(calls.address(block), null);
-    for (const address of [[0, 1, 0x74], [0, 0x60, 0], [0, 2, 0x75], [0, 2, 0x0A], [0xA0, 2, 0]]) {
+    for (const [address, block] of [[[0, 1, 0x74], -1], [[0, 0, 0], -150]]) assert.equal(blockAt(calls, Uint8Array.from(address)), block);
+    for (const address of [[0, 0x60, 0], [0, 2, 0x75], [0, 2, 0x0A], [0xA0, 2, 0]]) {
         assert.equal(blockAt(calls, Uint8Array.from(address)), null);
     }
 });

@@ -32,6 +32,11 @@ export const ENCODINGS_KNOWN = JSON.parse(readFileSync(join(top, 'tests/encoding
 export const newCalls = () => new Calls(module);
 export const calls = newCalls();
 
+const { tableEncoding, tableTextOf } = await core('encodings/index.js');
+
+/** The encoding of a `.tbl` file with these bytes. */
+export const tableOf = bytes => tableEncoding(tableTextOf(bytes));
+
 /** @param {string} text */
 export const encoded = text => new TextEncoder().encode(text);
 

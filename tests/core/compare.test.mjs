@@ -3,7 +3,7 @@
 import assert from 'node:assert/strict';
 import { test } from 'node:test';
 import { calls, core, diceOf, readerOf, sameBytes, someImage } from './common.mjs';
-import { localCrew, withThreads } from './crews.mjs';
+import { localPool, withThreads } from './pools.mjs';
 import { CHANGES, RAW, blocksOf, changedImage, countOf, patchedBy, sectorAt, sound, soundImage, textOf, trackOf } from './pairs.mjs';
 
 const { SECOND_STATE, compareTrack, diffRange, differRange, findDifferences } = await core('tasks/compare.js');
@@ -13,8 +13,8 @@ const { MOST_SCRIPT_BYTES, RESULT, STATUS, STEP } = await core('module/records.j
 const BASE = 33;
 const SAID = ['bytes', 'run', 'whole', 'address', 'both', 'sound'];
 
-const compared = (old, fresh, { step, ...options } = {}, crew = localCrew()) =>
-    compareTrack({ calls, crew }, trackOf(old, BASE), readerOf(fresh), options, step && { step });
+const compared = (old, fresh, { step, ...options } = {}, pool = localPool()) =>
+    compareTrack({ calls, pool }, trackOf(old, BASE), readerOf(fresh), options, step && { step });
 /** The lines before the patches in a script for this base. */
 const head = version => `cdpatch ${version}\n# base ${BASE}\n`;
 
@@ -155,8 +155,8 @@ test('ranges of 1 to 4096 sectors agree, and threads agree with one process', as
     const due = await compared(old, fresh, { skipDamaged: true, step: 300 });
     const joined = ({ script, ...rest }) => ({ ...rest, ...script, pieces: script && textOf(script) });
     for (const step of [1, 2, 7, 128, 299, 4096]) assert.deepEqual(joined(await compared(old, fresh, { skipDamaged: true, step })), joined(due));
-    await withThreads(3, async crew => {
-        for (const step of [1, 50, 4096]) assert.deepEqual(joined(await compared(old, fresh, { skipDamaged: true, step }, crew)), joined(due));
+    await withThreads(3, async pool => {
+        for (const step of [1, 50, 4096]) assert.deepEqual(joined(await compared(old, fresh, { skipDamaged: true, step }, pool)), joined(due));
     });
 });
 
@@ -224,16 +224,16 @@ test('the bytes that differ are counted by their fields', () => {
 
 test('of the sectors that differ it is said in how many only the codes do, and whether the tails do', async () => {
     const dice = diceOf(15);
-    const [old, crew] = [soundImage(dice, 40, BASE, 9), localCrew()];
+    const [old, pool] = [soundImage(dice, 40, BASE, 9), localPool()];
     const fresh = old.slice();
     const [codes, others] = [[3, 8, 30], [4, 9, 31, 39]];
     for (const i of codes) fresh[RAW * i + 2064 + dice(288)] ^= 1;
     for (const [k, i] of others.entries()) fresh[RAW * i + [0, 12, 16, 2063][k]] ^= 1;
     const blocks = [];
-    const found = await findDifferences({ crew }, trackOf(old, BASE), readerOf(fresh), differing => { blocks.push(...differing.blocks); }, { step: 7 });
+    const found = await findDifferences({ pool }, trackOf(old, BASE), readerOf(fresh), differing => { blocks.push(...differing.blocks); }, { step: 7 });
     assert.deepEqual([found, blocks], [{ sectors: 7, onlyCodes: 3, tail: false }, [...codes, ...others].sort((a, b) => a - b).map(i => BASE + i)]);
     fresh[RAW * 40 + 8] ^= 1;
-    assert.equal((await findDifferences({ crew }, trackOf(old, BASE), readerOf(fresh), () => {})).tail, true);
+    assert.equal((await findDifferences({ pool }, trackOf(old, BASE), readerOf(fresh), () => {})).tail, true);
 });
 
 test('the lines that are given away as they come, and the script of a base', async () => {
@@ -246,7 +246,7 @@ test('the lines that are given away as they come, and the script of a base', asy
     assert.deepEqual([textOf(script), script.size], [head(2), whole.script.size]);
     assert.equal(lines[0].toString(), head(1));
     assert.equal(textOf(script) + Buffer.concat(lines.slice(1)), textOf(whole.script));
-    assert.match(textOf((await compareTrack({ calls, crew: localCrew() }, trackOf(old, 0), readerOf(fresh))).script), /^cdpatch 2\n[a-z]+ /);
+    assert.match(textOf((await compareTrack({ calls, pool: localPool() }, trackOf(old, 0), readerOf(fresh))).script), /^cdpatch 2\n[a-z]+ /);
 });
 
 test('a script of more bytes than cdpatch takes needs --long', () => {

@@ -1,12 +1,12 @@
 // The texts around hits, and the files that contain them: for many hits at once the same as for each alone, with less work.
 import assert from 'node:assert';
 import { test } from 'node:test';
-import { core, diceOf, encoded, readerOf } from './common.mjs';
+import { core, diceOf, encoded, readerOf, tableOf } from './common.mjs';
 import { rawOf } from './discs.mjs';
 
 const { FilesAlong, anyBegins, contextOf, contextsOf, filesWith } = await core('texts/context.js');
 const { encodeText } = await core('encodings/encoding.js');
-const { encodingOf, tableOf } = await core('encodings/encodings.js');
+const { encodingOf } = await core('encodings/encodings.js');
 
 const USER = 2048;
 const BASE = 225;

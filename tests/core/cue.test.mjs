@@ -17,9 +17,9 @@ function tracks(text, ...sizes) {
 
 test('one file of one track', () => {
     const text = sheet('  TRACK 01 MODE1/2352', '    INDEX 01 00:00:00');
-    assert.deepStrictEqual(sheetOf(text).files, [{ name: 'game.bin', raw: true }]);
+    assert.deepStrictEqual(sheetOf(text).files, [{ name: 'game.bin', format: 'BINARY', raw: true }]);
     assert.deepStrictEqual(tracksOf(sheetOf(text), [100 * RAW]), [{
-        number: 1, type: 'MODE1/2352', sectorSize: RAW, file: 0, at: 0, end: 100 * RAW, block: 0 }]);
+        number: 1, type: 'MODE1/2352', sectorSize: RAW, pregap: 0, file: 0, at: 0, end: 100 * RAW, block: 0 }]);
 });
 
 test('one file of three tracks: a track begins at its INDEX 01', () => {
@@ -30,6 +30,7 @@ test('one file of three tracks: a track begins at its INDEX 01', () => {
         { number: 2, file: 0, at: 300 * RAW, end: 460 * RAW, block: 300 },
         { number: 3, file: 0, at: 460 * RAW, end: 1000 * RAW, block: 460 },
     ]);
+    assert.deepStrictEqual(tracksOf(sheetOf(text), [1000 * RAW]).map(({ pregap }) => pregap), [0, 150 * RAW, 0]);
 });
 
 test('a file for each track: blocks go on from file to file', () => {

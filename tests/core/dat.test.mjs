@@ -39,17 +39,39 @@ test('a dump is known by its size and SHA-1, however the list is cut', async () 
 
 test('several lists are one', async () => {
     const dumps = await known(datOf(rom('first.bin')));
-    const [early, other] = ['e', 'f'].map(digit => SHA.replace('d', digit));
-    assert.deepStrictEqual([...[SHA, early, other].map(it => inShort(dumps.findSha1(it)))], ['good first.bin', null, null]);
+    const early = SHA.replace('d', 'e');
+    assert.deepStrictEqual([said(dumps, 7, { sha1: SHA }), said(dumps, 9, { sha1: early })], ['good first.bin', null]);
     await dumps.add(cut(encoded(datOf(`<game name="E"><rom name="early.bin" size="9" sha1="${early}" status="baddump"/></game>`)), 1000));
     await dumps.add(cut(encoded(datOf(rom('second.bin'), `<game name="H"><rom name="third.bin" size="9" sha1="${SHA}"/></game>`)), 1000));
-    assert.deepStrictEqual([said(dumps, 7, { sha1: SHA }), said(dumps, 9, { sha1: SHA })], ['good first.bin and 1', 'good third.bin']);
-    assert.deepStrictEqual([...[SHA, early, other].map(it => inShort(dumps.findSha1(it)))],
-        ['good first.bin and 1', 'bad early.bin', null]);
+    assert.deepStrictEqual([said(dumps, 7, { sha1: SHA }), said(dumps, 9, { sha1: SHA }), said(dumps, 9, { sha1: early })],
+        ['good first.bin and 1', 'good third.bin', 'bad early.bin']);
     for (const [size, code] of [[7, 'dat/only-size'], [9, 'dat/only-size'], [5, 'dat/no-size'], [8, 'dat/no-size']]) {
         assert.deepStrictEqual(dumps.remarkOfOther(size), { code, facts: {} });
     }
     assert.deepStrictEqual([7, 9, 8].map(size => dumps.namesOfSize(size)), [['first.bin'], ['early.bin', 'third.bin'], []]);
+});
+
+test('games keep their dumps: of each DAT by itself, by their names, and no more than a DAT may have', async () => {
+    const other = SHA.replace('d', 'e');
+    const game = (name, ...roms) => `<game name="${name}">${roms.map(([file, sha]) => `<rom name="${file}" size="7" sha1="${sha}"/>`).join('')}</game>`;
+    const dumps = await known(datOf(game('A &amp; B', ['1', SHA], ['2', other]), '<game name="empty"/>', `<rom name="0" size="7" sha1="${SHA}"/>`,
+        game('C', ['3', other]), game('A &amp; B', ['4', other]), '<game name="D"><rom name="5"/></game>'));
+    await dumps.add(cut(encoded(datOf(game('C', ['6', SHA]))), 9));
+    assert.deepStrictEqual(dumps.games.map(({ name, dumps: parts }) => [name, [...parts.values()]]), [['A & B', ['1', '4']], ['C', ['3']], ['C', ['6']]]);
+    assert.deepStrictEqual(['2', '3', '0'].map(name => dumps.find(7, { sha1: name === '0' ? SHA : other }, name).game), ['A & B', 'C', '']);
+    await assert.rejects(known(datOf(Array.from({ length: 400001 }, (_, i) => game(String(i), ['x', SHA])).join(''))), failsBy('dat/too-many 400000'));
+});
+
+test('capitals and spaces do not matter, and a SHA-1 needs no size', async () => {
+    const [bad, good] = [`bad a.bin`, 'good a.bin'];
+    const entries = [[good, `<rom name="a.bin" size=" 7 " sha1="${SHA}"/>`], [good, `<rom name="a.bin" size="7" sha1="${SHA} "/>`], [bad, `<rom name="a.bin" size="7" sha1="${SHA}" status="BadDump"/>`],
+        [good, `<ROM Name="a.bin" SIZE="7" SHA1="${SHA}"/>`], [good, `<rom name="a.bin" sha1="${SHA}"/>`], [bad, `<rom name="a.bin" size="" sha1="${SHA}" status="baddump"/>`]];
+    for (const [due, entry] of entries) assert.strictEqual(said(await known(datOf(`<Game name="G">${entry}</GAME>`)), 7, { sha1: SHA }), due, entry);
+    const dumps = await known(datOf(`<GAME Name="G">${entries[4][1]}</GAME>`));
+    assert.deepStrictEqual([said(dumps, 8, { sha1: SHA }), dumps.hasSize(7), dumps.games.map(it => it.name)], [good, false, ['G']]);
+    for (const entry of [`<rom name="a" size="7" sha256="${'a'.repeat(64)}"/>`, '<rom name="a" crc="0000abcd"/>', `<disk name="a" sha1="${SHA}"/>`, `<rom name="a" size="7" sha1="${SHA}" status="NoDump"/>`]) {
+        await assert.rejects(known(datOf(`<game name="G">${entry}</game>`)), failsBy('dat/no-dump'));
+    }
 });
 
 test('what XML may have is read: > and / in names, CDATA, long comments, declared elements', async () => {

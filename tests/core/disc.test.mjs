@@ -5,13 +5,13 @@ import { test } from 'node:test';
 import { calls, core, diceOf, encoded, readerOf, sameBytes } from './common.mjs';
 import { CHANGES, RAW, changedImage, sectorAt, soundImage } from './pairs.mjs';
 
-const { dataTrack, openDisc } = await core('disc/disc.js');
+const { dataTrack, openChosen, openDisc } = await core('disc/disc.js');
 
 const file = (name, bytes) => ({ name, reader: readerOf(bytes) });
 const opened = (...files) => openDisc(calls, files);
 const sheet = (...lines) => file('game.cue', encoded(`${lines.join('\r\n')}\r\n`));
 const audio = (count, seed = 1) => { const dice = diceOf(seed); return Uint8Array.from({ length: RAW * count }, () => dice(256)); };
-const shown = ({ image, part, ...track }) => ({ ...track, image: image && [image.base, image.addressed, image.sectors, image.tail, image.reader.size],
+const shown = ({ image, part, at: _, pregap: __, fileName: ___, ...track }) => ({ ...track, image: image && [image.base, image.addressed, image.sectors, image.tail, image.reader.size],
     part: part && [part.base, part.addressed, part.sectors, part.tail, part.reader.size] });
 
 test('one raw image is a disc of one track, whose base its addresses give', async () => {
@@ -34,6 +34,20 @@ test('an image without a base by its addresses, or with one before block 0', asy
     const before = Uint8Array.from(Buffer.concat([new Uint8Array(RAW * 10), soundImage(diceOf(5), 200, 0)]));
     const { image: early } = dataTrack(await opened(file('a.bin', before)));
     assert.deepEqual([early.base, early.addressed], [0, -10]);
+});
+
+test('each file is recognised once, and a cue sheet is read once', async () => {
+    const bin = file('game.bin', soundImage(diceOf(40), 20, 0));
+    const cue = sheet('FILE "game.bin" BINARY', ' TRACK 01 MODE1/2352', '  INDEX 01 00:00:00');
+    const { kinds, disc } = await openChosen(calls, [cue], async ({ name }, [{ files }]) => {
+        assert.deepEqual([name, files.map(it => it.name)], ['game.cue', ['game.bin']]);
+        return [bin];
+    });
+    assert.deepEqual([kinds, disc.sheetText.split('\r\n')[0], dataTrack(disc).number], [['cue'], 'FILE "game.bin" BINARY', 1]);
+    const begins = ({ reader: { reads } }) => reads.filter(({ at, length }) => at === 0 && length === 16).length;
+    assert.deepEqual([begins(cue), begins(bin), cue.reader.reads.filter(({ length }) => length === cue.reader.size).length], [1, 1, 1]);
+    const other = await openChosen(calls, [file('a.7z', encoded('7z\xBC\xAF\x27\x1C'))]);
+    assert.deepEqual([other.kinds.length, other.disc], [1, null]);
 });
 
 test('a file of several tracks is one image, and each data track a part of it', async () => {

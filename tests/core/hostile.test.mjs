@@ -2,15 +2,15 @@
 
 import assert from 'node:assert/strict';
 import { test } from 'node:test';
-import { calls, core, diceOf, encoded, readerOf } from './common.mjs';
+import { calls, core, diceOf, encoded, readerOf, tableOf } from './common.mjs';
+import { listedRows, replacedRows } from './lists.mjs';
 
 const { Table } = await core('texts/cells.js');
 const { entriesOfPo } = await core('texts/po_reader.js');
 const { codesLeftOut } = await core('texts/codes.js');
-const { replaceList } = await core('tasks/list.js');
-const { listRows, rowsOfLists } = await core('tasks/list_rows.js');
-const { encodingOf, tableOf } = await core('encodings/encodings.js');
-const { endOfMatch } = await core('texts/find.js');
+const { rowsOfLists } = await core('tasks/list_rows.js');
+const { encodingOf } = await core('encodings/encodings.js');
+const { endOfMatch } = await core('texts/matching.js');
 
 /** The number of characters that `indexOf` and regular expressions examine during a call. */
 function lookedAt(use) {
@@ -62,9 +62,9 @@ test('a row of too many cells, and too many rows, are refused', async () => {
 test('a list of many columns is refused, and a row of many codes is looked at once', async () => {
     const began = process.cpuUsage().user;
     const wide = `block\toffset\ttext\tnew${'\t'.repeat(250000)}\n${'x\n'.repeat(20000)}`;
-    await assert.rejects((async () => { for await (const row of listRows(wide)) assert.fail(row); })(), { facts: { row: 1, most: 1000 } });
+    await assert.rejects(listedRows(wide), { facts: { row: 1, most: 1000 } });
     const most = `block\toffset\ttext\tnew${'\t'.repeat(990)}\n${'x\n'.repeat(20000)}`;
-    for await (const row of listRows(most)) assert.fail(row);
+    assert.deepEqual(await listedRows(most), []);
     const coded = (code, count) => ({ number: 2, encoding: '', text: code.repeat(count), fresh: '{01}'.repeat(count) });
     const left = await codesLeftOut([coded('{00}', 220000), coded('{00}', 16000)], () => [encodingOf('CP932')]);
     assert.deepEqual(left.map(({ code, count, rows, first }) => [code, count, rows, first.length]), [['00', 16000, 1, 1]]);
@@ -82,8 +82,7 @@ for (const [name, list] of Object.entries(LONG_LISTS)) test(`others get a turn w
     const timer = setInterval(() => { turns += 1; });
     const signal = { aborted: false };
     try {
-        const rows = [];
-        for await (const row of listRows(list, () => false, signal)) rows.push(row);
+        const rows = await listedRows(list, () => false, signal);
         assert.ok(turns > 2, `${turns} while it is read`);
         turns = 0;
         const { whys } = await made(rows, 'CP932', { signal });
@@ -116,13 +115,14 @@ test('a PO file gives way after each part of it, whatever is in it', () => {
 async function made(rows, name = 'CP932', watch = {}) {
     let asked = 0;
     const encoding = encodingOf(name);
-    const counting = Object.create(encoding, { units: { value: text => {
+    const counted = units => ({ value: text => {
         asked += text.length;
-        return encoding.units(text);
-    } } });
+        return units.call(encoding, text);
+    } });
+    const counting = Object.create(encoding, { units: counted(encoding.units), parts: counted(encoding.parts) });
     const sectors = calls.encodeBlocks(0, new Uint8Array(4 * 2048).fill(0x41));
     const image = { base: 0, sectors: 4, reader: { size: sectors.length, read: async (at, length) => sectors.slice(at, at + length) } };
-    const { parts, left } = await replaceList(calls, image, rows, () => [counting], null, watch);
+    const { parts, left } = await replacedRows(image, rows, [counting], watch);
     return { patches: parts.patches, whys: left.map(({ why }) => why), asked };
 }
 
@@ -147,7 +147,48 @@ test('a text of thousands of spellings is matched without a stack for each', () 
     const units = Array.from({ length: count }, () => [Uint8Array.of(1), Uint8Array.of(1, 1)]);
     assert.equal(endOfMatch(units, new Uint8Array(count).fill(1), 0), count);
     assert.equal(endOfMatch([...units.slice(0, 300), [Uint8Array.of(2)]], new Uint8Array(400).fill(1), 0), -1);
+    const long = Array.from({ length: 5000 }, () => [1, 2, 3].map(size => new Uint8Array(size).fill(1)));
+    assert.equal(endOfMatch([...long, [Uint8Array.of(2)]], new Uint8Array(20000).fill(1), 0), -1);
     assert.equal(endOfMatch([], Uint8Array.of(1), 0), 0);
+});
+
+/** The longest processor time in milliseconds between two turns of other work during a job: the least of three runs, as one may be disturbed. */
+async function longestWithoutTurn(job) {
+    const times = [];
+    for (let i = 0; i < 3; i++) times.push(await longestInRun(job));
+    return Math.min(...times);
+}
+
+async function longestInRun(job) {
+    const cpu = () => { const { user, system } = process.cpuUsage(); return (user + system) / 1000; };
+    let [last, most] = [cpu(), 0];
+    const look = () => { most = Math.max(most, cpu() - last); last = cpu(); };
+    const timer = setInterval(look, 1);
+    try {
+        await job();
+    } finally {
+        clearInterval(timer);
+    }
+    look();
+    return most;
+}
+
+test('a long row in a table with many codes gives turns', async () => {
+    const codes = Array.from({ length: 64 }, (_, i) => `80${(0x20 + i).toString(16)}=${'x'.repeat(i)}y\n`).join('');
+    const table = tableOf(encoded(`41=x\n42=B\n${codes}${Array.from({ length: 3000 }, (_, i) => `${(0x9000 + i).toString(16)}=x\n`).join('')}`));
+    const sectors = calls.encodeBlocks(0, new Uint8Array(32 * 2048).fill(0x41));
+    const image = { base: 0, sectors: 32, reader: { size: sectors.length, read: async (at, length) => sectors.slice(at, at + length) } };
+    const long = 'x'.repeat(65535);
+    for (const [text, fresh] of [[`${long}B`, 'B'], [long, `${long}B`]]) {
+        const time = await longestWithoutTurn(() => replacedRows(image, [row(text, fresh)], [table]));
+        assert.ok(time < 400, `${Math.round(time)} ms`);
+    }
+});
+
+test('a PO file of a long text with many places is refused by the work that it needs', async () => {
+    const read = places => rowsOfLists([{ name: 'list', reader: readerOf(encoded(`#:${' 1+1'.repeat(places)}\nmsgid "${'A'.repeat(65000)}"\nmsgstr "b"\n`)) }]);
+    assert.equal((await read(700)).rows.length, 700);
+    await assert.rejects(read(1000), { code: 'list/too-many-characters' });
 });
 
 test('a table is refused by its size before it is read, and a long line by its beginning', () => {

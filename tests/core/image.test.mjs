@@ -3,7 +3,7 @@ import assert from 'node:assert';
 import { test } from 'node:test';
 import { calls, core, diceOf, readerOf } from './common.mjs';
 
-const { sliceOf, watchedReader } = await core('bytes.js');
+const { sliceOf, watchedReader } = await core('readers/index.js');
 const { baseByAddresses } = await core('disc/base.js');
 const { kindOfFile } = await core('disc/file_type.js');
 const { isOneTrack } = await core('disc/one_track.js');
@@ -118,6 +118,11 @@ test('other files are known by how they begin', async () => {
         ['unknown', 'RIFF....AVI '], ['archive', Buffer.from([0x1F, 0x8B, 8, 0])], ['mds', 'MEDIA DESCRIPTOR\x01\x05'], ['ccd', '[CloneCD]\r\nVersion=3\r\n'],
         ['toc', 'CD_ROM\n\n// Track 1\nTRACK MODE1_RAW\nDATAFILE "data.bin"\n'], ['toc', 'CD_DA\r\nTRACK AUDIO\r\nFILE "a.wav" 0\r\n'], ['unknown', 'CD_ROM'],
         ['cue', 'FILE "a.bin" BINARY\r\n  TRACK 01 MODE1/2352\r\n    INDEX 01 00:00:00\r\n']];
+    const sheet = 'file "魔.bin" binary\r\ntrack 01 mode1/2352\r\nindex 01 00:00:00\r\n';
+    const wide = Buffer.from(`\uFEFF${sheet}`, 'utf16le');
+    files.push(['cue', sheet], ['cue', wide], ['cue', Buffer.from(wide).swap16()]);
+    files.push(['text', 'a line\n'.repeat(20)], ['text', '魔\r\n'.repeat(2000)], ['text', 'a line\n'.repeat(RAW / 7)], ['unknown', 'words '.repeat(100)],
+        ['unknown', 'a line\n'.repeat(9)], ['unknown', 'a line\0\n'.repeat(20)], ['unknown', Buffer.from('Gerät\n'.repeat(20), 'latin1')]);
     for (const [due, bytes] of files) assert.strictEqual(await kind(bytes), due);
 });
 

@@ -5,7 +5,7 @@ import { test } from 'node:test';
 import { calls, core, encoded, readerOf } from './common.mjs';
 import { recordOf, volumeOf } from './strangers.mjs';
 
-const { findingsIn, foundInSurvey, openTrack, surveyedTrack, surveyedTracks, tailOf } = await core('tasks/index.js');
+const { foundInSurvey, openTrack, surveyedTrack, surveyedTracks, verdictOf } = await core('tasks/index.js');
 const { openDisc } = await core('disc/disc.js');
 const { surveyRange } = await core('sectors/survey.js');
 
@@ -30,10 +30,10 @@ const open = files => openDisc(calls, Object.entries(files).map(([name, bytes]) 
 async function found(files) {
     const disc = await open(files);
     const [track, ...others] = surveyedTracks(disc);
-    assert.deepEqual(others, []);
-    const { reader, base } = track.image;
+    assert.ok(others.every(({ isAudio }) => isAudio));
+    const { reader, base, tail } = track.image;
     const made = await foundInSurvey(track, surveyRange(calls, await reader.read(0, RAW * track.image.sectors), base));
-    return { ...made, findings: findingsIn({ surveys: [made], tail: tailOf(disc, track.file) }) };
+    return { ...made, findings: verdictOf({ surveys: [made], tail }).total };
 }
 
 test('a cut image lacks the rest of its volume, which is a finding if a file or the cue sheet says so', async () => {
@@ -78,16 +78,16 @@ test('tracks of one file are surveyed together, and each by itself if their addr
         .map(({ number, isWhole, image: { base, sectors }, sheetTracks }) => ({ number, isWhole, base, sectors, sheetTracks }));
     const [first, second] = [{ first: 0, last: 299 }, { first: 300, last: 349 }];
     assert.deepEqual(await seen(sector(0, 300), sector(300, 50)),
-        [{ number: 1, isWhole: true, base: 0, sectors: 350, sheetTracks: { mode1: [first, second], mode2: [] } }]);
+        [{ number: 1, isWhole: true, base: 0, sectors: 350, sheetTracks: { mode1: [first, second], mode2: [], audio: [] } }]);
     const own = { first: 300 + BASE, last: 349 + BASE };
     assert.deepEqual(await seen(sector(0, 300), sector(300 + BASE, 50)),
-        [{ number: 1, isWhole: false, base: 0, sectors: 300, sheetTracks: { mode1: [first], mode2: [] } },
-            { number: 2, isWhole: false, base: 300 + BASE, sectors: 50, sheetTracks: { mode1: [own], mode2: [] } }]);
+        [{ number: 1, isWhole: false, base: 0, sectors: 300, sheetTracks: { mode1: [first, second], mode2: [], audio: [] } },
+            { number: 2, isWhole: false, base: 300 + BASE, sectors: 50, sheetTracks: { mode1: [{ first: BASE, last: 299 + BASE }, own], mode2: [], audio: [] } }]);
 });
 
 test('the tracks of the cue sheet are where another base puts them', async () => {
     const one = sheetOf(['game.bin', ['MODE1/2352', '00:00:00']]);
     const disc = await open({ 'one.cue': one, 'game.bin': image() });
     const { sheetTracks, isAlone } = surveyedTrack(openTrack(disc, { base: BASE }));
-    assert.deepEqual([sheetTracks, isAlone], [{ mode1: [{ first: BASE, last: BASE + SECTORS - 1 }], mode2: [] }, true]);
+    assert.deepEqual([sheetTracks, isAlone], [{ mode1: [{ first: BASE, last: BASE + SECTORS - 1 }], mode2: [], audio: [] }, true]);
 });

@@ -2,87 +2,60 @@
 
 import assert from 'node:assert/strict';
 import { test } from 'node:test';
-import { calls, core, diceOf, joinedPieces, readerOf, sameBytes } from './common.mjs';
-import { localCrew, withThreads } from './crews.mjs';
-import { CHANGES, RAW, blocksOf, changedImage, countOf, imageOf as imageWith, sectorAt, sound, soundImage, trackIn } from './pairs.mjs';
+import { calls, core, diceOf, joinedPieces, readerOf, sameBytes, someBytes } from './common.mjs';
+import { localPool, withThreads } from './pools.mjs';
+import { FORM1, WITHOUT_EDC, addressOf, at, dueOf, someDumps } from './dumps.mjs';
+import { CHANGES, RAW, blocksOf, changedImage, imageOf as imageWith, sectorAt, sound, soundImage, trackIn } from './pairs.mjs';
 
+const { baseByAddresses } = await core('disc/base.js');
+const { RECORD, RECORD_SIZE, SECTOR_KIND } = await core('module/index.js');
+const { blocksIn, surveyRange } = await core('sectors/index.js');
 const { repairTrack } = await core('tasks/repair.js');
 const { commonPart, firstBlock, isSameRange, rangesOf } = await core('tasks/common_part.js');
 
+/** The number of random merges. */
+const CASES = Number(process.env.MERGE_CASES ?? 200);
 const BASE = 500;
 const imageOf = (bytes, base = BASE) => imageWith(bytes, base);
 
 /** The result of a repair, and its pieces. */
-async function repaired(crew, old, others, how = {}) {
+async function repaired(pool, old, others, how = {}) {
     const pieces = [];
     const [opened, ...dumps] = [old, ...others].map(trackIn);
-    return { ...await repairTrack({ calls, crew }, opened, dumps, piece => { pieces.push(piece); }, how), pieces };
+    return { ...await repairTrack({ calls, pool }, opened, dumps, piece => { pieces.push(piece); }, how), pieces };
 }
 
-const merged = (images, how = {}, crew = localCrew()) => repaired(crew, imageOf(images[0]), images.slice(1).map(it => imageOf(it)), how);
+const merged = (images, how = {}, pool = localPool()) => repaired(pool, imageOf(images[0]), images.slice(1).map(it => imageOf(it)), how);
 
-const ownAddress = (sector, block) => Buffer.compare(sector.subarray(12, 15), calls.address(block)) === 0;
-
-/** Whether two sectors have the same EDC; and, below, the same header and user data. */
-const sameEdc = (a, b) => Buffer.compare(a.subarray(2064, 2068), b.subarray(2064, 2068)) === 0;
-const sameData = (a, b) => Buffer.compare(a.subarray(12, 2064), b.subarray(12, 2064)) === 0;
-
-/** The expected result for these images, computed sector by sector. */
-function due([old, ...others]) {
-    const out = old.slice();
-    const found = { taken: [], doubtful: [], damaged: [], disputed: [], wrongAddress: [], different: others.map(() => 0) };
-    for (let i = 0; i < countOf(old); i++) {
-        const [here, there] = [sectorAt(old, i), others.map(other => sectorAt(other, i))];
-        if (calls.isConsistent(here)) {
-            if (!ownAddress(here, BASE + i)) found.wrongAddress.push({ block: BASE + i });
-            there.forEach((it, k) => { found.different[k] += Number(calls.isConsistent(it) && Buffer.compare(it, here) !== 0); });
-            continue;
-        }
-        const fit = there.map((_, k) => k).filter(k => calls.isConsistent(there[k]) && ownAddress(there[k], BASE + i));
-        if (fit.length > 0) {
-            const own = [...fit.filter(k => sameEdc(here, there[k])), ...fit.filter(k => sameData(here, there[k]))];
-            const best = [...own, ...fit][0];
-            out.set(there[best], RAW * i);
-            found.taken.push({ block: BASE + i, other: best });
-            if (own.length === 0) found.doubtful.push({ block: BASE + i, other: best });
-            if (fit.some(k => Buffer.compare(there[k], there[fit[0]]) !== 0)) found.disputed.push({ block: BASE + i });
-        } else if ([here, ...there].some(it => calls.kind(it) === 2)) {
-            found.damaged.push({ block: BASE + i, elsewhere: there.some(it => calls.isConsistent(it)) });
-        }
-    }
-    return { out, found };
+/** The findings of a repair that the model has too. */
+function foundOf({ taken, doubtful, damaged, disputed, wrongAddress, different, differingUntested, unlike, refused }) {
+    const runs = { taken, doubtful, damaged, disputed, wrongAddress, kept: unlike.filter(({ kind }) => kind === SECTOR_KIND.MODE2) };
+    const blocks = Object.fromEntries(Object.entries(runs).map(([name, all]) => [name, blocksOf(all).map(({ kind: _, ...it }) => it)]));
+    return { ...blocks, kept: refused ? null : blocks.kept, different, untested: differingUntested.map(blocksIn) };
 }
 
-const foundOf = ({ taken, doubtful, damaged, disputed, wrongAddress, different }) =>
-    ({ taken: blocksOf(taken), doubtful: blocksOf(doubtful), damaged: blocksOf(damaged), disputed: blocksOf(disputed),
-        wrongAddress: blocksOf(wrongAddress), different });
+const bytesOf = dump => Uint8Array.from(Buffer.concat(dump.map(it => it.bytes)));
 
-/** Dumps of one disc: each is damaged in its own places, and all in some shared ones; some sectors lost their sync, some are audio. */
-function someDumps(dice, count, sectors) {
-    const disc = soundImage(dice, sectors, BASE, 50);
-    for (let i = 0; i < sectors; i++) {
-        if (dice(15) === 0) disc.set(CHANGES[['audio', 'damaged', 'mode'][dice(3)]](sectorAt(disc, i), dice), RAW * i);
+test('merge replaces damaged and lost sectors by sound copies with the right address, and no others', async () => {
+    const counts = { taken: 0, doubtful: 0, damaged: 0, disputed: 0, wrongAddress: 0, kept: 0, refused: 0, pause: 0 };
+    for (let seed = 0; seed < CASES; seed++) {
+        const dice = diceOf(seed + 400);
+        const first = [BASE, BASE, -150][dice(3)];
+        const base = Math.max(first, 0);
+        const dumps = someDumps(dice, 2 + dice(3), 24, first);
+        const [old, ...others] = dumps.map(dump => ({ ...imageOf(bytesOf(dump), base), addressed: first }));
+        const { pieces, refused, sectors, ...rest } = await repaired(localPool(), old, others, { step: 1 + dice(30) });
+        const { bytes, ...due } = dueOf(dumps, base);
+        const isUntested = !dumps[0].some(it => it.mode === 1 || (it.mode === 2 && it.state === 'sound'));
+        const isDifferent = due.different.some((count, i) => count + due.untested[i] > 0);
+        assert.deepEqual([refused && refused.why, sectors], [isUntested ? 'untested' : isDifferent ? 'different' : null, 24], `seed ${seed}`);
+        assert.deepEqual(foundOf({ ...rest, refused }), { ...due, kept: refused ? null : due.kept }, `seed ${seed}`);
+        sameBytes(joinedPieces(bytesOf(dumps[0]), pieces), Uint8Array.from(Buffer.concat(bytes)), `seed ${seed}`);
+        for (const name of Object.keys(due)) if (name in counts) counts[name] += due[name].length;
+        counts.refused += Number(refused !== null);
+        counts.pause += first < 0 ? due.taken.length : 0;
     }
-    return Array.from({ length: count }, () => changedImage(dice, disc, ['damaged', 'damaged', 'sync', 'mode', 'audio'], 4));
-}
-
-test('merge takes what is consistent with its own address, and never changes a sound sector', async () => {
-    let [taken, damaged] = [0, 0];
-    for (let seed = 0; seed < 40; seed++) {
-        const images = someDumps(diceOf(seed), 2 + seed % 3, 60);
-        const { pieces, sectors, tails, refused, ...rest } = await merged(images);
-        assert.ok(!refused && tails.every(it => !it));
-        const { out, found } = due(images);
-        assert.deepEqual(foundOf(rest), found);
-        assert.equal(sectors, 60);
-        const made = joinedPieces(images[0], pieces);
-        sameBytes(made, out, `seed ${seed}`);
-        for (let i = 0; i < 60; i++) {
-            if (calls.isConsistent(sectorAt(images[0], i))) sameBytes(sectorAt(made, i), sectorAt(images[0], i), `a sound sector, ${i}`);
-        }
-        [taken, damaged] = [taken + found.taken.length, damaged + found.damaged.length];
-    }
-    assert.ok(taken > 300 && damaged > 50, `${taken} ${damaged}`);
+    assert.ok(Object.values(counts).every(count => count > 0) && counts.taken > CASES && counts.damaged > CASES / 4, JSON.stringify(counts));
 });
 
 test('a sector that is consistent but has the address of another block is not taken', async () => {
@@ -171,7 +144,7 @@ test('sound sectors that differ are counted, and above a hundredth of all the im
     sameBytes(joinedPieces(image, few.pieces), image, 'the image');
     other.set(CHANGES.bytes(sectorAt(image, 299), diceOf(9)), RAW * 299);
     const many = await merged([image, image, other], { step: 100 });
-    assert.deepEqual([many.different, many.refused.other, many.sectors], [[0, 4], 1, 300]);
+    assert.deepEqual([many.different, many.refused, many.sectors], [[0, 4], { why: 'different', other: 1, common: 300, sound: 4, untested: 0, shift: null }, 300]);
     assert.deepEqual([few.same, many.same], [[300, 297], [300, 296]]);
 });
 
@@ -189,8 +162,8 @@ test('of a dump in which sectors are missing, or too many, it is said where, fro
     for (const [parts, by, first] of [[missing, 7, BASE + 100], [more, -5, BASE + 65]]) {
         const [whole, cut] = [disc, new Uint8Array(Buffer.concat(parts))].map(bytes => imageOf(bytes));
         for (const [old, other] of [[whole, cut], [cut, whole]]) {
-            const { refused } = await repaired(localCrew(), old, [other]);
-            assert.deepEqual(refused, { why: 'different', other: 0, shift: { by, first, isOther: other === cut } });
+            const { refused } = await repaired(localPool(), old, [other]);
+            assert.deepEqual([refused.why, refused.other, refused.shift], ['different', 0, { by, first, isOther: other === cut }]);
         }
     }
 });
@@ -208,7 +181,7 @@ test('tails that differ are said, and the tail stays as it is', async () => {
 
 test('another part of a disc is refused', async () => {
     const image = soundImage(diceOf(56), 5, BASE);
-    const { refused, pieces } = await repaired(localCrew(), imageOf(image), [imageOf(image), imageOf(image, BASE + 5)]);
+    const { refused, pieces } = await repaired(localPool(), imageOf(image), [imageOf(image), imageOf(image, BASE + 5)]);
     assert.deepEqual([refused, pieces], [{ why: 'apart', other: 1, first: [BASE, BASE + 5] }, []]);
 });
 
@@ -232,36 +205,35 @@ test('the blocks that only one of two images has', () => {
 });
 
 test('a base that is set by hand is that of all dumps, whatever their addresses say', async () => {
-    const [old, other] = someDumps(diceOf(70), 2, 60);
-    const due = await repaired(localCrew(), imageOf(old), [imageOf(other)]);
+    const [old, other] = someDumps(diceOf(70), 2, 60, BASE, false).map(bytesOf);
+    const due = await repaired(localPool(), imageOf(old), [imageOf(other)]);
     const pieces = [];
     const moved = trackIn(imageOf(old, 7)).withBase(BASE);
     for (const first of [7, BASE, BASE + 3]) {
-        const found = await repairTrack({ calls, crew: localCrew() }, moved, [trackIn(imageOf(other, first))], piece => { pieces.push(piece); });
+        const found = await repairTrack({ calls, pool: localPool() }, moved, [trackIn(imageOf(other, first))], piece => { pieces.push(piece); });
         assert.deepEqual({ ...found, pieces: pieces.splice(0) }, due, `the other one begins with block ${first}`);
     }
 });
 
-test('dumps that begin or end elsewhere repair what they have, as if the rest were nothing', async () => {
+test('dumps that begin or end elsewhere repair what they have', async () => {
     const ranges = [[0, 60], [0, 55], [7, 60], [-3, 70], [20, 90]];
     for (let seed = 0; seed < 20; seed++) {
-        const [old, ...whole] = someDumps(diceOf(seed), ranges.length, 60);
-        const others = whole.map((other, k) => {
-            const [from, to] = ranges[k + 1];
-            const around = Buffer.concat([new Uint8Array(3 * RAW), other, new Uint8Array(30 * RAW)]);
-            return imageOf(Uint8Array.from(around.subarray((from + 3) * RAW, (to + 3) * RAW)), BASE + from);
+        const dumps = someDumps(diceOf(seed), ranges.length, 60, BASE, false);
+        const [old, ...others] = dumps.map((dump, k) => {
+            const [from, to] = ranges[k];
+            const around = Buffer.concat([new Uint8Array(3 * RAW), bytesOf(dump), new Uint8Array(30 * RAW)]);
+            return imageOf(Uint8Array.from(around.subarray((from + 3) * RAW, (to + 3) * RAW + (k === 0 ? 50 : 0))), BASE + from);
         });
-        const nothing = whole.map((other, k) => other.map((byte, at) =>
-            at >= ranges[k + 1][0] * RAW && at < ranges[k + 1][1] * RAW ? byte : 0));
         const told = [];
         const how = { step: 1 + seed, progress: (done, all) => { told.push(done); assert.equal(all, 60); } };
-        const { pieces, tails, refused, sectors, ...rest } = await repaired(localCrew(), imageOf(old), others, how);
-        const { out, found } = due([old, ...nothing]);
-        assert.deepEqual(foundOf(rest), found);
-        sameBytes(joinedPieces(old, pieces), out, `seed ${seed}`);
+        const { pieces, tails, refused, sectors, ...rest } = await repaired(localPool(), old, others, how);
+        const { bytes, ...due } = dueOf(dumps.map((dump, k) => dump.map((it, i) => i >= ranges[k][0] && i < ranges[k][1] ? it : null)), BASE);
+        assert.deepEqual(foundOf({ ...rest, refused }), { ...due, kept: refused ? null : due.kept }, `seed ${seed}`);
+        sameBytes(joinedPieces(await old.reader.read(0, old.reader.size), pieces), Uint8Array.from(Buffer.concat([...bytes, new Uint8Array(50)])), `seed ${seed}`);
         const due2 = [[0, 55, 0], [7, 60, 7], [0, 60, -3], [20, 60, 20]].map(([from, to, later]) => ({ from, to, later }));
-        assert.deepEqual(others.map(other => commonPart(imageOf(old), other)), due2);
-        assert.deepEqual([tails, refused, told.at(-1), [...told].sort((a, b) => a - b)], [[false, true, false, false], null, 60, told]);
+        assert.deepEqual(others.map(other => commonPart(old, other)), due2);
+        assert.deepEqual([sectors, told.at(-1), [...told].sort((a, b) => a - b)], [60, 60, told]);
+        if (refused === null) assert.deepEqual(tails, [false, true, false, false]);
     }
 });
 
@@ -276,20 +248,22 @@ test('a dump in which sectors are missing or too many is refused, and it is foun
     const due = [{ by: 3, first: BASE + 70 }, { by: 3, first: BASE + 70 }, { by: -1, first: BASE + 65 }, null];
     for (const [i, bytes] of [gone, both, more, edited].entries()) {
         const [old, other] = [imageOf(image), imageOf(Uint8Array.from(bytes))];
-        const { refused } = await repaired(localCrew(), old, [other]);
-        assert.deepEqual(refused, { why: 'different', other: 0, shift: due[i] && { ...due[i], isOther: true } });
+        const { refused } = await repaired(localPool(), old, [other]);
+        assert.deepEqual([refused.why, refused.other, refused.shift], ['different', 0, due[i] && { ...due[i], isOther: true }]);
         assert.ok(isSameRange(old, other) && !isSameRange(old, imageOf(image, BASE + 1)));
     }
 });
 
 test('merge by ranges of 1 to 4096 sectors, and by threads, is the same', async () => {
-    const images = someDumps(diceOf(57), 3, 200);
-    const shown = ({ pieces, ...rest }) => ({ ...rest, out: Buffer.compare(joinedPieces(images[0], pieces), due(images).out) });
+    const dumps = someDumps(diceOf(62), 3, 200, BASE, false);
+    const tail = new Uint8Array(1); // so that no thread is given the whole memory of an image
+    const images = dumps.map(dump => Uint8Array.from([...bytesOf(dump), ...tail]));
+    const shown = ({ pieces, ...rest }) => ({ ...rest, out: joinedPieces(images[0], pieces).toString('latin1') });
     const one = shown(await merged(images));
-    assert.equal(one.out, 0);
+    assert.deepEqual([one.refused, one.out], [null, Buffer.concat([...dueOf(dumps, BASE).bytes, tail]).toString('latin1')]);
     for (const step of [1, 2, 13, 199, 4096]) assert.deepEqual(shown(await merged(images, { step })), one);
-    await withThreads(3, async crew => {
-        for (const step of [1, 30, 4096]) assert.deepEqual(shown(await merged(images, { step }, crew)), one);
+    await withThreads(3, async pool => {
+        for (const step of [1, 30, 4096]) assert.deepEqual(shown(await merged(images, { step }, pool)), one);
     });
 });
 
@@ -297,19 +271,95 @@ test('blocks above the last address are not repaired', async () => {
     const image = soundImage(diceOf(58), 2, 449849);
     const old = image.slice();
     for (const i of [0, 1]) old.set(CHANGES.damaged(sectorAt(image, i), diceOf(i)), RAW * i);
-    const { taken, damaged } = await repaired(localCrew(), imageOf(old, 449849), [imageOf(image, 449849)]);
+    const { taken, damaged } = await repaired(localPool(), imageOf(old, 449849), [imageOf(image, 449849)]);
     assert.deepEqual([taken, damaged], [[{ first: 449849, last: 449849, other: 0 }], [{ first: 449850, last: 449850, elsewhere: true }]]);
-    assert.deepEqual((await repaired(localCrew(), imageOf(image, 449849), [imageOf(image, 449849)])).wrongAddress, []);
+    assert.deepEqual((await repaired(localPool(), imageOf(image, 449849), [imageOf(image, 449849)])).wrongAddress, []);
 });
 
-test('an image that begins before block 0 is repaired by the addresses that it has', async () => {
-    const image = Uint8Array.from([...soundImage(diceOf(59), 2, 7000), ...soundImage(diceOf(60), 4, 0)]);
+test('the first pause is tested and repaired, and a sector of it with the address of a different block is named', async () => {
+    const image = Uint8Array.from(Buffer.concat(Array.from({ length: 160 }, (_, i) => calls.encode(addressOf(i - 150), new Uint8Array(2048).fill(i)))));
     const old = image.slice();
-    for (const i of [0, 3]) old.set(CHANGES.damaged(sectorAt(image, i), diceOf(i)), RAW * i);
-    const early = bytes => ({ ...imageOf(bytes, 0), addressed: -2 });
-    const { pieces, taken, damaged } = await repaired(localCrew(), early(old), [early(image)]);
-    assert.deepEqual([taken, damaged], [[{ first: 3, last: 3, other: 0 }], [{ first: 0, last: 0, elsewhere: true }]]);
-    const due3 = old.slice();
-    due3.set(sectorAt(image, 3), RAW * 3);
-    sameBytes(joinedPieces(old, pieces), due3, 'the repaired image');
+    for (const i of [0, 149, 155]) old.set(CHANGES.damaged(sectorAt(image, i), diceOf(i)), RAW * i);
+    old.set(sectorAt(image, 21), RAW * 20);
+    assert.equal(await baseByAddresses(calls, readerOf(old.subarray(0, 100 * RAW))), -150);
+    const { records } = surveyRange(calls, old, 0, { shift: -150 });
+    assert.deepEqual([...records.keys()].filter(at => at % RECORD_SIZE === RECORD.ADDRESS && records[at] !== 0), [20 * RECORD_SIZE + RECORD.ADDRESS]);
+    const early = (bytes, addressed = -150) => ({ ...imageOf(bytes, 0), addressed });
+    const { pieces, taken, damaged, wrongAddress } = await repaired(localPool(), early(old), [early(image)]);
+    assert.deepEqual([blocksOf(taken).map(({ block }) => block), damaged, wrongAddress], [[0, 149, 155], [], [{ first: 20, last: 20 }]]);
+    const due = image.slice();
+    due.set(sectorAt(image, 21), RAW * 20);
+    sameBytes(joinedPieces(old, pieces), due, 'the repaired image');
+    const tooEarly = await repaired(localPool(), early(old, -151), [early(image, -151)]);
+    assert.deepEqual([tooEarly.taken, tooEarly.damaged[0]], [[], { first: 0, last: 0, elsewhere: true }]);
+});
+
+/** Images of Mode 2: one with Form 2 without EDC, of which one sector in eight is Form 1, and the same with other EDC or data. */
+function withoutEdc(change) {
+    return Uint8Array.from(Buffer.concat(Array.from({ length: 400 }, (_, i) => {
+        if (i % 8 === 0) return at(BASE + i, FORM1[i % FORM1.length]);
+        const sector = at(BASE + i, WITHOUT_EDC[i % WITHOUT_EDC.length]);
+        change(sector, i);
+        return sector;
+    })));
+}
+
+/** Fills in the EDC of a Form 2 sector. */
+const withEdc = sector => new DataView(sector.buffer).setUint32(2348, calls.edc(sector.subarray(16, 2348)), true);
+
+test('a Mode 2 sector that was not tested stays, and counts as different only if its data are', async () => {
+    const disc = withoutEdc(() => {});
+    const old = disc.slice();
+    old[RAW * 80 + 500] ^= 1;
+    const same = await merged([old, withoutEdc(withEdc)]);
+    assert.deepEqual([same.refused, same.taken, same.unlike], [null, [{ first: BASE + 80, last: BASE + 80, other: 0 }], []]);
+    sameBytes(joinedPieces(old, same.pieces), disc, 'the repaired image');
+    const patchedUpTo = end => withoutEdc((sector, i) => { if (i < end) sector.set(someBytes(diceOf(i), 99), 100); withEdc(sector); });
+    const few = await merged([old, patchedUpTo(5)]);
+    assert.deepEqual([few.refused, few.unlike, few.differingUntested], [null, [{ first: BASE + 1, last: BASE + 4, kind: 3 }], [[{ first: BASE + 1, last: BASE + 4 }]]]);
+    sameBytes(joinedPieces(old, few.pieces), disc, 'the repaired image');
+    const { refused } = await merged([old, disc, patchedUpTo(6)]);
+    assert.deepEqual(refused, { why: 'different', other: 1, common: 400, sound: 0, untested: 5, shift: null });
+});
+
+test('a Mode 2 sector of zeros is filled, which is doubtful, and one that only lacks its EDC is not', async () => {
+    const image = withoutEdc(withEdc);
+    const old = image.slice();
+    old.fill(0, RAW * 9 + 16, RAW * 10);
+    old.fill(0, RAW * 10 + 2348, RAW * 11);
+    const { pieces, taken, doubtful, untested } = await merged([old, image]);
+    const run = { first: BASE + 9, last: BASE + 9, other: 0 };
+    assert.deepEqual([taken, doubtful, untested], [[run], [run], [{ first: BASE + 10, last: BASE + 10, kind: 3 }]]);
+    assert.equal(joinedPieces(old, pieces).readUInt32LE(RAW * 10 + 2348), 0);
+});
+
+test('an image in which nothing was ever tested is not repaired', async () => {
+    const data = soundImage(diceOf(80), 30, BASE);
+    const formless = withoutEdc(() => {}).subarray(0, 30 * RAW).map((byte, i) => i % RAW < 16 ? byte : i * 7 % 251);
+    for (const old of [Uint8Array.from(someBytes(diceOf(81), 30 * RAW)), new Uint8Array(30 * RAW), formless]) {
+        const { refused, unlike } = await merged([old, data]);
+        assert.deepEqual([refused, unlike], [{ why: 'untested' }, []]);
+    }
+    const one = formless.slice();
+    one.set(sectorAt(data, 4), RAW * 4);
+    assert.equal((await merged([one, one])).refused, null);
+});
+
+test('without a sound Mode 2 sector none was tested, and sectors that are unlike are counted', async () => {
+    const [one, two] = [0, 1].map(which => {
+        const image = soundImage(diceOf(82), 6, BASE);
+        for (const i of [1, 2, 3, 4]) {
+            image.set(at(BASE + i, FORM1[0]), RAW * i);
+            image.fill(i === 2 ? 1 + which : i === 4 ? which : 3, RAW * i + 16, RAW * (i + 1));
+        }
+        return image;
+    });
+    const runOf = (first, last) => ({ first: BASE + first, last: BASE + last, kind: 3 });
+    for (const images of [[one, two], [two, one]]) {
+        const { damaged, alike, lost, unlike, taken } = await merged(images);
+        assert.deepEqual([damaged, alike, taken, lost.map(({ first, last }) => [first, last]), unlike], [[], [], [], [[BASE + 1, BASE + 4]], []]);
+    }
+    const ends = images => images.map(image => image.subarray(0, 5 * RAW));
+    const { untested, unlike } = await merged(ends([one, two]));
+    assert.deepEqual([untested, unlike], [[runOf(1, 4)], [runOf(2, 2), runOf(4, 4)]]);
 });

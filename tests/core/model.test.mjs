@@ -7,7 +7,7 @@ import { calls, core, decoded, diceOf, newCalls } from './common.mjs';
 const { ScriptModel, lastBlockOf, writersIn } = await core('script/model.js');
 const { firstLinesOf } = await core('script/block_lines.js');
 const { faultyWord, lacksDigit, wordsOf } = await core('script/line_words.js');
-const { replacedLines, replacedLinesInTurns, mergedInTurns, mergedLines } = await core('script/merge_lines.js');
+const { replacedLinesInTurns, mergedInTurns } = await core('script/merge_lines.js');
 const { isMeantAsScript, isScript } = await core('script/script_start.js');
 const { CONTENT, VERB } = await core('module/records.js');
 
@@ -18,9 +18,9 @@ const linesAt = (model, asked) => asked.map(it => model.lineAt(at(...it)));
 function laterCalls() {
     const later = newCalls();
     const readLine = later.readLine.bind(later);
-    later.readLine = (version, number, earlier, from, size) => {
+    later.readLine = (version, earlier, from, size) => {
         const isHead = version === 0 && decoded(later.held(from, from + size)) === 'cdpatch 9';
-        return isHead ? 999 : readLine(version === 999 ? 2 : version, number, earlier, from, size);
+        return isHead ? 999 : readLine(version === 999 ? 2 : version, earlier, from, size);
     };
     return later;
 }
@@ -159,7 +159,7 @@ test('a version is called as the head line names it, whatever number the calls h
 test('a text is a script by its first line that says something, or meant as one', () => {
     const read = text => [isScript, isMeantAsScript].map(is => is(calls, new TextEncoder().encode(text)));
     for (const text of ['cdpatch 1', '\r\n# a\n\tcdpatch 2\r\nx']) assert.deepEqual(read(text), [true, true], text);
-    for (const text of ['cdpatch 3\n', 'CDPATCH 1\n', 'set 5 0 41', '# a\nfill x', 'address 1 00:02:01\n', 'rebuild\t1']) assert.deepEqual(read(text), [false, true], text);
+    for (const text of ['cdpatch 9\n', 'CDPATCH 1\n', 'set 5 0 41', '# a\nfill x', 'address 1 00:02:01\n', 'rebuild\t1']) assert.deepEqual(read(text), [false, true], text);
     for (const text of ['', '# a\n', 'cdpatch', 'rebuild', 'Set 5 0 41', 'x\ncdpatch 1', 'setting 1', 'cdpatches 1']) {
         assert.deepEqual(read(text), [false, false], text);
     }
@@ -171,7 +171,23 @@ test('the first lines that rebuild a block, and that write in it otherwise', () 
     assert.deepEqual(found, [[0, 2], [4, 2], [0, 6], [7, 0], [0, 0]]);
 });
 
-test('lines that are merged in turns are those that are merged at once, and a signal ends it', async () => {
+/** The place of the bytes that a line sets. */
+function placeOf(text) {
+    const [, block, offset, bytes] = text.split(' ');
+    const at = 2048 * Number(block) + Number(offset);
+    return { at, end: at + bytes.length / 2 };
+}
+
+/** The indices of the lines that a new line replaces. Those of which `isMade` is true are replaced in any case if they overlap it. */
+function replacedBy(texts, line, isMade) {
+    const { at, end } = placeOf(line);
+    return [...texts.keys()].filter(i => {
+        const old = placeOf(texts[i]);
+        return old.at < end && old.end > at && (old.at === at || (old.at > at && old.end <= end) || isMade(i));
+    });
+}
+
+test('merged lines replace those that write the same bytes, and a signal ends it', async () => {
     const dice = diceOf(6);
     const set = (bytes, size) => `set ${dice(40)} ${8 * dice(200)} ${bytes.repeat(size)} was ${'00'.repeat(size)}`;
     for (let i = 0; i < 20; i++) {
@@ -179,8 +195,19 @@ test('lines that are merged in turns are those that are merged at once, and a si
         const script = new ScriptModel(calls, ['cdpatch 1', ...texts, ''].join('\n'));
         const incoming = Array.from({ length: 100 }, () => set('42', 1 + dice(8)));
         const isMade = ({ number }) => number % 3 === 0;
-        assert.deepEqual(await mergedInTurns(script, incoming, isMade), mergedLines(script, incoming, isMade));
-        assert.deepEqual(await replacedLinesInTurns(script, incoming, isMade), replacedLines(script, incoming, isMade));
+        const [put, end, all] = [texts.map(() => null), [], new Set()];
+        for (const line of incoming) {
+            const old = replacedBy(texts, line, k => isMade({ number: k + 2 }));
+            const first = old.find(k => put[k] === null);
+            old.forEach(k => { put[k] ??= ''; });
+            if (first === undefined) end.push(line);
+            else put[first] = line;
+            old.forEach(k => all.add(k + 2));
+        }
+        const lines = ['cdpatch 1', ...texts.flatMap((text, k) => put[k] === '' ? [] : [put[k] ?? text]), ...end, ''];
+        assert.deepEqual((await mergedInTurns(script, incoming, isMade)).lines, lines);
+        const found = await replacedLinesInTurns(script, incoming, isMade);
+        assert.deepEqual(found.map(({ number }) => number), [...all].sort((a, b) => a - b));
     }
     const script = new ScriptModel(calls, 'cdpatch 1\nset 1 0 4141 was 0000\n');
     for (const merge of [mergedInTurns, replacedLinesInTurns]) {

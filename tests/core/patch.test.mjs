@@ -10,8 +10,7 @@ const { STEP } = await core('module/records.js');
 const { BETWEEN_WRITTEN } = await core('script/patch_run.js');
 const { applyPatches, passPatched } = await core('script/patches.js');
 const { PieceKeeper, bytesOfPieces } = await core('bytes.js');
-const { pieceReader } = await core('piece_reader.js');
-const { ReadAhead } = await core('read_ahead.js');
+const { ReadAhead, pieceReader } = await core('readers/index.js');
 const { MOST_SECTORS } = await core('module/numbers.js');
 
 const BASE = 30;
@@ -40,7 +39,7 @@ async function plainly(script, whole, base, carry) {
         const first = begin - base;
         const there = first >= 0 && first < count ? Math.min(3, count - first) : 0;
         calls.hold(line);
-        calls.readLine(2, number, 0, 0, line.length);
+        calls.readLine(2, 0, 0, line.length);
         calls.hold(out.subarray(first * 2352, there && (first + there) * 2352));
         const { result, block, offset } = calls.applyPatch(0, there, carry);
         if (there > 0) out.set(calls.held(0, there * 2352), first * 2352);
@@ -244,7 +243,7 @@ test('a long script on an image that is too long ends as one that is not long', 
     }
 });
 
-test('short reads of a door', async () => {
+test('short reads of an interface', async () => {
     for (const most of [1, 1000, 2353]) await agrees(someScript(diceOf(11), 3, BASE, 30), image, BASE, true, most);
 });
 

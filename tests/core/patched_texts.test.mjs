@@ -3,15 +3,15 @@
 import assert from 'node:assert/strict';
 import { test } from 'node:test';
 import { calls, core, decoded, encoded, readerOf } from './common.mjs';
-import { localCrew } from './crews.mjs';
+import { localPool } from './pools.mjs';
 import { openedDisc } from './opened.mjs';
 
 const { applyInMemory, exportTable, importTable, patchedTexts, validScript } = await core('tasks/index.js');
-const { pieceReader } = await core('piece_reader.js');
+const { pieceReader } = await core('readers/index.js');
 const { encodeText } = await core('encodings/encoding.js');
 const { SEARCHED, encodingOf } = await core('encodings/encodings.js');
 
-const engine = { calls, crew: localCrew() };
+const engine = { calls, pool: localPool() };
 
 const TEXT = 'はじめから';
 /** A disc with this text in block 36, and over the border of two extents. */

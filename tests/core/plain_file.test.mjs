@@ -3,7 +3,7 @@
 import assert from 'node:assert/strict';
 import { test } from 'node:test';
 import { calls, core, diceOf, encoded, readerOf, sameBytes, someBytes } from './common.mjs';
-import { localCrew } from './crews.mjs';
+import { localPool } from './pools.mjs';
 import { TEXT, openedDisc } from './opened.mjs';
 
 const { checkLists, exportTable, findText, importIntoFile, importTable, newTextsOf, openPlainFile } = await core('tasks/index.js');
@@ -14,7 +14,7 @@ const { encodeText } = await core('encodings/encoding.js');
 
 const [RAW, USER] = [2352, 2048];
 const CP932 = encodingOf('CP932');
-const engine = { calls, crew: localCrew() };
+const engine = { calls, pool: localPool() };
 
 /** Sizes of files around the borders of sectors. */
 const SIZES = [0, 1, 15, 2047, 2048, 2049, 4095, 4096, 4097, 6000];

@@ -3,19 +3,20 @@
 import assert from 'node:assert/strict';
 import { test } from 'node:test';
 import { calls, core, diceOf, encoded, readerOf } from './common.mjs';
-import { localCrew } from './crews.mjs';
+import { localPool } from './pools.mjs';
+import { listedRows } from './lists.mjs';
 import { TEXT, openedDisc } from './opened.mjs';
 
 const { entriesOfPo, isPo } = await core('texts/po_reader.js');
 const { PoFile } = await core('texts/po_writer.js');
 const { Glyphs } = await core('texts/glyphs.js');
-const { listRows, rowsOfLists } = await core('tasks/list_rows.js');
+const { rowsOfLists } = await core('tasks/list_rows.js');
 const { checkLists, exportTable, importIntoFile, importTable, newTextsOf, openPlainFile } = await core('tasks/index.js');
 const { encodeText } = await core('encodings/encoding.js');
 const { SEARCHED, encodingOf } = await core('encodings/encodings.js');
 
 const CP932 = encodingOf('CP932');
-const engine = { calls, crew: localCrew() };
+const engine = { calls, pool: localPool() };
 const entries = list => [...entriesOfPo(list)].filter(it => it !== null);
 const fileOf = (text, name = 'a.po') => ({ name, reader: readerOf(encoded(text)) });
 
@@ -24,7 +25,6 @@ const collected = async items => {
     for await (const it of items) all.push(it);
     return all;
 };
-const rowsOf = list => collected(listRows(list));
 
 /** The header as msginit writes it. */
 const header = (charset = 'UTF-8') => `# English translations for PACKAGE package.\n#\nmsgid ""\nmsgstr ""\n"Project-Id-Version: PACKAGE VERSION\\n"\n` +
@@ -107,11 +107,11 @@ test('the places of an entry are rows, with the smallest room of their encoding'
         [['. a room 9 bytes', ': 1+0'], ['1+0', -1, '']],
     ];
     for (const [before, ...wanted] of cases) {
-        const rows = await rowsOf(entry(before));
+        const rows = await listedRows(entry(before));
         assert.deepEqual(rows.map(({ place, room, encoding }) => [place, room, encoding]), wanted, before.join());
         for (const { block, offset, place, isInFile } of rows) assert.equal(isInFile ? `-+${offset}` : `${block}+${offset}`, place);
     }
-    const [row] = await rowsOf(entry([': 28+26']));
+    const [row] = await listedRows(entry([': 28+26']));
     assert.deepEqual(row, { list: '', unit: 'line', number: 2, place: '28+26', block: 28, offset: 26, room: -1, encoding: '', fill: '', text: 'a', fresh: 'b',
         fault: null, isFuzzy: false, isInFile: false });
 });
@@ -156,7 +156,7 @@ test('the most frequent of several new texts has no context, and the places with
 });
 
 test('the file of a place is not taken for a place', async () => {
-    const rows = await rowsOf(written([placed('-', 100, 'a', 'b', { file: '0001+100' }), placed(7, 5, 'c', 'd', { file: '/3+5' })]));
+    const rows = await listedRows(written([placed('-', 100, 'a', 'b', { file: '0001+100' }), placed(7, 5, 'c', 'd', { file: '/3+5' })]));
     assert.deepEqual(rows.map(({ place }) => place), ['-+100', '7+5']);
 });
 
@@ -166,7 +166,7 @@ test('what is written is read again', async () => {
     const some = () => Array.from({ length: 1 + dice(6) }, () => signs[dice(signs.length)]).join('');
     const texts = Array.from({ length: 3000 }, (_, i) => placed(i, dice(2048), some(), dice(3) === 0 ? '' : some(),
         { room: dice(99), encoding: ['CP932', 'UTF-16LE', 'my table'][dice(40) === 0 ? 1 + dice(2) : 0] }));
-    const rows = await collected(listRows(written(texts), () => true));
+    const rows = await listedRows(written(texts), () => true);
     const byPlace = new Map(rows.map(row => [row.place, row]));
     assert.equal(byPlace.size, texts.length);
     for (const { block, offset, text, fresh, room } of texts) {
@@ -175,12 +175,10 @@ test('what is written is read again', async () => {
     }
 });
 
-test('characters that only new texts have are named with their first rows', () => {
+test('characters that only new texts have are named once', () => {
     const glyphs = new Glyphs();
-    const row = (number, text, fresh) => ({ list: 'a', unit: 'row', number, place: '', text, fresh });
-    [row(2, 'あ{0A}B', 'é B{0041}\u0301x'), row(3, 'x', 'éü'), row(3, 'x', 'éü'), row(4, 'い', '{zz}\n\u3000い')].forEach(it => glyphs.add(it));
-    assert.deepEqual(glyphs.missing().map(({ character, row: { list, number } }) => [character, list, number]),
-        [['é', 'a', 2], ['ü', 'a', 3], ['{', 'a', 4], ['z', 'a', 4], ['}', 'a', 4]]);
+    for (const [text, fresh] of [['あ{0A}B', 'é B{0041}\u0301x'], ['x', 'éü'], ['x', 'éü'], ['い', '{zz}\n\u3000い']]) glyphs.add({ text, fresh });
+    assert.deepEqual(glyphs.missing(), ['é', 'ü', '{', 'z', '}']);
 });
 
 const HEAD = 'block\toffset\ttext\tnew\troom\tencoding\n';
@@ -208,9 +206,9 @@ test('lists without an image are checked as far as they tell what they need', as
     assert.deepEqual(await short([row, po]), [2, 0]);
     assert.deepEqual(await short([`${HEAD}1\t0\tabcd\tx\t2\tCP932\n1\t2\tb\tx\t1\tCP932\n`]), [2, 0]);
     const { codes, fuzzy, glyphs } = await checked([entry(['. room 9 bytes, CP932', ': 1+0'], '{0A}a', 'b') + entry([', fuzzy'])]);
-    assert.deepEqual([codes.map(({ code }) => code), fuzzy, glyphs.map(({ character }) => character)], [['0A'], 1, ['b']]);
+    assert.deepEqual([codes.map(({ code }) => code), fuzzy, glyphs], [['0A'], 1, ['b']]);
     const typed = await checked([entry(['. room 9 bytes, CP932', ': 1+0'], 'a', 'a\\na')]);
-    assert.deepEqual(typed.glyphs.map(({ character, row }) => [character, row.place]), [['{0A}', '1+0']]);
+    assert.deepEqual(typed.glyphs, ['{0A}']);
 });
 
 test('of several lists the one that cannot be read is named', async () => {

@@ -2,13 +2,13 @@
 
 import assert from 'node:assert/strict';
 import { test } from 'node:test';
-import { core, diceOf, encoded } from './common.mjs';
+import { core, diceOf, encoded, tableOf } from './common.mjs';
 
 const { TextRecogniser } = await core('texts/recognising.js');
 const { allScores, tableScores } = await core('texts/scores.js');
 const { cellOf } = await core('texts/codes.js');
 const { keptOf } = await core('texts/overlap.js');
-const { encodingOf, tableOf } = await core('encodings/encodings.js');
+const { encodingOf } = await core('encodings/encodings.js');
 const { encodeText } = await core('encodings/encoding.js');
 
 const recogniser = new TextRecogniser();

@@ -2,11 +2,11 @@
 
 import assert from 'node:assert/strict';
 import { test } from 'node:test';
-import { calls, core, encoded, readerOf } from './common.mjs';
+import { calls, core, encoded, readerOf, tableOf } from './common.mjs';
 import { TEXT, openedDisc } from './opened.mjs';
 
 const { exportRecords, importIntoFile, importTable, openPlainFile } = await core('tasks/index.js');
-const { SEARCHED, encodingOf, tableOf } = await core('encodings/encodings.js');
+const { SEARCHED, encodingOf } = await core('encodings/encodings.js');
 const { linesMade } = await core('script/script_writer.js');
 
 const named = name => encodingOf(name);

@@ -70,9 +70,9 @@ test('lines of a long script end in LF or CR LF', async () => {
 test('a later version of the language is no fault', async () => {
     const later = newCalls();
     const readLine = later.readLine.bind(later);
-    later.readLine = (version, number, earlier, from, size) => {
+    later.readLine = (version, earlier, from, size) => {
         const head = decoded(later.held(from, from + size)) === 'cdpatch 9';
-        return version === 0 && head ? 256 : readLine(version === 256 ? 2 : version, number, earlier, from, size);
+        return version === 0 && head ? 256 : readLine(version === 256 ? 2 : version, earlier, from, size);
     };
     const runBegin = later.runBegin.bind(later);
     later.runBegin = (script, ...how) => runBegin(script.map(it => decoded(it) === 'cdpatch 9' ? encoded('cdpatch 2') : it), ...how);
@@ -87,7 +87,7 @@ test('what a patch says', async () => {
         [[5, 3, null], [8, 3, null], [4, 7, 2], [6, 7, null], [9, 7, null]]);
     const [fill, address, set, rebuild, plain] = patches.map(({ line }) => {
         calls.hold(line);
-        calls.readLine(2, 1, 0, 0, line.length);
+        calls.readLine(2, 0, 0, line.length);
         return calls.patchRead();
     });
     assert.deepEqual([fill.verb, fill.offset, fill.size, fill.value, fill.fresh.length, fill.old], [VERB.FILL, 9, 12, 0, 0, null]);

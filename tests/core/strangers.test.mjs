@@ -2,7 +2,7 @@
 import assert from 'node:assert';
 import { spawnSync } from 'node:child_process';
 import { test } from 'node:test';
-import { core, coreFile, readerOf } from './common.mjs';
+import { core, coreFile, readerOf, tableOf } from './common.mjs';
 import { rawOf } from './discs.mjs';
 import { SHEETS, TABLES, continuing, crowded, harmlessVolume, inShort, nested, overlapping, recordOf, volumeOf } from './strangers.mjs';
 
@@ -10,10 +10,9 @@ const { sheetOf } = await core('disc/cue.js');
 const { kindOfFile } = await core('disc/file_type.js');
 const { findIn } = await core('texts/find.js');
 const { filesOf } = await core('iso/files.js');
-const { Crew, localWorker } = await core('crew/crew.js');
+const { Pool, localWorker } = await core('pool/pool.js');
 const { JOBS } = await core('jobs/jobs.js');
 const { replaceFile } = await core('tasks/replace_file.js');
-const { tableOf } = await core('encodings/encodings.js');
 const { calls } = await import('./common.mjs');
 
 // A processor shared with other tests takes up to twice as long.
@@ -142,7 +141,7 @@ test('a file of many extents looks at each a few times', async () => {
     const sectors = 2 * count + 30;
     const image = { base: 0, sectors, reader: { size: 2352 * sectors, read: async (at, length) => sector.slice(0, length) } };
     const opened = { image, part: image, contents: async () => ({ volume: names }) };
-    const engine = { calls, crew: new Crew([localWorker(calls, JOBS)]) };
+    const engine = { calls, pool: new Pool([localWorker(calls, JOBS)]) };
     const { left } = await replaceFile(engine, opened, { entries, newFile: readerOf(new Uint8Array(2048 * count - 1)) });
     assert.deepStrictEqual(left, []);
     assert.ok(reads < 100 * count, `${reads}`);

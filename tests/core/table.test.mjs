@@ -3,7 +3,7 @@
 import assert from 'node:assert/strict';
 import { test } from 'node:test';
 import { calls, core, decoded, encoded, readerOf } from './common.mjs';
-import { localCrew } from './crews.mjs';
+import { localPool } from './pools.mjs';
 import { TEXT, openedDisc } from './opened.mjs';
 
 const { exportTable, importTable } = await core('tasks/index.js');
@@ -11,7 +11,7 @@ const { linesMade } = await core('script/script_writer.js');
 const { encodeText } = await core('encodings/encoding.js');
 const { SEARCHED, encodingOf } = await core('encodings/encodings.js');
 
-const engine = { calls, crew: localCrew() };
+const engine = { calls, pool: localPool() };
 
 /** The text of an exported table, and its number of rows. */
 async function exported(opened, options, watch) {

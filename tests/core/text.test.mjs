@@ -3,9 +3,9 @@ import assert from 'node:assert';
 import { spawnSync } from 'node:child_process';
 import { createHash } from 'node:crypto';
 import { test } from 'node:test';
-import { ENCODINGS_KNOWN, core } from './common.mjs';
+import { ENCODINGS_KNOWN, core, tableOf } from './common.mjs';
 
-const { ENCODINGS, encodingOf, tableOf, textOfFile } = await core('encodings/encodings.js');
+const { ENCODINGS, encodingOf, textOfFile } = await core('encodings/encodings.js');
 const { encodeText, fillsOf, spaceIn, usualBytes } = await core('encodings/encoding.js');
 const { cellOf, unitsOfCell } = await core('texts/codes.js');
 const { linesLeftOut } = await core('encodings/table.js');
@@ -39,7 +39,6 @@ def tried(f):
 codec = '${codec}'
 print(json.dumps([[tried(lambda: chr(c).encode(codec).hex().upper()) for c in range(0x10000)],
     [tried(lambda: bytes([c >> 8, c & 255] if c > 255 else [c]).decode(codec)) for c in range(0x10000)]]))`], { maxBuffer: 1 << 26 });
-    if (run.error) return null;
     const [written, read] = JSON.parse(run.stdout.toString());
     return { written, read };
 }
@@ -63,9 +62,8 @@ function allEncoded(name) {
     return ALL_ENCODED[name];
 }
 
-test('CP932 is read as Python reads it, but for five single bytes that are no characters', t => {
+test('CP932 is read as Python reads it, but for five single bytes that are no characters', () => {
     const known = python('cp932');
-    if (!known) return t.skip('no python3');
     const encoding = encodingOf('CP932');
     const others = [];
     known.read.forEach((/** @type {string} */ text, /** @type {number} */ code) => {
@@ -77,9 +75,8 @@ test('CP932 is read as Python reads it, but for five single bytes that are no ch
     for (const single of ['80', 'A0', 'FD', 'FE', 'FF']) assert.strictEqual(decoded('CP932', single), '\uFFFD');
 });
 
-test('CP932 is written as Python writes it, but for 373 kanji with IBM\'s codes and a dash that it lacks', t => {
+test('CP932 is written as Python writes it, but for 373 kanji with IBM\'s codes and a dash that it lacks', () => {
     const known = python('cp932');
-    if (!known) return t.skip('no python3');
     const [ibm, fewer, more, others] = [[], [], [], []];
     allEncoded('CP932').forEach((own, i) => {
         const theirs = known.written[CHARACTERS[i].charCodeAt(0)];
@@ -112,9 +109,8 @@ test('of two spellings Windows\' comes first, and the other is kept', () => {
     assert.strictEqual(encoded('CP932', '—〜−‖¢£¬'), '815C8160817C81618191819281CA');
 });
 
-test('EUC-JP is read as Python reads it where both have a character', t => {
+test('EUC-JP is read as Python reads it where both have a character', () => {
     const known = python('euc_jp');
-    if (!known) return t.skip('no python3');
     const encoding = encodingOf('EUC-JP');
     const others = [];
     known.read.forEach((/** @type {string} */ text, /** @type {number} */ code) => {
@@ -136,7 +132,6 @@ test('EUC-JP has row 13 and IBM\'s kanji in two bytes', () => {
  */
 function readOtherwise(name, codec, but) {
     const known = python(codec);
-    if (!known) return null;
     const own = encodingOf(name);
     const others = known.read.map((text, code) => {
         const read = own.text(Uint8Array.of(code >> 8, code & 0xFF));
@@ -146,9 +141,8 @@ function readOtherwise(name, codec, but) {
     return { others: others.filter(([read, text], code) => isCompared(code) && read !== text && [...text].length < 2), read: others };
 }
 
-test('Big5 is read as Python reads CP950, and has the rows of ETEN beside it', t => {
+test('Big5 is read as Python reads CP950, and has the rows of ETEN beside it', () => {
     const found = readOtherwise('Big5', 'cp950', [[0xA3C0, 0xA3E0], [0xC6A1, 0xC8FE], [0xF9FE, 0xF9FE]]);
-    if (!found) return t.skip('no python3');
     assert.deepStrictEqual(found.others, []);
     const more = readOtherwise('Big5', 'big5hkscs', []);
     const kana = Array.from({ length: 0xC7F2 - 0xC6E7 + 1 }, (_, i) => 0xC6E7 + i).filter(code => (code & 0xFF) > 0xA0 || (code & 0xFF) < 0x7F);
@@ -157,10 +151,9 @@ test('Big5 is read as Python reads CP950, and has the rows of ETEN beside it', t
     assert.strictEqual(encodingOf('Big5').text(Uint8Array.of(0x87, 0x40)).includes('\uFFFD'), true);
 });
 
-test('GBK is read as Python reads GB 18030, but for characters that only private use had', t => {
+test('GBK is read as Python reads GB 18030, but for characters that only private use had', () => {
     const own = /[\uE000-\uF8FF]/;
     const found = readOtherwise('GBK', 'gb18030', []);
-    if (!found) return t.skip('no python3');
     assert.deepStrictEqual(found.others.filter(([, text]) => !own.test(text)), []);
     assert.strictEqual(found.others.filter(([read, text]) => own.test(text) && read).map(([read]) => read).join(''),
         '\u3000︐︒︑︓︔︕︖︗︘︙ḿ龴龵龶龷龸龹龺龻');
@@ -169,9 +162,8 @@ test('GBK is read as Python reads GB 18030, but for characters that only private
     assert.strictEqual(encoded('GBK', '啊鎔\u3000'), 'B0A1' + 'E667' + 'A1A1');
 });
 
-test('EUC-KR is read as Python reads CP949, with all syllables', t => {
+test('EUC-KR is read as Python reads CP949, with all syllables', () => {
     const found = readOtherwise('EUC-KR', 'cp949', []);
-    if (!found) return t.skip('no python3');
     assert.deepStrictEqual(found.others, []);
     assert.strictEqual(encoded('EUC-KR', '가각갂힣€'), 'B0A1' + 'B0A2' + '8141' + 'C652' + 'A2E6');
     const own = allEncoded('EUC-KR');

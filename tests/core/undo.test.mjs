@@ -4,7 +4,7 @@ import assert from 'node:assert/strict';
 import { test } from 'node:test';
 import { MESSAGES } from '../lib/messages.mjs';
 import { calls, core, decoded, diceOf, encoded, joinedPieces, readerOf, sameBytes, someImage } from './common.mjs';
-import { localCrew } from './crews.mjs';
+import { localPool } from './pools.mjs';
 import { RAW, blocksOf, changedImage, countOf, patchedBy, sectorAt, sound, soundImage, textOf, trackOf } from './pairs.mjs';
 
 const { undoScript } = await core('tasks/undo.js');
@@ -13,7 +13,7 @@ const { readScript } = await core('script/script.js');
 const { applyPatches } = await core('script/patches.js');
 
 const BASE = 60;
-const ENGINE = { calls, crew: localCrew() };
+const ENGINE = { calls, pool: localPool() };
 const undone = (image, script, options = {}, watch = {}, track = trackOf(image, BASE)) =>
     undoScript(ENGINE, track, Array.isArray(script) ? script : [encoded(script)], options, watch);
 /** The lines before the patches in a script for this base. */
@@ -191,6 +191,6 @@ test('an undo says how many sectors it has come to, and one that is cancelled gi
     const ended = undone(image, script, {}, { signal, progress: done => { signal.aborted = done > 0; } });
     await assert.rejects(ended, { code: 'cancelled' });
     const late = { aborted: false };
-    const crew = { given: async (...given) => { late.aborted = true; return ENGINE.crew.given(...given); } };
-    await assert.rejects(undoScript({ calls, crew }, trackOf(image, BASE), [encoded(script.split('\n').slice(0, 2).join('\n'))], {}, { signal: late }), { code: 'cancelled' });
+    const pool = { given: async (...given) => { late.aborted = true; return ENGINE.pool.given(...given); } };
+    await assert.rejects(undoScript({ calls, pool }, trackOf(image, BASE), [encoded(script.split('\n').slice(0, 2).join('\n'))], {}, { signal: late }), { code: 'cancelled' });
 });

@@ -4,7 +4,7 @@ import { parentPort, workerData } from 'node:worker_threads';
 import { core } from './common.mjs';
 
 const { Calls } = await core('module/calls.js');
-const { serving, transfersOf } = await core('crew/crew.js');
+const { serving, transfersOf } = await core('pool/pool.js');
 const { JOBS } = await core('jobs/jobs.js');
 const serve = serving(new Calls(workerData), JOBS);
 parentPort.on('message', message => {

@@ -2,7 +2,7 @@
  * the damage of an image of three sectors; the others are a script. A list, an audit, a check, an application, and a run of the script must
  * end. The last three must have the same status, log, and image; reading line by line must give the same fault; and nothing after a buffer
  * may be written. */
-#include <cdpatch.h>
+#include "../library/lent.h"
 #include <stdlib.h>
 #include <string.h>
 
@@ -37,24 +37,25 @@ static uint32_t run(const uint8_t *script, size_t script_size, size_t size, uint
     struct cdpatch_step step;
     size_t done = 0, taken = 0;
     *length = *written = 0;
-    if (cdpatch_run_begin(&run, script, script_size, base, size, carry ? CDPATCH_CARRY : 0, entries, ENTRIES) > ENTRIES)
-        return CDPATCH_FAILED + 1;
+    size_t count = cdpatch_run_begin(&run, script, script_size, base, size, carry ? CDPATCH_FLAG_CARRY : 0, entries, ENTRIES);
+    if (count > ENTRIES && count != CDPATCH_INVALID)
+        return CDPATCH_STATUS_FAILED + 1;
     for (;;) {
         cdpatch_run_next(&run, done, script, script_size, entries, ENTRIES, hand, CDPATCH_SECTORS_IN_HAND, &rooms, &step);
-        uint8_t *from = step.kind == CDPATCH_COPY ? image + taken : hand + step.place;
-        if (step.kind == CDPATCH_END)
+        uint8_t *from = step.kind == CDPATCH_STEP_COPY ? image + taken : hand + step.place;
+        if (step.kind == CDPATCH_STEP_END)
             return step.status;
-        done = step.kind == CDPATCH_LOG || step.size < size - taken || step.kind == CDPATCH_WRITE ? step.size : size - taken;
-        if (step.kind == CDPATCH_LOG) {
+        done = step.kind == CDPATCH_STEP_LOG || step.size < size - taken || step.kind == CDPATCH_STEP_WRITE ? step.size : size - taken;
+        if (step.kind == CDPATCH_STEP_LOG) {
             memcpy(log + *length, step.text, done);
             *length += done;
-        } else if (step.kind == CDPATCH_READ) {
+        } else if (step.kind == CDPATCH_STEP_READ) {
             memcpy(hand + step.place, image + taken, done);
         } else {
             memcpy(made + *written, from, done);
             *written += done;
         }
-        taken += step.kind == CDPATCH_READ || step.kind == CDPATCH_COPY ? done : 0;
+        taken += step.kind == CDPATCH_STEP_READ || step.kind == CDPATCH_STEP_COPY ? done : 0;
     }
 }
 
@@ -67,15 +68,15 @@ static uint32_t fault_of(const uint8_t *script, size_t size, uint32_t *number) {
     size_t patches = 0;
     for (*number = 1; cdpatch_first_line(script, size, &line); ++*number, script += line.taken, size -= line.taken) {
         due(line.taken > 0 && line.size <= line.taken && line.taken <= size);
-        uint32_t content = cdpatch_read_line(version, *number, patches, script, line.size, &patch, bytes[0], bytes[1]);
-        if (content == CDPATCH_PATCH)
+        uint32_t content = cdpatch_read_line(version, patches, script, line.size, &patch, bytes[0], bytes[1]);
+        if (content == CDPATCH_CONTENT_PATCH)
             patches++;
-        else if (content >= CDPATCH_NO_HEAD && content <= CDPATCH_NO_VERSION)
+        else if (content >= CDPATCH_CONTENT_NO_HEAD && content <= CDPATCH_CONTENT_NO_VERSION)
             return content;
-        else if (content != CDPATCH_NOTHING)
+        else if (content != CDPATCH_CONTENT_NOTHING)
             version = content;
     }
-    return version ? CDPATCH_NOTHING : CDPATCH_NO_HEAD;
+    return version ? CDPATCH_CONTENT_NOTHING : CDPATCH_CONTENT_NO_HEAD;
 }
 
 int LLVMFuzzerTestOneInput(const uint8_t *data, size_t data_size) {
@@ -89,18 +90,18 @@ int LLVMFuzzerTestOneInput(const uint8_t *data, size_t data_size) {
     for (int i = 0; i < 3; i++)
         memset(logs[i] + ROOM, KEPT, 1);
     memset(out, KEPT, sizeof out);
-    due(cdpatch_list(image, size, base, logs[0], ROOM, length) == CDPATCH_DONE && cdpatch_audit(image, size, base, logs[0], ROOM, length) < CDPATCH_FAILED);
-    uint32_t status = cdpatch_check(image, size, script, script_size, base, carry, logs[0], ROOM, length);
-    due(cdpatch_apply(image, size, script, script_size, base, carry, out, size, logs[1], ROOM, length + 1) == status && out[size] == KEPT);
+    due(cdpatch_list(image, size, base, logs[0], ROOM, length) == CDPATCH_STATUS_DONE && cdpatch_audit(image, size, base, logs[0], ROOM, length) < CDPATCH_STATUS_FAILED);
+    uint32_t status = cdpatch_check(image, size, script, script_size, base, carry, LENT, logs[0], ROOM, length);
+    due(cdpatch_apply(image, size, script, script_size, base, carry, LENT, out, size, logs[1], ROOM, length + 1) == status && out[size] == KEPT);
     due(length[0] == length[1] && !memcmp(logs[0], logs[1], length[0]));
     uint32_t ran = run(script, script_size, size, base, carry, logs[2], length + 2, &written);
-    if (ran <= CDPATCH_FAILED) {
+    if (ran <= CDPATCH_STATUS_FAILED) {
         due(ran == status && length[0] == length[2] && !memcmp(logs[0], logs[2], length[0]));
-        due(status == CDPATCH_FAILED || (written == size && !memcmp(made, out, size)));
+        due(status == CDPATCH_STATUS_FAILED || (written == size && !memcmp(made, out, size)));
     }
     uint32_t fault = fault_of(script, script_size, &number);
-    due((fault != CDPATCH_NOTHING) == (status == CDPATCH_FAILED));
-    if (fault != CDPATCH_NOTHING) {
+    due((fault != CDPATCH_CONTENT_NOTHING) == (status == CDPATCH_STATUS_FAILED));
+    if (fault != CDPATCH_CONTENT_NOTHING) {
         uint8_t text[CDPATCH_LINE_SIZE];
         due(cdpatch_fault_line(number, fault, text) == length[0] && !memcmp(text, logs[0], length[0]));
     }

@@ -5,17 +5,17 @@
 
 import { readFileSync, writeFileSync } from 'node:fs';
 import { deflateSync } from 'node:zlib';
+import { readerOf, tableOf } from '../core/common.mjs';
 import { diceOf } from '../lib/dice.mjs';
 import { calls, core, page } from '../page/page.mjs';
-import { GROWTH, growthDefect } from './growth.mjs';
+import { GROWTH, growthOf } from './growth.mjs';
 import { INVARIANTS } from './invariants.mjs';
 
 const { Fault } = await core('faults.js');
 const { sheetOf, tracksOf } = await core('disc/cue.js');
 const { KnownDumps } = await core('disc/dat.js');
 const { filesOf } = await core('iso/files.js');
-const { tableOf } = await core('encodings/encodings.js');
-const { listRows, rowsOfLists } = await core('tasks/list_rows.js');
+const { rowsOfLists } = await core('tasks/list_rows.js');
 const { readScript } = await core('script/script.js');
 const { checksum, readPatcherText } = await page('player/patcher.js');
 
@@ -95,13 +95,13 @@ export const KINDS = {
         seeds: ['block\toffset\troom\tencoding\ttext\tnew\n0\t10\t4\tCP932\tabc\tdef\n1\t0\t8\t\t"a ""b"" c"\t"x\ny"\n',
             'block,offset,text,new\n2,3,"a,b",c\n'],
         words: ['\t', '"', '""', ',', '\n', '\r\n', '999999999', '-1', '\0', '\u2028'],
-        read: async bytes => { for await (const row of listRows(decoded(bytes))) void row; },
+        read: bytes => rowsOfLists([{ name: 'a.tsv', reader: readerOf(bytes) }]),
     },
     po: {
         seeds: ['# a\nmsgid ""\nmsgstr ""\n"Content-Type: text/plain; charset=UTF-8\\n"\n\n#. room 9 bytes, CP932, fill {20}\n#: /A+4 28+26 -+5:EUC-JP\n#, fuzzy, max-length:9\n' +
             '#| msgid "x"\nmsgctxt "28+26"\nmsgid "a\\n"\n"b"\nmsgid_plural "c"\nmsgstr[0] "d\\"" "\\303\\251"\nmsgstr[1] ""\n\n#~ msgid "e"\n#~ msgstr "f"\n#: 30+0\nmsgid "g"\nmsgstr "h"\n'],
         words: ['"', '\\', '\n', '\r', '#', '#:', '#~ ', '#, fuzzy', 'msgid ', 'msgstr[9999999999] ', 'domain "a"', '\\377', '\\x', '\u2068', ' 1+1', 'charset=EUC-KR', '\0'],
-        read: bytes => rowsOfLists([{ name: 'a.po', reader: { size: bytes.length, read: async (at, length) => bytes.subarray(at, at + length) } }], () => true),
+        read: bytes => rowsOfLists([{ name: 'a.po', reader: readerOf(bytes) }], () => true),
     },
     dat: {
         seeds: ['<?xml version="1.0"?><!DOCTYPE datafile><datafile><header><name>a</name></header><!-- c --><game name="&quot;g&#x41;">' +
@@ -162,8 +162,8 @@ export function bytesOf(kind, seed) {
 async function measure(names) {
     let found = 0;
     for (const name of names.length > 0 ? names : Object.keys(GROWTH)) {
-        const defect = await growthDefect(name);
-        console.log(`${name}: ${defect ?? 'no defect'}`);
+        const { defect, found: measured } = await growthOf(name);
+        console.log(`${defect === null ? 'no defect' : 'DEFECT'}: ${name}: ${measured}`);
         found += Number(defect !== null);
     }
     return found;

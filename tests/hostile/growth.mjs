@@ -1,8 +1,16 @@
-// The growth of a reader's time: twice the input may take three times as long, so four times the input nine times, which is easier to tell
-// from quadratic growth. Each shape returns, for a size, the call to be measured.
+// The growth of processor time and memory: twice the input may take three times as much, so four times the input nine times, which is easier
+// to tell from quadratic growth. Each shape returns, for a size, the call to be measured. PAIRS are of two inputs that a job reads together:
+// the work for one of them must not be repeated for each part of the other. Both grow, and in each direction one is larger.
 
+import { mkdtempSync, readFileSync, rmSync, writeFileSync } from 'node:fs';
+import { tmpdir } from 'node:os';
+import { join } from 'node:path';
+import { setFlagsFromString } from 'node:v8';
+import { runInNewContext } from 'node:vm';
+import { tableOf } from '../core/common.mjs';
+import { listedRows, replacedRows } from '../core/lists.mjs';
 import { recordOf, volumeOf } from '../core/strangers.mjs';
-import { calls, core, page } from '../page/page.mjs';
+import { calls, command, core, page } from '../page/page.mjs';
 import { readerOfUser } from './invariants.mjs';
 
 const { Fault } = await core('faults.js');
@@ -10,16 +18,22 @@ const { sheetOf } = await core('disc/cue.js');
 const { KnownDumps } = await core('disc/dat.js');
 const { fileOrder } = await core('iso/file_order.js');
 const { filesOf } = await core('iso/files.js');
-const { Crew, localWorker } = await core('crew/crew.js');
+const { Pool, localWorker } = await core('pool/pool.js');
 const { JOBS } = await core('jobs/jobs.js');
 const { replaceFile } = await core('tasks/replace_file.js');
 const { readScript } = await core('script/script.js');
 const { codesLeftOut } = await core('texts/codes.js');
-const { encodingOf, tableOf } = await core('encodings/encodings.js');
-const { replaceList } = await core('tasks/list.js');
-const { listRows, rowsOfLists } = await core('tasks/list_rows.js');
+const { encodingOf } = await core('encodings/encodings.js');
+const { rowsOfLists } = await core('tasks/list_rows.js');
 const { ScriptModel } = await core('script/model.js');
-const { mergedLines } = await core('script/merge_lines.js');
+const { mergedInTurns } = await core('script/merge_lines.js');
+const { openDisc } = await core('disc/disc.js');
+const { FilesAlong } = await core('texts/context.js');
+const { applyScript } = await core('tasks/apply.js');
+const { newTextsOf } = await core('tasks/table.js');
+const { Games, gameLines } = await command('games.js');
+const { LinesInOrder, unitsOf } = await command('scan_order.js');
+const { pathsOfSheet } = await command('sheet_files.js');
 const { readPatcherText } = await page('player/patcher.js');
 
 const USER = 2048;
@@ -30,17 +44,19 @@ const times = (count, textOf) => Array.from({ length: count }, (_, i) => textOf(
 const SMALLEST = 1 << 9;
 const LARGEST = 1 << 14;
 const ENOUGH = 60;
-/** Differences up to this many milliseconds are ignored. */
-const NOISE = 15;
+/** Differences up to this many milliseconds, and megabytes, are ignored. */
+const NOISE = { time: 15, memory: 100 };
 const LARGER = 4;
 const MOST = 9;
+/** Fewer characters than a text may have. */
+const LONGEST_TEXT = 60000;
+/** How many times the larger input of a pair has the size of the smaller one. */
+const SLANT = 8;
 
 const HEAD = 'block\toffset\ttext\tnew\n';
 const CP932 = encodingOf('CP932');
 
-const listed = list => async () => {
-    for await (const row of listRows(list)) void row;
-};
+const listed = list => () => listedRows(list);
 
 const PO_HEAD = 'msgid ""\nmsgstr ""\n"Content-Type: text/plain; charset=UTF-8\\n"\n\n#. room 9 bytes, CP932\n#: 28+0\nmsgid "a"\nmsgstr "b"\n\n';
 
@@ -53,11 +69,138 @@ function listedPo(lines) {
 /** Replaces the rows of a list in a small image. */
 function replaced(list) {
     const reader = readerOfUser(encoded('A'.repeat(4 * USER)));
+    return async () => replacedRows({ base: 0, sectors: 4, reader }, await listedRows(list), [CP932]);
+}
+
+const table = rows => HEAD + rows;
+
+/** A list in a file. */
+function listFile(name, text) {
+    const bytes = encoded(text);
+    return { name, reader: { size: bytes.length, read: async (at, length) => bytes.subarray(at, at + length) } };
+}
+
+/** A PO file of an entry with many places, in each of which the image has `A`. */
+function poAt(places, text, fresh) {
+    return `${PO_HEAD}#:${times(places, i => ` 0+${i % 4000}`)}\nmsgid "${text}"\nmsgstr "${fresh}"\n`;
+}
+
+/** Reads lists, and replaces their rows in a small image, in one encoding. */
+function importing(lists, encoding = CP932) {
+    const files = lists.map((text, i) => listFile(`list${i}.${text.startsWith('msgid') ? 'po' : 'tsv'}`, text));
+    const reader = readerOfUser(encoded('A'.repeat(4 * USER)));
     return async () => {
-        const rows = [];
-        for await (const row of listRows(list)) rows.push(row);
-        await replaceList(calls, { base: 0, sectors: 4, reader }, rows, () => [CP932], null);
+        const { rows } = await rowsOfLists(files);
+        await replacedRows({ base: 0, sectors: 4, reader }, rows, [encoding]);
+        await codesLeftOut(rows, () => [encoding]);
     };
+}
+
+/** Replaces rows of so many `x`, each of which has so many codes. The last code stands in the image. */
+function tabled(codes, rows) {
+    const own = tableOf(encoded(`41=A\n42=B\n${times(codes, i => `${(0x800000 + i).toString(16)}=x\n`)}`));
+    return importing([table(rows.map(count => `0\t0\t${'x'.repeat(count)}\tB\n`).join(''))], own);
+}
+
+/** Looks for files in a DAT whose entries have hashes of one digit. */
+function known(entries, digitOf, files) {
+    const dat = `<?xml version="1.0"?><datafile>${times(entries, i => `<rom name="a${i}.bin" size="2352" sha1="${digitOf(i).repeat(40)}"/>`)}</datafile>`;
+    return async () => {
+        const dumps = new KnownDumps();
+        await dumps.add((async function* () { yield encoded(dat); })());
+        for (let i = 0; i < files; i++) dumps.find(2352, { sha1: 'a'.repeat(40) }, `b${i}.bin`) ?? dumps.namesOfSize(2352);
+    };
+}
+
+/** Counts the games of a DAT, all with dumps of these hashes, for a collection of files. */
+function gamesIn(entries, files) {
+    const dat = `<datafile>${times(entries, i => `<game name="G${i}"><rom name="a" size="2352" sha1="${'a'.repeat(40)}"/></game>`)}</datafile>`;
+    return async () => {
+        const dumps = new KnownDumps();
+        await dumps.add((async function* () { yield encoded(dat); })());
+        const games = new Games(dumps);
+        for (let i = 0; i < files; i++) games.add(2352, { sha1: (i % 16).toString(16).repeat(40) });
+        gameLines(games.found(), true);
+    };
+}
+
+/** A cue sheet with a file for each track. */
+function sheetText(tracks) {
+    return times(tracks, i => `FILE "Track${i}.bin" BINARY\n  TRACK ${String(i + 1).padStart(2, '0')} MODE1/2352\n    INDEX 01 00:00:00\n`);
+}
+
+/** Finds the files that a sheet names in a directory of other files. */
+function sheetIn(named, there) {
+    const place = mkdtempSync(join(tmpdir(), 'growth-'));
+    for (let i = 0; i < there; i++) writeFileSync(join(place, `other${i}.bin`), '');
+    const sheet = { files: Array.from({ length: named }, (_, i) => ({ name: `Track${i}.bin` })) };
+    return () => {
+        try {
+            pathsOfSheet(join(place, 'a.cue'), [sheet, sheet]);
+        } finally {
+            rmSync(place, { recursive: true });
+        }
+    };
+}
+
+/** Puts the lines of sheets, each of which names some of the files of a collection, and of these files in order. */
+function linesInOrder(sheets, files) {
+    const named = i => Array.from({ length: 198 }, (_, k) => `${(i + k) % files}.bin`);
+    const names = [...Array.from({ length: sheets }, (_, i) => `${i}.cue`), ...Array.from({ length: files }, (_, i) => `${i}.bin`)];
+    const collection = { wanted: () => names.map(name => ({ name, real: name })), realOf: name => name,
+        filesNamedBy: ({ name }) => ({ names: name.endsWith('.cue') ? named(parseInt(name, 10)) : [], isWhole: true }) };
+    return () => {
+        const units = unitsOf(collection);
+        const order = new LinesInOrder(units);
+        for (const unit of units) order.add(unit, new Map(unit.names.map(name => [name, new Uint8Array(1)])));
+    };
+}
+
+/** Opens a cue sheet together with many files, of which some are its tracks. */
+function opening(tracks, files) {
+    const sector = calls.encode(calls.address(0), new Uint8Array(USER));
+    const reader = { size: sector.length, read: async (at, length) => sector.subarray(at, at + length) };
+    const given = Array.from({ length: files }, (_, i) => ({ name: `track${files - i - 1}.bin`, reader }));
+    return () => openDisc(calls, [listFile('a.cue', sheetText(tracks)), ...given]);
+}
+
+/** Applies patches to an image, in which they are spread. They may be more than the program accepts. */
+function applied(patches, sectors) {
+    const sector = calls.encode(calls.address(0), new Uint8Array(USER));
+    const image = Buffer.concat(Array(sectors).fill(sector));
+    const reader = { size: image.length, read: async (at, length) => image.subarray(at, at + length) };
+    const text = encoded(`cdpatch 1\n${times(patches, i => `set ${i * 7 % sectors} ${i % 2000} 41 was 42\n`)}`);
+    return async () => {
+        const script = await readScript(calls, (async function* () { yield text; })(), true);
+        await applyScript({ calls }, { base: 0, reader }, script, { take: async () => {} });
+    };
+}
+
+/** Replaces the rows of a PO file with an entry of so many characters and places, none of which has the text. */
+function replacedPo(characters, places) {
+    const read = listedPo(`#:${times(places, i => ` 0+${i}`)}\nmsgid "B${'A'.repeat(characters)}"\nmsgstr "${'{00}'.repeat(characters / 4)}"\n`);
+    return async () => {
+        const { rows } = await read();
+        await replacedRows({ base: 0, sectors: 4, reader: readerOfUser(encoded('A'.repeat(4 * USER))) }, rows, [CP932]);
+        await codesLeftOut(rows, () => [CP932]);
+    };
+}
+
+/** Replaces a row of a table of characters in an image of A. */
+function inTable(table, text) {
+    const reader = readerOfUser(encoded('A'.repeat(8 * USER)));
+    const row = { list: '', unit: 'row', number: 2, place: '', block: 0, offset: 0, room: -1, encoding: '', text, fresh: 'A', fault: null };
+    return () => replacedRows({ base: 0, sectors: 8, reader }, [row], [table]);
+}
+
+/** Replaces a row of a character with many codes. */
+function codedRow(codes, characters) {
+    return inTable(tableOf(encoded(`41=A\n${times(codes, i => `${(0x800000 + i).toString(16)}=x\n`)}`)), 'x'.repeat(characters));
+}
+
+/** Replaces a row of a character whose codes begin one another. */
+function ambiguousRow(characters) {
+    return inTable(tableOf(encoded('41=x\n4141=x\n414141=x\n42=B\n')), `${'x'.repeat(characters)}B`);
 }
 
 /** Counts the codes that the new text of a row leaves out. */
@@ -86,7 +229,7 @@ function replacedParts(count) {
         const names = { entries, files: entries, udf: false, own: new Map(), tables: [] };
         const image = { base: 0, reader, sectors };
         const opened = { image, part: image, contents: async () => ({ volume: names }) };
-        await replaceFile({ calls, crew: new Crew([localWorker(calls, JOBS)]) }, opened, { entries, newFile: empty });
+        await replaceFile({ calls, pool: new Pool([localWorker(calls, JOBS)]) }, opened, { entries, newFile: empty });
     };
 }
 
@@ -115,6 +258,9 @@ export const GROWTH = {
     'a PO file of escapes': size => listedPo(`msgid "a"\nmsgstr "${'\\n\\\\\\101'.repeat(size)}"\n`),
     'a PO file of quotes and backslashes': size => listedPo(`msgid "a"\nmsgstr "${'\\\\'.repeat(4 * size)}\\"${'\\"'.repeat(4 * size)}\n`),
     'a PO file of spaces and commas': size => listedPo(`#, ${' , '.repeat(4 * size)}\n#, ${' '.repeat(4 * size)}\nmsgid "a"\nmsgstr "b"\n`),
+    'a PO entry of a long text with many places': size => replacedPo(size, size / 16),
+    'a row of a character with many codes': size => codedRow(size, size),
+    'a row of codes that begin one another': size => ambiguousRow(size),
     'a table': size => () => tableOf(encoded(times(size, i => `${(0x8000 + i).toString(16)}=x${i}\n`))).text(new Uint8Array(9)),
     'a table of another tool': size => () => tableOf(encoded(`41=A\n${'@JP\n// a\n   \n'.repeat(size)}`)),
     'a table with spaces': size => () => tableOf(encoded(`41=A\n${' '.repeat(size)}B\n`)),
@@ -127,16 +273,79 @@ export const GROWTH = {
     'a script': size => () => readScript(calls, (async function* () { yield encoded(`cdpatch 1\n${times(size, i => `set ${i} 0 41\n`)}`); })()),
     'lines that are merged': size => () => {
         const lines = Array.from({ length: size - 1 }, (_, i) => `set ${i} 0 41 was 00`);
-        return mergedLines(new ScriptModel(calls, `cdpatch 1\n${lines.join('\n')}\n`), lines, () => true);
+        return mergedInTurns(new ScriptModel(calls, `cdpatch 1\n${lines.join('\n')}\n`), lines, () => true);
     },
     'a patcher of white space': size => () => readPatcherText(calls, `\ncdpatch-data 1 ${' '.repeat(size)}\n`),
 };
 
-/** The CPU time in milliseconds of the fastest of some runs. */
-async function timeOf(make, size, runs) {
+/** @type {[[string, string], (first: number, second: number) => () => any][]} */
+const PAIRS = [
+    [['codes of a character', 'characters of a row'], (codes, characters) => tabled(codes, [characters])],
+    [['codes of a character', 'rows'], (codes, rows) => tabled(codes, Array(rows).fill(10))],
+    [['entries of a table', 'rows'], (entries, rows) => importing([table(times(rows, i => `0\t${i % 1000}\tAAA\tx${i}\n`))],
+        tableOf(encoded(`41=A\n${times(entries, i => `${(0x800000 + i).toString(16)}=x${i}\n`)}`)))],
+    [['rows of a list', 'rows of another'], (first, second) => importing([first, second].map(count => table(times(count, i => `0\t${i % 1000}\tAAA\tB${i}\n`))))],
+    [['characters of an entry', 'its places'], (characters, places) => importing([poAt(places, `B${'A'.repeat(Math.min(8 * characters, LONGEST_TEXT))}`, 'C')])],
+    [['codes of an entry', 'its places'], (codes, places) => importing([poAt(places, `B${'A'.repeat(codes)}`, '{00}'.repeat(codes))])],
+    [['places of an entry', 'rows of a list'], (places, rows) => importing([poAt(places, 'AAA', 'BBB'), table(times(rows, i => `0\t${i % 1000}\tAAA\tC${i}\n`))])],
+    [['rows of a list', 'places that are asked for'], (rows, places) => async () => {
+        const { news } = await newTextsOf([listFile('a.tsv', table(times(rows, i => `0\t${i % 1000}\tAAA\tB${i}\n`)))]);
+        for (let i = 0; i < places; i++) news.of({ block: 0, offset: i % 1000, text: 'AAA' });
+    }],
+    [['entries of a DAT', 'files that have their hash'], (entries, files) => known(entries, () => 'a', files)],
+    [['entries of a DAT', 'files that have none'], (entries, files) => known(entries, i => (i % 8).toString(), files)],
+    [['games of a DAT', 'files of a collection'], gamesIn],
+    [['files of a cue sheet', 'files of a directory'], (named, there) => sheetIn(Math.min(named, 198), there / 8)],
+    [['cue sheets', 'files of a collection'], (sheets, files) => linesInOrder(Math.ceil(sheets / 64), files)],
+    [['tracks of a cue sheet', 'files that are given'], (tracks, files) => opening(Math.min(tracks, 99), files)],
+    [['lines of a cue sheet', 'its tracks'], (lines, tracks) => () => sheetOf(sheetText(Math.min(tracks, 99)) + 'REM a\n'.repeat(lines))],
+    [['patches', 'sectors'], (patches, sectors) => applied(patches, sectors / 16)],
+    [['lines of a script', 'lines that are added'], (lines, added) => {
+        const script = new ScriptModel(calls, `cdpatch 1\n${times(lines / 2, i => `set ${i % 1000} 0 41 was 00\n`)}`);
+        return () => mergedInTurns(script, Array.from({ length: added / 2 }, (_, i) => `set ${i % 1000} 0 42 was 00`), () => true);
+    }],
+    [['files over one another', 'places in them'], (files, places) => () => {
+        const along = new FilesAlong(Array.from({ length: files }, (_, i) => ({ path: `/${i}`, block: 20, size: 1e9, before: 0 })));
+        for (let i = 0; i < places; i++) along.with({ block: 20 + i, offset: 0 });
+    }],
+];
+
+for (const [[first, second], make] of PAIRS) {
+    GROWTH[`${first}, with ${second}`] = size => make(size, size / SLANT);
+    GROWTH[`${second}, with ${first}`] = size => make(size / SLANT, size);
+}
+
+setFlagsFromString('--expose-gc');
+const collectGarbage = runInNewContext('gc');
+
+/** The memory of this process in megabytes, and its largest value since it was reset; 0 where the system does not report them. */
+function memory() {
+    try {
+        const text = readFileSync('/proc/self/status', 'latin1');
+        return ['VmRSS', 'VmHWM'].map(key => Number(new RegExp(`^${key}:\\s*(\\d+) kB$`, 'm').exec(text)[1]) / 1024);
+    } catch {
+        return [0, 0];
+    }
+}
+
+/** Frees what can be freed, and returns the memory that is left. */
+function resetMemory() {
+    collectGarbage();
+    try {
+        writeFileSync('/proc/self/clear_refs', '5');
+    } catch {
+        // Not on this system.
+    }
+    return memory()[0];
+}
+
+/** The CPU time in milliseconds of the fastest of some runs, and their largest memory in megabytes, above the least that was left before one. */
+async function costOf(make, size, runs) {
+    const cost = { time: Infinity, memory: 0 };
     let least = Infinity;
     for (let i = 0; i < runs; i++) {
         const job = make(size);
+        least = Math.min(least, resetMemory());
         const begun = process.cpuUsage();
         try {
             await job();
@@ -144,20 +353,25 @@ async function timeOf(make, size, runs) {
             if (!(error instanceof Fault)) throw error;
         }
         const { user, system } = process.cpuUsage(begun);
-        least = Math.min(least, (user + system) / 1000);
+        cost.time = Math.min(cost.time, (user + system) / 1000);
+        cost.memory = Math.max(cost.memory, memory()[1] - least);
     }
-    return least;
+    return cost;
 }
 
-/** The reason why the time of a shape grows too fast, or null. An apparent failure is measured again. */
-export async function growthDefect(name) {
+/**
+ * Measures a shape. Returns what two sizes cost, and the reason why that grows too fast, or null. An apparent failure is measured again.
+ */
+export async function growthOf(name) {
     const make = GROWTH[name];
     let size = SMALLEST;
-    while (size < LARGEST && await timeOf(make, size, 2) < ENOUGH) size *= 2;
-    for (let runs = 1; runs <= 2; runs++) {
-        const [small, large] = [await timeOf(make, size, runs + 1), await timeOf(make, LARGER * size, runs)];
-        if (large <= MOST * small + NOISE) return null;
-        if (runs === 2) return `size ${size} takes ${small.toFixed()} ms, and ${LARGER * size} takes ${large.toFixed()} ms`;
+    while (size < LARGEST && (await costOf(make, size, 2)).time < ENOUGH) size *= 2;
+    for (let runs = 1; ; runs++) {
+        const [small, large] = [await costOf(make, size, runs + 1), await costOf(make, LARGER * size, runs)];
+        const over = ['time', 'memory'].filter(it => large[it] > MOST * small[it] + NOISE[it]);
+        const cost = ({ time, memory: megabytes }) => `${time.toFixed()} ms and ${megabytes.toFixed()} MB`;
+        const found = `size ${size} takes ${cost(small)}, and ${LARGER * size} takes ${cost(large)}`;
+        const twice = Math.sqrt(large.time / small.time).toFixed(1);
+        if (over.length === 0 || runs === 2) return { defect: over.length === 0 ? null : found, found: `twice as much takes ${twice} times as long: ${found}` };
     }
-    return null;
 }

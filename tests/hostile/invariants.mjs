@@ -2,6 +2,8 @@
 // generates random bytes of a kind; `read` throws an Error if a condition does not hold.
 
 import assert from 'node:assert/strict';
+import { tableOf } from '../core/common.mjs';
+import { listedRows, replacedRows } from '../core/lists.mjs';
 import { recordOf, volumeOf } from '../core/strangers.mjs';
 import { calls, core } from '../page/page.mjs';
 
@@ -11,9 +13,7 @@ const { Fault } = await core('faults.js');
 const { stretchesOf } = await core('texts/all_texts.js');
 const { rowText } = await core('texts/cells.js');
 const { cellOf, unitsOfCell } = await core('texts/codes.js');
-const { ENCODINGS, SEARCHED, tableOf } = await core('encodings/encodings.js');
-const { replaceList } = await core('tasks/list.js');
-const { listRows } = await core('tasks/list_rows.js');
+const { ENCODINGS, SEARCHED } = await core('encodings/encodings.js');
 
 const USER = 2048;
 const SECTORS = 40;
@@ -100,10 +100,9 @@ function madeList(dice) {
 
 /** Checks that each row is replaced or left, of repeated ones one, that no two lines write the same byte, and that the old bytes of each line are the image's. */
 async function readList(bytes) {
-    const rows = [];
-    for await (const row of listRows(decoded(bytes))) rows.push(row);
+    const rows = await listedRows(decoded(bytes));
     const reader = readerOfUser(SPREAD);
-    const { parts, left } = await replaceList(calls, { base: 0, sectors: 2, reader }, rows, () => SEARCHED, null);
+    const { parts, left } = await replacedRows({ base: 0, sectors: 2, reader }, rows, SEARCHED);
     const lines = parts.pieces.map(decoded).join('').split('\n').filter(line => line !== '');
     const written = new Set();
     for (const line of lines) {
@@ -140,7 +139,7 @@ async function readCell(bytes) {
         assert.equal(found, due, `${JSON.stringify(cell)} in ${encoding.name}`);
         for (const mark of ['\t', ',']) {
             const list = rowText(['block', 'offset', 'text', 'new'], mark) + rowText([0, 0, cell, 'x'], mark);
-            for await (const { text } of listRows(list)) assert.equal(text, cell, JSON.stringify(list));
+            for (const { text } of await listedRows(list)) assert.equal(text, cell, JSON.stringify(list));
         }
     }
 }

@@ -9,86 +9,22 @@ vectors=$top/crates/cd_low_tests/data/cdrkit-8.bin
 . "$tests/lib/judging.sh"
 cd "$scratch" || exit 1
 
-# Generates the numbers of the header for JavaScript and Python again, since the header may have changed since `make`.
-fresh_numbers() { ! command -v python3 > /dev/null || python3 -B "$top/tools/header_numbers.py"; }
-
-# without_module WHAT: whether there is no WebAssembly module. If so, records that WHAT is skipped.
-without_module() {
-    [ ! -f "$top/library/cdpatch.wasm" ] && skip "$1, whose module tools/wasm.sh makes with wasm-opt (Debian's package binaryen)"
-}
-
 # holds COMMAND..: whether a command succeeds; prints the end of its output if not. refuses COMMAND..: whether a command fails.
 holds() { { "$@" > log; } 2>> log || { tail -n 5 log; false; }; }
 refuses() { ! { "$@" > log; } 2> errors; }
 
-# some_fail COMMAND..: whether some cases of a command fail and others pass.
-some_fail() { refuses "$@" && tail -n 1 log | grep -qE '^[1-9][0-9]* passed, [1-9][0-9]* failed$'; }
-
 # by_cases WORD..: runs the worked cases on clients, which these words name (tests/cases/clients.py). by_random WORD..: runs random cases on
-# one client: RANDOM_CASES of them, by default 100, or 300 in the gate, from the seed SEED.
-random_cases=${RANDOM_CASES:-${WRONG_VERSIONS:+300}}
+# one client: RANDOM_CASES of them, by default 100, or 300 in the gate (GATE=1), from the seed SEED.
+random_cases=${RANDOM_CASES:-${GATE:+300}}
 random_cases=${random_cases:-100}
-by_cases() { bash "$tests/cases/run" model --without-model "$@"; }
-by_random() { TMPDIR=$PWD bash "$tests/model/run" --cases "$random_cases" --seed "${SEED:-1}" "$@"; }
+by_cases() { python3 -B "$tests/cases/judge.py" model --without-model "$@"; }
+by_random() { TMPDIR=$PWD python3 -B "$tests/model/compare.py" --cases "$random_cases" --seed "${SEED:-1}" "$@"; }
 
 # compiled NAME PURPOSE: compiles tests/process/NAME.c to NAME.so. If there is no compiler, records that PURPOSE is skipped, and fails.
 compiled() {
     gcc -shared -fPIC -O2 -o "$1.so" "$tests/process/$1.c" -ldl 2> compiler_errors ||
         skip "$2, which needs gcc and the C library's headers (Debian's packages gcc and libc6-dev)"
     [ -e "$1.so" ]
-}
-
-# judge_tap NAME: counts each test that node reported in `tap`, and records how many were skipped, and which command they need.
-judge_tap() {
-    local line count lacking
-    while IFS= read -r line; do
-        judge "$1: ${line#* - }" [ "${line%%ok *}" = '' ]
-    done < <(grep -v ' # SKIP no ' tap | sed -nE 's/^ *((not )?ok [0-9]+ - )/\1/p')
-    sed -nE "s/^ *ok [0-9]+ - (.*) # SKIP no .*/$1: \1/p" tap >> "$scratch/held"
-    while read -r count lacking; do
-        case $lacking in
-            iconv) lacking+=" (Debian's package libc-bin)" ;;
-            terminal) lacking="a terminal (Debian's package bsdutils)" ;;
-            right*) lacking="a $lacking" ;;
-            genisoimage | python3) lacking+=" (Debian's package $lacking)" ;;
-        esac
-        skip "$1: $count of its tests, which need $lacking"
-    done < <(sed -nE 's/^ *ok .* # SKIP no (.*)/\1/p' tap | sort | uniq -c)
-}
-
-# test_by_name WHAT WORD..: runs node's tests with these words, and counts each of them.
-test_by_name() {
-    judge "all tests of $1" tests_in_node "${@:2}"
-    judge_tap "$1"
-    [ "$failed" = 0 ] || grep -E -A 12 '^ *not ok' tap | head -n 60
-}
-
-tests_in_node() { node --test-reporter=tap "$@" > tap 2>&1; }
-
-# refuse_wrong SUITE WHAT EXPRESSION: tries the wrong versions of a suite: all of them with WRONG_VERSIONS=all, otherwise those that are new
-# or changed, and a fifth of the others. EXPRESSION is a sed command that converts the lines of `held` to the names of the tests that pass on
-# the right version.
-refuse_wrong() {
-    local verdict name why has_ended=false which=()
-    wrong_versions "wrong versions of the $2" || return
-    if [ "$WRONG_VERSIONS" = all ]; then which=(--record); else which=(--fifth "$(git -C "$top" rev-parse HEAD 2> /dev/null)"); fi
-    sed -n "$3" "$scratch/held" > passed
-    while read -r verdict name why; do
-        name=${name%:}
-        case $verdict in
-            tried)
-                has_ended=true
-                echo "wrong versions of the $2: $verdict $name $why"
-                ;;
-            refused)
-                judge "a wrong $2 is refused: ${name//_/ }" true
-                [ -z "$why" ] || echo "unsteady: a wrong $2 is refused: ${name//_/ }"
-                ;;
-            skipped) skip "a wrong $2 is refused: ${name//_/ }: $why" ;;
-            *) judge "a wrong $2 is refused: $verdict $name: $why" false ;;
-        esac
-    done < <(/usr/bin/python3 -B "$tests/wrong/versions.py" "$1" --passed passed "${which[@]}" 2>&1)
-    judge "the wrong ${2}s were tried to the end" "$has_ended"
 }
 
 # run WORD..: runs the program with these arguments. Its output is in `log` and `errors`, its status in `status`.

@@ -1,10 +1,10 @@
-# Gives a test script a scratch directory, which is removed at the end, and counts its tests.
+# Gives a suite in shell a scratch directory, which is removed at the end, and counts its tests. tests/run starts the suite with the program
+# as its argument, and reads its lines: 'FAILED: TEST', 'skipped: WHAT', and at the end 'N passed, M failed'.
 
 scratch=$(mktemp -d)
 trap 'rm -rf "$scratch"' EXIT
 passed=0
 failed=0
-skipped=()
 
 # limit NAME: prints the number of a row in the man page's table of limits.
 limit() {
@@ -13,35 +13,24 @@ limit() {
 
 . "$top/tests/lib/messages.sh"
 
-# judge NAME CONDITION..: counts a test that passes if a command succeeds. `held` lists the names of those that passed.
+# judge NAME CONDITION..: counts a test that passes if a command succeeds. If NAMED has lines, it counts only tests with one of them in their
+# names. The commands of the others run too, since later tests may need what they leave.
 judge() {
-    local name=$1
+    local name=$1 judged=0
     shift
-    if "$@"; then
+    "$@" || judged=1
+    if [ -n "${NAMED-}" ] && ! grep -qF -e "$NAMED" <<< "$name"; then
+        return 0
+    elif [ $judged = 0 ]; then
         passed=$((passed + 1))
-        echo "$name" >> "$scratch/held"
     else
         failed=$((failed + 1))
         echo "FAILED: $name"
     fi
 }
 
-# await_processor: waits until fewer jobs of this shell run than there are processors.
-await_processor() {
-    while [ "$(jobs -rp | wc -l)" -ge "$(nproc)" ]; do
-        wait -n
-    done
-}
-
-# skip WHAT: records that WHAT could not be tested here, or counts a failure if WHOLE is set.
-skip() {
-    if [ -n "${WHOLE-}" ]; then
-        judge "$1" false
-    else
-        skipped+=("$1")
-        echo "skipped: $1"
-    fi
-}
+# skip WHAT: says that WHAT could not be tested here. If WHOLE is set, tests/run takes that for a failure.
+skip() { echo "skipped: $1"; }
 
 # missing COMMAND PACKAGE [WHAT]: whether a command is missing. If so, records that WHAT is skipped.
 missing() {
@@ -49,15 +38,8 @@ missing() {
     skip "${3-a part}, which needs $1 (Debian's package $2)"
 }
 
-# wrong_versions WHICH: whether wrong versions are to be tried, that is, whether WRONG_VERSIONS is set. If not, records that they are left
-# out.
-wrong_versions() {
-    [ -n "${WRONG_VERSIONS-}" ] || ! echo "left out: $1"
-}
-
 # Prints the counts, and fails if a test failed.
 finish() {
-    [ ${#skipped[@]} = 0 ] || echo "${#skipped[@]} skipped"
     echo "$passed passed, $failed failed"
     [ "$failed" = 0 ]
 }

@@ -3,7 +3,7 @@
 #define _DEFAULT_SOURCE
 /* Calls are measured, and their results are not used. */
 #define CDPATCH_NODISCARD
-#include <cdpatch.h>
+#include "lent.h"
 #include <signal.h>
 #include <stdio.h>
 #include <stdlib.h>
@@ -43,16 +43,16 @@ static void carry_address(uint8_t n) { address[2] = n; cdpatch_carry_address(sec
 static void list_16(uint8_t n) { cdpatch_list(image, sizeof image, n, text, sizeof text, &length); }
 static void audit_16(uint8_t n) { text[n] = 0; cdpatch_audit(image, sizeof image, 0, text, sizeof text, &length); }
 static void check_16(uint8_t n) {
-    cdpatch_check(image, sizeof image, script, sizeof script - 1, 0, n % 2, text, sizeof text, &length);
+    cdpatch_check(image, sizeof image, script, sizeof script - 1, 0, n % 2, LENT, text, sizeof text, &length);
 }
 static void apply_16(uint8_t n) {
-    cdpatch_apply(image, sizeof image, script, sizeof script - 1, 0, n % 2, out, sizeof out, text, sizeof text, &length);
+    cdpatch_apply(image, sizeof image, script, sizeof script - 1, 0, n % 2, LENT, out, sizeof out, text, sizeof text, &length);
 }
 static void check_all_verbs(uint8_t n) {
-    cdpatch_check(image, sizeof image, all_verbs, sizeof all_verbs - 1, 0, n % 2, text, sizeof text, &length);
+    cdpatch_check(image, sizeof image, all_verbs, sizeof all_verbs - 1, 0, n % 2, LENT, text, sizeof text, &length);
 }
 static void apply_all_verbs(uint8_t n) {
-    cdpatch_apply(image, sizeof image, all_verbs, sizeof all_verbs - 1, 0, n % 2, out, sizeof out, text, sizeof text, &length);
+    cdpatch_apply(image, sizeof image, all_verbs, sizeof all_verbs - 1, 0, n % 2, LENT, out, sizeof out, text, sizeof text, &length);
 }
 
 /* Lines of a script whose first digit changes, and their patches. */
@@ -66,7 +66,7 @@ static char longest[8 + 2 * CDPATCH_PATCH_SIZE + 1], spaces[sizeof longest];
 
 static void read_as(char *line, size_t size, size_t digit, uint8_t n) {
     line[digit] = '0' + n % 10;
-    cdpatch_read_line(1, n, n, (const uint8_t *)line, size, &patch, new_bytes, old_bytes);
+    cdpatch_read_line(1, n, (const uint8_t *)line, size, &patch, new_bytes, old_bytes);
 }
 static void first_line(uint8_t n) {
     struct cdpatch_line line;
@@ -83,24 +83,24 @@ static void read_spaces(uint8_t n) { read_as(spaces, sizeof spaces - 1, sizeof s
 /* A patch on the first three sectors of the image. */
 static void apply_patch(uint8_t verb, uint16_t count, uint8_t n, bool carry) {
     patch = (struct cdpatch_patch){.offset = 5, .count = count, .verb = verb, .address = {0x00, 0x02, n % 10}};
-    if (verb > CDPATCH_FILL)
+    if (verb > CDPATCH_VERB_FILL)
         patch.offset = 0;
     new_bytes[0] = n;
     cdpatch_apply_patch(&patch, new_bytes, old_bytes, image, 3, carry, &place);
 }
-static void patch_set_1(uint8_t n) { apply_patch(CDPATCH_SET, 1, n, false); }
-static void patch_set_1_carried(uint8_t n) { apply_patch(CDPATCH_SET, 1, n, true); }
-static void patch_set_2043(uint8_t n) { apply_patch(CDPATCH_SET, 2043, n, false); }
-static void patch_rebuild(uint8_t n) { image[20] = n; apply_patch(CDPATCH_REBUILD, 0, n, false); }
-static void patch_address(uint8_t n) { apply_patch(CDPATCH_ADDRESS, 0, n, false); }
-static void patch_set_4096(uint8_t n) { apply_patch(CDPATCH_SET, 4096, n, false); }
-static void outcome_line(uint8_t n) { cdpatch_outcome_line(n, CDPATCH_DIFFERS, 449849, 2047, text); }
+static void patch_set_1(uint8_t n) { apply_patch(CDPATCH_VERB_SET, 1, n, false); }
+static void patch_set_1_carried(uint8_t n) { apply_patch(CDPATCH_VERB_SET, 1, n, true); }
+static void patch_set_2043(uint8_t n) { apply_patch(CDPATCH_VERB_SET, 2043, n, false); }
+static void patch_rebuild(uint8_t n) { image[20] = n; apply_patch(CDPATCH_VERB_REBUILD, 0, n, false); }
+static void patch_address(uint8_t n) { apply_patch(CDPATCH_VERB_ADDRESS, 0, n, false); }
+static void patch_set_4096(uint8_t n) { apply_patch(CDPATCH_VERB_SET, 4096, n, false); }
+static void outcome_line(uint8_t n) { cdpatch_outcome_line(n, CDPATCH_RESULT_DIFFERS, 449849, 2047, text); }
 static void last_line(uint8_t n) { cdpatch_last_line(UINT32_MAX, n, text); }
-static void fault_line(uint8_t n) { cdpatch_fault_line(UINT32_MAX, n % 10 + CDPATCH_NO_HEAD, text); }
+static void fault_line(uint8_t n) { cdpatch_fault_line(UINT32_MAX, n % 10 + CDPATCH_CONTENT_NO_HEAD, text); }
 static void list_line(uint8_t n) { cdpatch_list_line(n, UINT32_MAX, n % 5, text); }
 static void list_end(uint8_t n) { cdpatch_list_end(UINT32_MAX, n, text); }
 static void audit_line(uint8_t n) {
-    struct cdpatch_record record = {CDPATCH_MODE1, true, true, true, 86, n};
+    struct cdpatch_record record = {CDPATCH_KIND_MODE1, true, true, true, 86, n};
     cdpatch_audit_line(UINT32_MAX, &record, text);
 }
 static void audit_end(uint8_t n) { cdpatch_audit_end(UINT32_MAX, UINT32_MAX, UINT32_MAX, n, text); }
@@ -134,7 +134,7 @@ static void walk_to_each_step(void) {
         states[i] = run;
         next_step(i);
         moved[i + 1] = step.size;
-        if (step.kind == CDPATCH_READ)
+        if (step.kind == CDPATCH_STEP_READ)
             memcpy(hand, image + step.at, step.size);
     }
 }

@@ -39,8 +39,8 @@ def opened(path):
     library = ctypes.CDLL(path)
     number, size, pointer = ctypes.c_uint32, ctypes.c_size_t, ctypes.c_void_p
     shapes = {'first_line': (ctypes.c_bool, pointer, size, pointer),
-              'read_line': (number, number, number, size, pointer, size, pointer, pointer, pointer),
-              'apply_patch': (number, pointer, pointer, pointer, pointer, size, ctypes.c_bool, pointer),
+              'read_line': (number, number, size, pointer, size, pointer, pointer, pointer),
+              'apply_patch': (number, pointer, pointer, pointer, pointer, size, number, pointer),
               'survey': (ctypes.c_bool, pointer, size, number, pointer, size),
               'outcome_line': (size, number, number, number, ctypes.c_uint16, pointer),
               'last_line': (size, number, number, pointer),
@@ -83,7 +83,7 @@ def patches_of(library, text):
     version, number, made = 0, 0, []
     for number, (line, size) in enumerate(lines_of(library, text), 1):
         patch = Patch()
-        content = library.cdpatch_read_line(version, number, len(made), line, size, ctypes.byref(patch), new, old)
+        content = library.cdpatch_read_line(version, len(made), line, size, ctypes.byref(patch), new, old)
         if content == PATCH:
             bytes_of_each = patch.count if patch.verb == 0 else 0
             made.append((number, patch, new.raw[:bytes_of_each], old.raw[:bytes_of_each * (patch.has_old == 1)]))

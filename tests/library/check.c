@@ -14,7 +14,7 @@ static bool has_defect(const uint8_t *sector, bool zeros, bool edc, unsigned p, 
 static void check_codes(const uint8_t *sample, uint8_t *sector, uint8_t *user, uint8_t *address, unsigned n) {
     uint32_t word = cdpatch_edc(sector, 2064);
     judge(cdpatch_is_consistent(sector), "is consistent", n);
-    judge(cdpatch_kind(sector) == CDPATCH_MODE1, "is of Mode 1", n);
+    judge(cdpatch_kind(sector) == CDPATCH_KIND_MODE1, "is of Mode 1", n);
     judge(has_defect(sector, false, false, 0, 0), "has no defect", n);
     judge(sector[2064] == (word & 255) && sector[2067] == word >> 24, "EDC", n);
     memcpy(user, sample + 16, CDPATCH_USER_SIZE);
@@ -33,51 +33,51 @@ static void check_changes(const uint8_t *sample, uint8_t *sector, uint8_t *user,
     memset(user, (int)n, CDPATCH_USER_SIZE);
     memcpy(address, "\x12\x34\x56", 3);
     cdpatch_encode(address, user, wanted);
-    judge(cdpatch_change_user(sector, 0, user, CDPATCH_USER_SIZE) == CDPATCH_OK, "change_user", n);
-    judge(cdpatch_change_address(sector, address) == CDPATCH_OK, "change_address", n);
+    judge(cdpatch_change_user(sector, 0, user, CDPATCH_USER_SIZE) == CDPATCH_RESULT_OK, "change_user", n);
+    judge(cdpatch_change_address(sector, address) == CDPATCH_RESULT_OK, "change_address", n);
     judge(!memcmp(sector, wanted, CDPATCH_SECTOR_SIZE), "both changes", n);
     sector[2351] ^= 1;
     sector[2070] ^= 1;
     judge(has_defect(sector, true, false, 1, 2), "defect of a byte of Q parity and of one of the Intermediate field", n);
-    judge(cdpatch_carry_user(sector, 2047, sample + 2063, 1) == CDPATCH_OK, "carry_user", n);
-    judge(cdpatch_carry_user(sector, 0, sample + 16, 2047) == CDPATCH_OK, "carry_user of many bytes", n);
-    judge(cdpatch_carry_address(sector, sample + 12) == CDPATCH_OK, "carry_address", n);
+    judge(cdpatch_carry_user(sector, 2047, sample + 2063, 1) == CDPATCH_RESULT_OK, "carry_user", n);
+    judge(cdpatch_carry_user(sector, 0, sample + 16, 2047) == CDPATCH_RESULT_OK, "carry_user of many bytes", n);
+    judge(cdpatch_carry_address(sector, sample + 12) == CDPATCH_RESULT_OK, "carry_address", n);
     sector[2351] ^= 1;
     sector[2070] ^= 1;
     judge(!memcmp(sector, sample, CDPATCH_SECTOR_SIZE), "what is carried differs only in the damage", n);
     sector[2064] ^= 1;
     judge(!cdpatch_is_consistent(sector), "is damaged", n);
-    judge(cdpatch_rebuild(sector) == CDPATCH_OK && !memcmp(sector, sample, CDPATCH_SECTOR_SIZE), "rebuild", n);
+    judge(cdpatch_rebuild(sector) == CDPATCH_RESULT_OK && !memcmp(sector, sample, CDPATCH_SECTOR_SIZE), "rebuild", n);
 }
 
 static void check_refusals(uint8_t *sector, uint8_t *user, uint8_t *address, unsigned n) {
     uint8_t kept[CDPATCH_SECTOR_SIZE];
     static const size_t ranges[][2] = { {2048, 1}, {2049, 0}, {1, 2048}, {(size_t)-1, 2}, {2047, 2} };
-    static const uint32_t kinds[] = { CDPATCH_MODE0, CDPATCH_NOSYNC, CDPATCH_MODE2, CDPATCH_OTHER, CDPATCH_OTHER };
+    static const uint32_t kinds[] = { CDPATCH_KIND_MODE0, CDPATCH_KIND_NOSYNC, CDPATCH_KIND_MODE2, CDPATCH_KIND_OTHER, CDPATCH_KIND_OTHER };
     memcpy(kept, sector, sizeof kept);
     for (unsigned i = 0; i < 5; i++) {
-        judge(cdpatch_change_user(sector, ranges[i][0], user, ranges[i][1]) == CDPATCH_OUT_OF_RANGE, "range of change_user", n);
-        judge(cdpatch_carry_user(sector, ranges[i][0], user, ranges[i][1]) == CDPATCH_OUT_OF_RANGE, "range of carry_user", n);
+        judge(cdpatch_change_user(sector, ranges[i][0], user, ranges[i][1]) == CDPATCH_RESULT_OUT_OF_RANGE, "range of change_user", n);
+        judge(cdpatch_carry_user(sector, ranges[i][0], user, ranges[i][1]) == CDPATCH_RESULT_OUT_OF_RANGE, "range of carry_user", n);
     }
     judge(!memcmp(sector, kept, sizeof kept), "a refused range leaves the sector", n);
-    judge(cdpatch_change_user(sector, 2048, user, 0) == CDPATCH_OK, "no bytes at the end", n);
+    judge(cdpatch_change_user(sector, 2048, user, 0) == CDPATCH_RESULT_OK, "no bytes at the end", n);
     sector[20] ^= 1;
     judge(has_defect(sector, false, true, 1, 1), "defect of one byte", n);
     memcpy(kept, sector, sizeof kept);
-    judge(cdpatch_change_user(sector, 0, user, 1) == CDPATCH_DAMAGED, "change_user of a damaged sector", n);
-    judge(cdpatch_change_user(sector, 2048, user, 1) == CDPATCH_DAMAGED, "damage is tested before the range", n);
-    judge(cdpatch_change_address(sector, address) == CDPATCH_DAMAGED, "change_address of a damaged sector", n);
+    judge(cdpatch_change_user(sector, 0, user, 1) == CDPATCH_RESULT_DAMAGED, "change_user of a damaged sector", n);
+    judge(cdpatch_change_user(sector, 2048, user, 1) == CDPATCH_RESULT_DAMAGED, "damage is tested before the range", n);
+    judge(cdpatch_change_address(sector, address) == CDPATCH_RESULT_DAMAGED, "change_address of a damaged sector", n);
     judge(!memcmp(sector, kept, sizeof kept), "a refusal for damage leaves the sector", n);
     for (uint8_t mode = 0; mode < 5; mode++) {
         sector[15] = mode;
         sector[0] = mode == 1;
         memcpy(kept, sector, sizeof kept);
         judge(cdpatch_kind(sector) == kinds[mode], "kind", n);
-        judge(cdpatch_change_user(sector, 0, user, 1) == CDPATCH_NOT_MODE1, "change_user of another kind", n);
-        judge(cdpatch_carry_user(sector, 2048, user, 1) == CDPATCH_NOT_MODE1, "carry_user of another kind", n);
-        judge(cdpatch_change_address(sector, address) == CDPATCH_NOT_MODE1, "change_address of another kind", n);
-        judge(cdpatch_carry_address(sector, address) == CDPATCH_NOT_MODE1, "carry_address of another kind", n);
-        judge(cdpatch_rebuild(sector) == CDPATCH_NOT_MODE1, "rebuild of another kind", n);
+        judge(cdpatch_change_user(sector, 0, user, 1) == CDPATCH_RESULT_NOT_MODE1, "change_user of another kind", n);
+        judge(cdpatch_carry_user(sector, 2048, user, 1) == CDPATCH_RESULT_NOT_MODE1, "carry_user of another kind", n);
+        judge(cdpatch_change_address(sector, address) == CDPATCH_RESULT_NOT_MODE1, "change_address of another kind", n);
+        judge(cdpatch_carry_address(sector, address) == CDPATCH_RESULT_NOT_MODE1, "carry_address of another kind", n);
+        judge(cdpatch_rebuild(sector) == CDPATCH_RESULT_NOT_MODE1, "rebuild of another kind", n);
         judge(!memcmp(sector, kept, sizeof kept), "a refusal for the kind leaves the sector", n);
     }
 }
@@ -94,9 +94,9 @@ static void check_addresses(uint8_t *address) {
 static void check_nulls(const uint8_t *sample, uint8_t *sector, unsigned n) {
     memcpy(sector, sample, CDPATCH_SECTOR_SIZE);
     judge(cdpatch_edc(NULL, 0) == 0, "EDC of no bytes at a null pointer", n);
-    judge(cdpatch_change_user(sector, 7, NULL, 0) == CDPATCH_OK, "change_user of no bytes at a null pointer", n);
-    judge(cdpatch_carry_user(sector, 2048, NULL, 0) == CDPATCH_OK, "carry_user of no bytes at a null pointer", n);
-    judge(cdpatch_change_user(sector, 2049, NULL, 0) == CDPATCH_OUT_OF_RANGE, "their range", n);
+    judge(cdpatch_change_user(sector, 7, NULL, 0) == CDPATCH_RESULT_OK, "change_user of no bytes at a null pointer", n);
+    judge(cdpatch_carry_user(sector, 2048, NULL, 0) == CDPATCH_RESULT_OK, "carry_user of no bytes at a null pointer", n);
+    judge(cdpatch_change_user(sector, 2049, NULL, 0) == CDPATCH_RESULT_OUT_OF_RANGE, "their range", n);
     judge(!memcmp(sector, sample, CDPATCH_SECTOR_SIZE), "no bytes change nothing", n);
 }
 

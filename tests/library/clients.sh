@@ -1,8 +1,22 @@
-# Tests the client that is printed in cdpatch.h on files that fail, and the examples when memory is refused. tests/library/run and
-# examples.sh define the other functions.
+# Tests the two programs that are printed in cdpatch.h, the second on files that fail, and the examples when memory is refused.
+# tests/library/run and examples.sh define the other functions.
+
+# printed_program HEADER: prints the simplest program, with which the header begins.
+printed_program() { sed -n '/by one call:$/,/^ \* A program that reads/s/^ \* \{5\}//p' "$1"; }
+
+simplest_as_program() { client=./simplest_program piped_as_program "$@"; }
+
+test_printed_program() {
+    printed_program "$header" > simplest.c
+    printf 'cdpatch 1\nset 16 40 434452544F4F4C\n' > simplest
+    judge 'the simplest program that the header prints compiles as it stands there' \
+        gcc -std=c99 -O2 "${strict[@]}" simplest.c library/libcdpatch.a -o simplest_program
+    judge 'it makes and prints what cdpatch does' simplest_as_program long simplest
+    judge 'of an empty image too' simplest_as_program /dev/null simplest
+}
 
 # printed_client HEADER: prints the complete client that the header contains.
-printed_client() { sed -n '/This is a whole client:$/,/^ \* What goes out/s/^ \* \{5\}//p' "$1"; }
+printed_client() { sed -n '/This is a whole client:$/,/^ \* Image, log, and status/s/^ \* \{5\}//p' "$1"; }
 
 # compiled_client: compiles header_client with client.inc.
 compiled_client() { gcc -std=c99 -O2 "${strict[@]}" -I . "$tests/library/header_client.c" library/libcdpatch.a -o header_client 2> errors; }
@@ -18,19 +32,8 @@ client_fills_a_disk() {
     (trap '' XFSZ && ulimit -f 200 && ./header_client none < blank)
 }
 
-# wrong_client EXPRESSION TEST..: whether a sed expression changes the client, and the test fails on the changed client.
-wrong_client() {
-    local expression=$1
-    shift
-    cp client.inc right.inc
-    sed "$expression" right.inc > client.inc
-    ! cmp -s right.inc client.inc && compiled_client && ! "$@"
-    local refused=$?
-    cp right.inc client.inc
-    return $refused
-}
-
 test_printed_client() {
+    test_printed_program
     printed_client "$header" > client.inc
     judge 'the client that the header prints compiles as it stands there' compiled_client
     judge 'it has status 2 at each byte at which a file of it fails' holds ./header_client
@@ -48,9 +51,6 @@ test_printed_client() {
         judge 'with sizes in two enums it would not' eval '! cmp -s cdpatch.h "$header" && ! g++ -x c++ -std=c++20 -Wall -Werror -I . \
             -c "$tests/library/header_client.c" -o plus.o 2> errors'
     fi
-    wrong_versions 'wrong clients' || return
-    judge 'a client is refused that takes a failed file for the end' wrong_client '/CDPATCH_MOVE_FAILED/d' holds ./header_client
-    judge 'one is refused that leaves bytes in a buffer' wrong_client 's/fflush(out) || //' holds ./header_client
 }
 
 # forgets CALL: writes `forgets.c`, a program that ignores the result of a call.
@@ -107,9 +107,4 @@ test_refused_memory() {
     judge 'examples/patch_pipe.c says so if there is no memory for its script' survives 3000 40 ./patch_pipe wide
     judge 'examples/audit.c says so if there is none for the image or the text' survives 40 180 ./audit sparse
     judge 'examples/patch_map.c says so if there is none for a map' survives 3000 40 ./patch_map --without-old wide sparse
-    wrong_versions 'wrong examples' || return
-    judge 'one is refused that reads a script into memory that it did not get' wrong_example patch_pipe.c \
-        's/ && (grown = realloc(text, room)) != NULL/ \&\& ((grown = realloc(text, room)), true)/;s/room - \*size, file/room - *size, text ? file : NULL/' \
-        patch_pipe survives 3000 40 ./patch_pipe wide
-    judge 'one is refused that audits into such memory' wrong_example audit.c 's/if (!text)/if (false)/' audit survives 40 180 ./audit sparse
 }

@@ -6,6 +6,9 @@ from functools import lru_cache
 FAILED = 2
 KEPT = b'\xA5'
 MORE = 40  # guard bytes after the memory that a call may write
+ENTRY_SIZE = 20
+BUFFERS_SIZE = 3 * 2352 + 2 * 4096
+MOST_PATCHES = 65535
 
 
 @lru_cache
@@ -37,7 +40,9 @@ def run(path, command, image, base, carry, script):
         arguments += sized(script)
     arguments.append(ctypes.c_uint32(base))
     if command in ('check', 'apply'):
-        arguments.append(ctypes.c_bool(carry))
+        most = min(script.count(b'\n') + 1, MOST_PATCHES)
+        lent = [ctypes.create_string_buffer(KEPT * (size + MORE), size + MORE) for size in (most * ENTRY_SIZE, BUFFERS_SIZE)]
+        arguments += [ctypes.c_uint32(carry), lent[0], ctypes.c_size_t(most), lent[1]]
     if command == 'apply':
         arguments += [out, ctypes.c_size_t(len(image))]
     status = getattr(opened(path), 'cdpatch_' + command)(*arguments, text, ctypes.c_size_t(room), ctypes.byref(length))

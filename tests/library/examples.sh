@@ -16,19 +16,6 @@ ends_with() {
     [ "$status" = "$wanted" ]
 }
 
-# wrong_example FILE EXPRESSION PROGRAM TEST..: whether a sed expression changes an example, and the test fails on the changed example,
-# compiled as PROGRAM. The right program is restored afterwards.
-wrong_example() {
-    local file=$1 expression=$2 made=$3
-    shift 3
-    sed "$expression" "$top/examples/$file" > wrong_example.c
-    ! cmp -s "$top/examples/$file" wrong_example.c && cp "$made" kept_example || return
-    gcc -std=c99 -O2 -I "$top/include" wrong_example.c library/libcdpatch.a -o "$made" 2> errors && ! "$@"
-    local refused=$?
-    mv kept_example "$made"
-    return $refused
-}
-
 audits_a_pipe() { ./audit <(cat "$1"); }
 audits_to_full() { ./audit "$1" > /dev/full; }
 
@@ -46,9 +33,6 @@ test_audit_example() {
     judge 'it fails on a directory' ends_with 2 ./audit .
     judge 'it fails on a pipe' ends_with 2 audits_a_pipe damaged
     judge 'it fails on a device' ends_with 2 ./audit /dev/zero
-    wrong_versions 'wrong examples' || return
-    judge 'one is refused that takes a pipe for an empty file' wrong_example audit.c 's/!S_ISREG(about.st_mode)/false/' audit \
-        ends_with 2 audits_a_pipe damaged
 }
 
 # piped_as_program IMAGE SCRIPT: whether examples/patch_pipe.c, or a different `client`, has the result, the output, and the status of
@@ -119,16 +103,6 @@ test_pipe_example() {
     judge 'of an image that is too long it prints the patches before the end, and the error' log_of_a_long_image late 999999
     judge 'and so without a patch near the end' log_of_a_long_image none 1000000
     judge 'it refuses a script that is too long' log_of_a_long_script
-    if wrong_versions 'wrong examples'; then
-        judge 'one is refused that takes a failed read for the end' wrong_example patch_pipe.c \
-            's/if (!ferror(file))/if (true)/;s/!feof(stdin)/!feof(stdin) \&\& !ferror(stdin)/' patch_pipe ends_with 2 pipes_a_directory
-        judge 'one is refused that passes on one piece' wrong_example patch_pipe.c 's/while (moved < size/if (moved < size/' patch_pipe \
-            pipes_in_memory 2000
-        judge 'one is refused that holds a whole script of its own size' wrong_example patch_pipe.c 's/PIECE = 65536/PIECE = 16777216/' patch_pipe \
-            pipes_in_memory 2000
-        judge 'one is refused that cuts a script short' wrong_example patch_pipe.c 's/> CDPATCH_MOST_SCRIPT_BYTES/> PIECE/' \
-            patch_pipe log_of_a_long_script
-    fi
     missing valgrind valgrind 'patch_pipe.c under valgrind' || judge 'valgrind has no complaint about it' eval \
         'valgrind -q --leak-check=full --error-exitcode=9 --log-file=complaints ./patch_pipe script < long > out 2> log; test $? = 1'
 }
@@ -154,12 +128,6 @@ takes_a_later_version_by_lines() {
     PYTHONPATH=$tests/library python3 -B -c 'import sys; from by_lines import run; image = open(sys.argv[1], "rb").read()
 status, log, out = run("./later.so", "apply", image, 0, False, b"cdpatch 9\naddress 0 12:34:56\n")
 sys.exit((status, log, out[12:15]) != (0, b"line 2: applied\napplied 1 refused 0\n", b"\x12\x34\x56"))' "$vectors"
-}
-
-wrong_later_map() {
-    sed 's/ && content <= CDPATCH_NO_VERSION//' "$top/examples/patch_map.c" > wrong_example.c
-    ! cmp -s "$top/examples/patch_map.c" wrong_example.c &&
-        gcc -std=c99 -O2 -I "$top/include" wrong_example.c later.a -o later_map 2> errors && ! names_a_later_line ./later_map
 }
 
 # maps_as_program STATUS IMAGE WORD..: whether patch_map.c has this status, prints the log of `cdpatch apply`, and gives a copy of the image
@@ -218,7 +186,6 @@ test_map_example() {
     missing valgrind valgrind 'patch_map.c under valgrind' || judge 'valgrind has no complaint about it' eval \
         'cp "$vectors" mapped; valgrind -q --error-exitcode=9 --log-file=complaints ./patch_map with_old mapped > log; test $? = 0'
     test_later_library
-    test_wrong_map
 }
 
 test_later_library() {
@@ -226,24 +193,7 @@ test_later_library() {
     later_library
     gcc -std=c99 -O2 "${strict[@]}" "$top/examples/patch_map.c" later.a -o later_map 2> errors
     judge 'it reads a later version of the language' names_a_later_line ./later_map
-    missing python3 python3 'a later library from Python' ||
-        judge 'so does a client by lines in Python' takes_a_later_version_by_lines
-    wrong_versions 'wrong examples' && judge 'one is refused that takes a later version for an error' wrong_later_map
-}
-
-test_wrong_map() {
-    wrong_versions 'wrong examples' || return
-    judge 'one is refused that writes before all is decided' wrong_example patch_map.c 's/CDPATCH_WRITE && writes/CDPATCH_WRITE/' patch_map \
-        maps_as_program 1 "$vectors" differing
-    judge 'one is refused that writes the patches that are not refused' wrong_example patch_map.c '/^    if (status != CDPATCH_DONE)/,+1d' \
-        patch_map maps_as_program 1 "$vectors" differing
-    judge 'one is refused that needs no old bytes' wrong_example patch_map.c 's/ && !patch.has_old//;s/== CDPATCH_PATCH)/== 99)/' patch_map \
-        keeps_the_file filling mapped
-    judge 'one is refused that writes nothing' wrong_example patch_map.c 's/run(script, image, true)/0/' patch_map \
-        maps_as_program 0 "$vectors" with_old
-    judge 'one is refused that takes a pipe for an empty file' wrong_example patch_map.c 's/ || !S_ISREG(about.st_mode)//' patch_map \
-        keeps_the_file <(cat with_old) mapped
-    judge 'one is refused whose log is lost' wrong_example patch_map.c '/^    if (fflush/,+1d' patch_map ends_with 2 maps_to_full
+    judge 'so does a client by lines in Python' takes_a_later_version_by_lines
 }
 
 test_examples() {

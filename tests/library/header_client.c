@@ -68,25 +68,27 @@ static int differs(const char *what, size_t at) {
 
 static int try_faults(void) {
     static uint8_t out[SIZE], log[10000];
+    static struct cdpatch_entry entries[CDPATCH_MOST_PATCHES];
+    static struct cdpatch_buffers buffers;
     size_t length;
     uint8_t user[2048] = {0}, address[3];
     for (uint32_t block = 0; block < SECTORS && cdpatch_address(block, address); block++)
         cdpatch_encode(address, user, (uint8_t *)image.bytes + 2352 * block);
-    int due = (int)cdpatch_apply((const uint8_t *)image.bytes, SIZE, (const uint8_t *)script, sizeof script - 1, 0, false, out, SIZE, log,
-                                 sizeof log, &length);
+    int due = (int)cdpatch_apply((const uint8_t *)image.bytes, SIZE, (const uint8_t *)script, sizeof script - 1, 0, 0, entries,
+                                 CDPATCH_MOST_PATCHES, &buffers, out, SIZE, log, sizeof log, &length);
     if (status_of(NEVER, NEVER, NEVER) != due || made.at != SIZE || memcmp(out, made.bytes, SIZE) || logged.at != length ||
         memcmp(log, logged.bytes, length)) {
         puts("a client is not cdpatch_apply");
         return 1;
     }
     for (size_t at = 0; at <= SIZE; at += at < SIZE - 300 ? 98 : 1)
-        if (status_of(at, NEVER, NEVER) != CDPATCH_FAILED)
+        if (status_of(at, NEVER, NEVER) != CDPATCH_STATUS_FAILED)
             return differs("read", at);
     for (size_t at = 0; at < SIZE; at += at < SIZE - 300 ? 98 : 1)
-        if (status_of(NEVER, at, NEVER) != CDPATCH_FAILED)
+        if (status_of(NEVER, at, NEVER) != CDPATCH_STATUS_FAILED)
             return differs("write", at);
     for (size_t at = 0; at < length; at++)
-        if (status_of(NEVER, NEVER, at) != CDPATCH_FAILED)
+        if (status_of(NEVER, NEVER, at) != CDPATCH_STATUS_FAILED)
             return differs("log", at);
     return 0;
 }

@@ -1,4 +1,4 @@
-# Tests clients of the installed library, and clients of earlier releases. tests/library/run defines the other functions.
+# Tests clients of the installed library. tests/library/run defines the other functions.
 
 # with_package PREFIX COMMAND..: runs a command that can find the installed package.
 with_package() {
@@ -9,12 +9,9 @@ with_package() {
 
 # Installs the library below root/usr as a package does, without the toolchain, from a tree of links to the sources and to the built files.
 install_tree() {
-    mkdir tree completions
-    : | tee completions/{_cdpatch,cdpatch.bash} > completions/cdpatch.fish
+    mkdir tree
     ln -s "$top"/* tree
-    rm -rf tree/{cdpatch,cdscript,cdpatch.html,library,completions}
-    ln -s "$program" tree/cdpatch
-    ln -s "$PWD"/{library,completions} tree
+    ln -sf "$program" tree/cdpatch
     install_once_more DESTDIR="$PWD/root" PREFIX=/usr
     documents=$PWD/root/usr/share/doc/cdpatch
 }
@@ -31,19 +28,11 @@ compiles_below_a_space() {
         [ "$(with_package "$PWD/with space" ./ten_lines_below)" = '5F0017BC 1' ]
 }
 
-# compiles_without_quotes: the same with a cdpatch.pc without quotes.
-compiles_without_quotes() {
-    local pc='with space/lib/pkgconfig/cdpatch.pc'
-    sed -i 's/"//g' "$pc"
-    flags=$(with_package "$PWD/with space" pkg-config --cflags --libs cdpatch)
-    eval "gcc -std=c99 \"\$tests/library/ten_lines.c\" $flags -o ten_lines_below" 2> errors
-}
-
-# compiles_as_said PREFIX LIBDIR NUMBER [PAGE]: whether ten_lines.c compiles with the NUMBERth command for pkg-config in INSTALL, with
+# compiles_as_said PREFIX LIBDIR NUMBER: whether ten_lines.c compiles with the NUMBERth command for pkg-config in INSTALL, with
 # PREFIX in place of `moved`, and prints the right result.
 compiles_as_said() {
     local command
-    command=$(grep -E '^    cc .*pkg-config' "${4-$documents/docs/INSTALL.md}" | sed -n "$3p")
+    command=$(grep -E '^    cc .*pkg-config' "$documents/docs/INSTALL.md" | sed -n "$3p")
     rm -f a.out
     cp "$tests/library/ten_lines.c" program.c
     ln -sfn "$1" moved_link
@@ -56,12 +45,9 @@ test_moved_deeper() {
     install_once_more DESTDIR="$PWD/deep" PREFIX=/usr libdir=/usr/lib/some-triplet
     judge 'pkg-config with the new prefix, as INSTALL says' compiles_as_said "$PWD/root/usr" "$PWD/root/usr/lib" 2
     judge 'and with a deeper directory of libraries' compiles_as_said "$deep" "$deep/lib/some-triplet" 2
-    wrong_versions 'another option for pkg-config' || return
-    sed 's/--define-variable=[^ ]*/--define-prefix/' "$documents/docs/INSTALL.md" > other.md
-    judge 'another option for pkg-config is refused' refuses compiles_as_said "$deep" "$deep/lib/some-triplet" 2 other.md
 }
 
-# is_linked_statically: whether the last compiled program does not need libcdpatch.so.1.
+# is_linked_statically: whether the last compiled program does not need libcdpatch.so.2.
 is_linked_statically() { readelf -d a.out > log && ! grep -q libcdpatch log; }
 
 test_static() {
@@ -70,10 +56,6 @@ test_static() {
     judge 'it is the static one' is_linked_statically
     judge 'libcdpatch(3) says the same' test "$(sed -n '/^cc program/{N;s/ \\e\n */ /;s/^/    /p}' "$top/man/libcdpatch.3")" = \
         "$(grep -m 1 '^    cc .*pkg-config' "$documents/docs/INSTALL.md")"
-    wrong_versions 'another static library' || return
-    sed 's/-l:libcdpatch.a/-lcdpatch/' "$documents/docs/INSTALL.md" > other.md
-    judge 'a command for the shared one' compiles_as_said "$PWD/plain" "$PWD/plain/lib" 1 other.md
-    judge 'is refused' refuses is_linked_statically
 }
 
 test_pkg_config() {
@@ -92,7 +74,6 @@ test_pkg_config() {
     said=$(with_package "$moved" pkg-config --define-prefix --variable=libdir cdpatch)
     judge 'pkg-config finds what was moved' test "$said" = "$moved/lib"
     judge 'pkg-config below a prefix with a space' compiles_below_a_space
-    wrong_versions 'a wrong cdpatch.pc' && judge 'a cdpatch.pc without quotes is refused' refuses compiles_without_quotes
     [ ${#builds[@]} = 1 ] || judge 'the loader takes the build for x86-64-v3' \
         grep -q '/glibc-hwcaps/x86-64-v3/' <(LD_TRACE_LOADED_OBJECTS=1 with_package "$PWD/root/usr" ./ten_lines)
 }
@@ -112,22 +93,21 @@ unsuitable() {
 }
 
 test_cmake() {
-    local cdpatch_version
+    local cdpatch_version major before
     missing cmake cmake 'find_package of an installed library' && return
     cdpatch_version=$("$program" --help | sed -n '$s/cdpatch //p')
+    major=${cdpatch_version%%.*}
+    before=$((major - 1))
     judge 'find_package(cdpatch)' cmake_takes ''
-    judge 'find_package of an earlier version' cmake_takes 1.0
-    judge 'find_package of a later one' refuses cmake_takes 1.99
-    judge 'find_package of another first number' refuses cmake_takes 0.9
-    judge 'find_package of a range' cmake_takes 1.0...1.99
-    judge 'find_package of a range that ends with it' cmake_takes "1.0...$cdpatch_version"
-    judge 'find_package of a range that ends before it' refuses cmake_takes 1.0...1.1
-    judge 'find_package of a range that ends just before it' refuses cmake_takes "1.0...<$cdpatch_version"
-    judge 'find_package of a range after it' refuses cmake_takes 1.98...1.99
+    judge 'find_package of the first version with its first number' cmake_takes "$major.0"
+    judge 'find_package of a later one' refuses cmake_takes "$major.99"
+    judge 'find_package of another first number' refuses cmake_takes "$before.9"
+    judge 'find_package of a range' cmake_takes "$major.0...$major.99"
+    judge 'find_package of a range that ends with it' cmake_takes "$before.0...$cdpatch_version"
+    judge 'find_package of a range that ends before it' refuses cmake_takes "$before.0...$before.9"
+    judge 'find_package of a range that ends just before it' refuses cmake_takes "$before.0...<$cdpatch_version"
+    judge 'find_package of a range after it' refuses cmake_takes "$major.98...$major.99"
     judge 'find_package for 32-bit pointers' test "$(unsuitable 8) $(unsuitable 4)" = 'no yes'
-    wrong_versions 'a wrong version file of CMake' || return
-    sed -i '/^if(PACKAGE_FIND_VERSION_RANGE)$/,/^endif()$/d' moved/lib/cmake/cdpatch/cdpatch-config-version.cmake
-    judge 'a version file that knows no ranges is refused' cmake_takes 1.0...1.1
 }
 
 # rust_as_program IMAGE: whether examples/damaged.rs prints the blocks for which `cdpatch audit` prints more than the address.
@@ -192,7 +172,7 @@ wheel() { rm -rf wheels && "$1" -m pip --disable-pip-version-check wheel --no-in
 has_what_a_wheel_must() {
     rm -rf contents
     "$1" -m zipfile -e wheels/cdpatch-*-py3-none-manylinux_2_34_x86_64.whl contents &&
-        cmp -s library/NOTICES contents/cdpatch-*.dist-info/licenses/NOTICES && [ -e contents/cdpatch/libcdpatch.so.1 ] &&
+        cmp -s library/NOTICES contents/cdpatch-*.dist-info/licenses/NOTICES && [ -e contents/cdpatch/libcdpatch.so.2 ] &&
         grep -qx 'Root-Is-Purelib: false' contents/*.dist-info/WHEEL &&
         [ "$(sed -nE '/^$/q; s/^(Author|Classifier|License-File|Description-Content-Type): .*/\1/p' contents/*.dist-info/METADATA | uniq |
             paste -sd ' ')" = 'Author Classifier License-File Description-Content-Type' ] &&
@@ -205,17 +185,13 @@ test_wheel() {
     rm bare/cdpatch/_numbers.py
     judge 'a wheel without the numbers of the header is refused' refuses wheel "$python" ./bare
     cp -r root/usr/share/cdpatch/python bundle
-    cp library/libcdpatch.so.1 bundle/cdpatch
+    cp library/libcdpatch.so.2 bundle/cdpatch
     judge 'a wheel with the library and no notices is refused' refuses wheel "$python" ./bundle
     cp library/NOTICES bundle/cdpatch
     judge 'a wheel with its library' holds wheel "$python" ./bundle
     judge 'it is for this system only, with the notices' has_what_a_wheel_must "$python"
     "$python" -m pip --disable-pip-version-check install --no-index --quiet --target site2 wheels/*.whl > log 2>&1
     judge 'a client in Python, by that wheel' python_as_program env PYTHONPATH=site2 "$python"
-    wrong_versions 'wrong wheels' || return
-    refuses_backend 's/pure = not _has_library(files)/pure = True/' "$python" 'takes itself for any system'
-    refuses_backend 's/^    if not pure:$/    if False:/' "$python" 'has the notices elsewhere'
-    refuses_backend "s/needs + (help_text or '')/''/" "$python" 'has no description'
 }
 
 # says_what_it_needs DIRECTORY: whether a source archive unpacked there has no library, and says that it needs one.
@@ -231,24 +207,9 @@ test_sdist() {
     judge 'pip makes a package of it' holds "$python" -m pip --disable-pip-version-check install --no-index --quiet --target site3 sdist/*.tar.gz
     judge 'which works with an installed library' python_as_program env PYTHONPATH=site3 LD_LIBRARY_PATH=root/usr/lib "$python"
     judge 'and names it if there is none' eval '! env -u CDPATCH_LIBRARY PYTHONPATH=site3 "$python" -B -c "import cdpatch" 2> log &&
-        grep -q "ImportError: cdpatch cannot load its library: libcdpatch.so.1" log'
+        grep -q "ImportError: cdpatch cannot load its library: libcdpatch.so.2" log'
     tar -C sdist -xzf sdist/*.tar.gz
     judge 'it says what it needs' says_what_it_needs sdist
-    wrong_versions 'a wrong archive of the sources' || return
-    sed 's/if Path(name).name not in (\*LIBRARIES, NOTICES)/if name/' bundle/backend.py > bundle/other.py
-    mkdir sdist2
-    (cd bundle && "$python" -B -c 'import other; other.build_sdist("../sdist2")') && tar -C sdist2 -xzf sdist2/*.tar.gz
-    judge 'one with the library is refused' refuses says_what_it_needs sdist2
-}
-
-# refuses_backend EXPRESSION PYTHON WHAT: judges that the wheel of a backend changed by a sed expression is refused.
-refuses_backend() {
-    rm -rf other_bundle
-    cp -r bundle other_bundle
-    sed -i "$1" other_bundle/backend.py
-    judge "a backend is another whose wheel $3" refuses cmp -s bundle/backend.py other_bundle/backend.py
-    judge "there is a wheel that $3" holds wheel "$2" ./other_bundle
-    judge "a wheel is refused that $3" refuses has_what_a_wheel_must "$2"
 }
 
 # An editable package is the package in its directory.
@@ -262,78 +223,9 @@ test_editable() {
     judge 'and what is edited is taken' eval "[ \"\$(LD_LIBRARY_PATH=root/usr/lib venv/bin/python -B -c 'import cdpatch; print(*cdpatch.KINDS)')\" = edited ]"
 }
 
-# library_of MAP DIRECTORY: builds a shared library as an earlier release had it, with the calls that a version script lists.
-library_of() {
-    mkdir "$2"
-    gcc -shared -Wl,-soname,libcdpatch.so.1 -Wl,--version-script="$1" -Wl,--whole-archive library/libcdpatch.a -Wl,--no-whole-archive \
-        -o "$2/libcdpatch.so.1"
-}
-
-# A program linked to 1.1.0 requires no version of a call, since that library had no versions.
-test_clients_of_1_1() {
-    local test build
-    printf '{ global: cdpatch_*; local: *; };' > calls.map
-    library_of calls.map old
-    for test in check images; do
-        compiled_test "$test" old/libcdpatch.so.1 "old/$test"
-        judge "a client of a library without versions asks for none: $test.c" eval \
-            "test -x old/$test && ! readelf -VW old/$test | grep -q CDPATCH_"
-        for build in "${builds[@]}"; do
-            judge "it runs with $build" holds env LD_LIBRARY_PATH="${build%/*}" "old/$test" "$vectors"
-        done
-    done
-    # A library that lacks a call of 1.1.0.
-    printf '{ global: cdpatch_[!k]*; local: *; };' > calls.map
-    library_of calls.map gone
-    judge 'a library in which a call is gone is refused' refuses env LD_LIBRARY_PATH=gone old/check "$vectors"
-}
-
-# compiled_before HEADERS TEST: compiles a test in C with the header of an earlier release, which is in the directory HEADERS, and with the
-# calls of that release. The header of 1.2.0 had no limits.
-compiled_before() {
-    local limits=()
-    grep -q CDPATCH_MOST_PATCHES "$1/cdpatch.h" ||
-        limits=("-DCDPATCH_MOST_PATCHES=$(limit 'patches of a script')" "-DCDPATCH_MOST_SCRIPT_BYTES=$(limit 'bytes of a script')")
-    gcc -std=c99 -O2 -Wall -Wextra -Werror -pedantic -I "$1" -DEARLIER_HEADER "${limits[@]}" "$tests/library/$2.c" before/libcdpatch.so.1 -o "before/$2" 2> errors
-}
-
-# test_clients_of RELEASE TEST..: programs built with the header and the library of a release require the versions of the calls in that
-# release, and run with this library. Leaves the last release in `before`.
-test_clients_of() {
-    local release=$1 second=${1#1.} test build arguments
-    rm -rf before
-    library_of "$tests/library/$release/calls.map" before
-    for test in "${@:2}"; do
-        [ "$test" = steps ] && arguments=() || arguments=("$vectors")
-        compiled_before "$tests/library/$release" "$test"
-        judge "a client of $release asks for its versions: $test.c" eval \
-            "readelf -VW before/$test | grep -q CDPATCH_1.[1-${second%.*}] && ! readelf -VW before/$test | grep -qE 'CDPATCH_1.([$((${second%.*} + 1))-9]|[12][0-9])'"
-        for build in "${builds[@]}"; do
-            judge "it runs with $build" holds env LD_LIBRARY_PATH="${build%/*}" "before/$test" "${arguments[@]}"
-        done
-    done
-}
-
-test_clients_of_earlier_releases() {
-    test_clients_of 1.3.0 check images scripts digest steps
-    test_clients_of 1.2.0 check images scripts digest
-    # A library in which a call of 1.2.0 has a later version; and below, a header with a struct that has changed.
-    sed 's/cdpatch_read_line;//; s/cdpatch_run_next;/& cdpatch_read_line;/' "$top/tools/libcdpatch.map" > calls.map
-    library_of calls.map raised
-    judge 'a library in which a call has another version is refused' refuses env LD_LIBRARY_PATH=raised before/scripts "$vectors"
-    mkdir exchanged
-    sed 's/uint16_t offset; uint16_t count;/uint16_t count; uint16_t offset;/' "$tests/library/1.2.0/cdpatch.h" > exchanged/cdpatch.h
-    compiled_before exchanged scripts
-    judge 'a header with another record is another' refuses cmp -s "$tests/library/1.2.0/cdpatch.h" exchanged/cdpatch.h
-    judge 'a library whose records were others is refused' refuses env LD_LIBRARY_PATH=library before/scripts "$vectors"
-}
-
 test_installed() {
     compiler gcc 'gcc and libc6-dev' || return
-    test_clients_of_1_1
-    test_clients_of_earlier_releases
     test_forgotten_results
-    missing make make 'an installed library' && return
     install_tree
     test_python_client
     missing pkg-config pkg-config 'pkg-config of an installed library' && return

@@ -5,11 +5,11 @@
 
 enum { LATER_VERSION = 256 };
 
-enum cdpatch_content right_read_line(uint32_t version, uint32_t number, size_t earlier, const uint8_t *line, size_t size,
+enum cdpatch_content right_read_line(uint32_t version, size_t earlier, const uint8_t *line, size_t size,
                                      struct cdpatch_patch *patch, uint8_t *new_bytes, uint8_t *old_bytes);
-enum cdpatch_content cdpatch_read_line(uint32_t version, uint32_t number, size_t earlier, const uint8_t *line, size_t size,
+enum cdpatch_content cdpatch_read_line(uint32_t version, size_t earlier, const uint8_t *line, size_t size,
                                        struct cdpatch_patch *patch, uint8_t *new_bytes, uint8_t *old_bytes) {
     if (version == 0 && size == 9 && !memcmp(line, "cdpatch 9", 9))
         return (enum cdpatch_content)LATER_VERSION;
-    return right_read_line(version == LATER_VERSION ? CDPATCH_VERSION_2 : version, number, earlier, line, size, patch, new_bytes, old_bytes);
+    return right_read_line(version == LATER_VERSION ? CDPATCH_CONTENT_VERSION_2 : version, earlier, line, size, patch, new_bytes, old_bytes);
 }

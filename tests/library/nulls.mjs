@@ -21,7 +21,7 @@ function sector() {
 function patch() {
     const room = new Room(PATCH);
     const line = new TextEncoder().encode('set 5 0 41');
-    calls.call('cdpatch_read_line', 1, 1, new Size(0), line, new Size(line.length), room, new Room(PATCH_BYTES), new Room(PATCH_BYTES));
+    calls.call('cdpatch_read_line', 1, new Size(0), line, new Size(line.length), room, new Room(PATCH_BYTES), new Room(PATCH_BYTES));
     return room.bytes;
 }
 
@@ -41,7 +41,7 @@ const rows = [
     ['change_user', none => [new Room(sector()), new Size(7), none, new Size(0)]],
     ['carry_user', none => [new Room(sector()), new Size(2049), none, new Size(0)]],
     ['first_line', none => [none, new Size(0), new Room(LINE)]],
-    ['read_line', none => [1, 1, new Size(0), none, new Size(0), new Room(PATCH), new Room(PATCH_BYTES), new Room(PATCH_BYTES)]],
+    ['read_line', none => [1, new Size(0), none, new Size(0), new Room(PATCH), new Room(PATCH_BYTES), new Room(PATCH_BYTES)]],
     ['apply_patch', none => [patch(), new Uint8Array(PATCH_BYTES), new Uint8Array(PATCH_BYTES), none, new Size(0), true, new Room(8)]],
     ['sha1_add', none => [new Room(begun()), none, new Size(0)]],
     ['list', none => [none, new Size(0), 0, new Room(100), new Size(100), new Room(8)]],
@@ -62,7 +62,7 @@ function made(name, given) {
 
 let failures = 0;
 for (const [name, given] of rows) {
-    const [wanted, got] = [made(name, given(NONE)), made(name, given(new Size(0)))];
+    const [wanted, got] = [made(name, given(NONE)), made(name, given(0))];
     if (wanted !== got) console.log(`${name}: ${got} and not ${wanted}`);
     failures += Number(wanted !== got);
 }

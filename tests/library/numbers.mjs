@@ -5,6 +5,9 @@ import { pathToFileURL } from 'node:url';
 /** @type {Record<string, number | Record<string, number>>} */
 const numbers = await import(pathToFileURL(process.argv[2]).href);
 
+/** @type {Record<string, string>} the prefix of the members of an enum that has another name */
+const PREFIXES = { SECTOR_KIND: 'KIND', STEP_KIND: 'STEP', RUN_FLAG: 'FLAG' };
+
 /** @param {string} fact */
 const holds = fact => console.log(`_Static_assert(${fact}, "");`);
 
@@ -22,7 +25,7 @@ for (const [name, value] of Object.entries(numbers)) {
     }
     const struct = structOf(name);
     for (const [member, number] of Object.entries(value)) {
-        if (struct === '') holds(`CDPATCH_${member} == ${number}`);
+        if (struct === '') holds(`CDPATCH_${PREFIXES[name] ?? name}_${member} == ${number}`);
         else if (member === 'BYTES') holds(`sizeof(${struct}) == ${number}`);
         else holds(`offsetof(${struct}, ${member.toLowerCase()}) == ${number}`);
     }

@@ -6,11 +6,12 @@ import sys
 from pathlib import Path
 
 TYPES = {'u8': 'uint8_t', 'u16': 'uint16_t', 'u32': 'uint32_t', 'u64': 'uint64_t', 'usize': 'size_t', 'bool': 'bool'}
-NAMES = {'bcd': 'address', 'found': 'defect'}  # parameters with different names in C
+NAMES = {'bcd': 'address', 'found': 'defect', 'used': 'length'}  # parameters with different names in C
 NAMES_IN = {('cdpatch_result_text', 'number'): 'result'}
+PREFIXES = {'cdpatch_sector_kind': 'KIND', 'cdpatch_step_kind': 'STEP', 'cdpatch_run_flag': 'FLAG'}  # others are the enum's name
 STRUCTS = {'FoundDefect': 'cdpatch_defect', 'SectorRecord': 'cdpatch_record', 'TextLine': 'cdpatch_line',
            'FlatPatch': 'cdpatch_patch', 'Place': 'cdpatch_place', 'DigestState': 'cdpatch_sha1', 'Entry': 'cdpatch_entry',
-           'Rooms': 'cdpatch_rooms', 'RunStep': 'cdpatch_step'}
+           'Rooms': 'cdpatch_rooms', 'Buffers': 'cdpatch_buffers', 'RunStep': 'cdpatch_step'}
 # A struct with private fields: C sees 64-bit words.
 WORDS = {'ScriptRun': 'cdpatch_run'}
 BYTES = {'u8': 1, 'u16': 2, 'u32': 4, 'u64': 8, 'usize': 8}
@@ -65,10 +66,16 @@ def of_c(call, parameter, constants):
     return [made if changes else 'const ' + made] + ['size_t'] * bool(piece)
 
 
-def fields_of(struct, body):
+def fields_of(struct, body, source):
     """The types and names of a struct's fields."""
     made = []
     for name, kind in re.findall(r'^    (?:pub )?(\w+): ([^,]+),$', body, re.M):
+        if kind in STRUCTS:  # a struct in a struct is written out
+            made += fields_of(kind, body_of(kind, source), source)
+            continue
+        if kind.startswith('[Sector; '):
+            made.append('uint8_t hand[7056]')
+            continue
         item, _, count = kind.strip('[]').partition('; ')
         count = next((named for named, sources in SIZES.items() if count in sources), count)
         made.append(('bool' if (struct, name) in FLAGS else TYPES[item]) + f' {name}' + (f'[{count}]' if count else ''))
@@ -94,9 +101,10 @@ def words_of(struct, source):
     return -(-at // 8)
 
 
-def numbered(pairs):
-    """The names for numbers that count from 0. A pair may occur more than once."""
-    made = sorted({(int(number), 'CDPATCH_' + name.upper()) for name, number in pairs})
+def numbered(enum, pairs):
+    """The names for numbers that count from 0, with the prefix of their enum. A pair may occur more than once."""
+    prefix = 'CDPATCH_' + PREFIXES.get(enum, enum.removeprefix('cdpatch_').upper()) + '_'
+    made = sorted({(int(number), prefix + name.upper()) for name, number in pairs})
     return [name if number == place else f'{name} = {number}' for place, (number, name) in enumerate(made)]
 
 
@@ -111,7 +119,7 @@ def exports(source):
         made[name] = [answered, *(c for parameter in parameters for c in of_c(name, parameter, sizes))]
     for struct, name in STRUCTS.items():
         body = body_of(struct, source)
-        made[f'struct {name}'] = fields_of(struct, body) if body else None
+        made[f'struct {name}'] = fields_of(struct, body, source) if body else None
     for struct, name in WORDS.items():
         made[f'struct {name}'] = [f'uint64_t state[{words_of(struct, source)}]']
     results = [(name, number) for name, number in re.findall(r'pub const (\w+): u32 = (\d+);', source)
@@ -120,15 +128,14 @@ def exports(source):
     contents += [('NOTHING', number) for number in re.findall(r'LineContent::PassedOver\) => (\d+),', source)]
     contents += [(f'VERSION_{place}', number) for place, number in enumerate(re.findall(r'Version::\w+ => (\d+),', source), 1)]
     contents += [pair for pair in constants if pair[0] in ('PATCH', 'NO_VERSION')]
-    made['enum cdpatch_result'], made['enum cdpatch_content'] = numbered(results), numbered(contents)
-    made['enum cdpatch_status'] = numbered(pair for pair in constants if pair[0] in ('DONE', 'FOUND', 'FAILED'))
-    made['enum cdpatch_verb'] = numbered(pair for pair in constants if pair[0] in ('SET', 'FILL', 'REBUILD', 'ADDRESS'))
-    made['enum cdpatch_step_kind'] = numbered(pair for pair in constants if pair[0] in ('END', 'READ', 'COPY', 'WRITE', 'LOG'))
-    made['enum cdpatch_sector_kind'] = numbered(pair for pair in constants if pair[0] in KINDS)
+    numbers = {'result': results, 'content': contents}
+    for name, found in (('status', ('DONE', 'FOUND', 'FAILED')), ('verb', ('SET', 'FILL', 'REBUILD', 'ADDRESS')), ('sector_kind', KINDS),
+                        ('step_kind', ('END', 'READ', 'COPY', 'WRITE', 'LOG')), ('run_flag', ('CARRY', 'NO_COPY', 'WITHOUT_OLD'))):
+        numbers[name] = [pair for pair in constants if pair[0] in found]
+    made.update((f'enum cdpatch_{name}', numbered(f'cdpatch_{name}', pairs)) for name, pairs in numbers.items())
     for name, sources in SIZES.items():
         made[name] = sorted({number.replace('_', '') for each, number in constants if each in sources})
     made.update(ARRAYS)
-    made['enum cdpatch_run_flag'] = numbered(pair for pair in constants if pair[0] in ('CARRY', 'NO_COPY', 'WITHOUT_OLD'))
     made['CDPATCH_VERSION_NUMBER'] = [number for name, number in constants if name == 'VERSION']
     made['CDPATCH_VERSION'] = [f'{int(number) // 10000}.{int(number) // 100 % 100}.{int(number) % 100}'
                                for number in made['CDPATCH_VERSION_NUMBER']]

@@ -10,7 +10,7 @@
 #include <stdlib.h>
 #include <string.h>
 
-enum { SECTOR = CDPATCH_SECTOR_SIZE, MOST_SECTORS = 6, MOST_BYTES = MOST_SECTORS * SECTOR + 5000, MOST_ARGUMENTS = 16, CALLS = 33 };
+enum { SECTOR = CDPATCH_SECTOR_SIZE, MOST_SECTORS = 6, MOST_BYTES = MOST_SECTORS * SECTOR + 5000, MOST_ARGUMENTS = 16, MOST_ENTRIES = 12, CALLS = 33 };
 
 static uint64_t state;
 static uint8_t sectors[MOST_BYTES], bytes[MOST_BYTES], old_bytes[MOST_BYTES], out[MOST_BYTES], address[3], address_room[3];
@@ -21,6 +21,8 @@ static struct cdpatch_place place;
 static struct cdpatch_defect defect;
 static struct cdpatch_record records[MOST_SECTORS];
 static struct cdpatch_sha1 sha1;
+static struct cdpatch_entry entries[MOST_ENTRIES];
+static struct cdpatch_buffers buffers;
 static size_t length;
 
 /* ---- the record of a call */
@@ -158,12 +160,12 @@ static void make_patch(void) {
     size_t count = make_line((char *)text);
     fill(bytes, CDPATCH_PATCH_SIZE);
     fill(old_bytes, CDPATCH_PATCH_SIZE);
-    if (cdpatch_read_line(1 + (uint32_t)some(2), 1, 0, text, count, &patch, bytes, old_bytes) != CDPATCH_PATCH)
+    if (cdpatch_read_line(1 + (uint32_t)some(2), 0, text, count, &patch, bytes, old_bytes) != CDPATCH_CONTENT_PATCH)
         patch = (struct cdpatch_patch){(uint32_t)some_number(), (uint16_t)some(2060), (uint16_t)some(4100), (uint8_t)some(5), (uint8_t)some(3),
                                        (uint8_t)some(256), {0, 2, (uint8_t)some(256)}};
     if (once_in(9))
         ((uint8_t *)&patch)[some(14)] = (uint8_t)some(256);
-    if (patch.verb == CDPATCH_SET && patch.has_old == 1 && once_in(2))
+    if (patch.verb == CDPATCH_VERB_SET && patch.has_old == 1 && once_in(2))
         for (size_t i = 0; i < patch.count && i < CDPATCH_PATCH_SIZE; i++) {
             size_t user = patch.offset + i;
             old_bytes[i] = sectors[user / CDPATCH_USER_SIZE % MOST_SECTORS * SECTOR + 16 + user % CDPATCH_USER_SIZE];
@@ -204,28 +206,30 @@ static void patch_image(bool applies) {
     size_t count = once_in(6) ? 0 : make_sectors(MOST_SECTORS) * SECTOR + some(once_in(2) ? 1 : SECTOR), rooms = some(once_in(3) ? 60 : 600);
     size_t script_size = make_script(), out_size = once_in(6) ? some(count + 1) : count + some(9);
     uint32_t base = (uint32_t)(once_in(9) ? some_number() : some(4));
-    bool carry = once_in(2);
+    uint32_t flags = (uint32_t)some(9);
     uint8_t *image = (uint8_t *)lent(sectors, count), *script = (uint8_t *)lent(bytes, script_size), *to = (uint8_t *)lent(text, rooms);
     uint8_t *made = (uint8_t *)lent(out, out_size);
     begin(applies ? "apply" : "check");
-    input(image, count), size(count), input(script, script_size), size(script_size), number(base), number(carry);
+    input(image, count), size(count), input(script, script_size), size(script_size), number(base), number(flags);
+    room(entries, sizeof entries), size(MOST_ENTRIES), room(&buffers, sizeof buffers);
     if (applies)
         room(made, out_size), size(out_size);
     room(to, rooms), size(rooms), room(&length, 8);
     if (applies)
-        end(cdpatch_apply(image, count, script, script_size, base, carry, made, out_size, to, rooms, &length));
+        end(cdpatch_apply(image, count, script, script_size, base, flags, entries, MOST_ENTRIES, &buffers, made, out_size, to,
+                          rooms, &length));
     else
-        end(cdpatch_check(image, count, script, script_size, base, carry, to, rooms, &length));
+        end(cdpatch_check(image, count, script, script_size, base, flags, entries, MOST_ENTRIES, &buffers, to, rooms, &length));
 }
 
 static void on_line(void) {
-    uint32_t version = (uint32_t)(once_in(20) ? some_number() : some(3)), line_number = (uint32_t)some_number();
+    uint32_t version = (uint32_t)(once_in(20) ? some_number() : some(3));
     size_t count = once_in(12) ? 0 : make_line((char *)text), earlier = once_in(6) ? some_size() : some(70000);
     uint8_t *from = (uint8_t *)lent(text, count);
     begin("read_line");
-    number(version), number(line_number), size(earlier), input(from, count), size(count), room(&patch, sizeof patch);
+    number(version), size(earlier), input(from, count), size(count), room(&patch, sizeof patch);
     room(bytes, CDPATCH_PATCH_SIZE), room(old_bytes, CDPATCH_PATCH_SIZE);
-    end(cdpatch_read_line(version, line_number, earlier, from, count, &patch, bytes, old_bytes));
+    end(cdpatch_read_line(version, earlier, from, count, &patch, bytes, old_bytes));
 }
 static void on_text(void) {
     size_t count = make_script(), from = some(count + 1);
@@ -280,7 +284,7 @@ static void on_report_lines(uint64_t which) {
     uint32_t kind = (uint32_t)(once_in(5) ? some_number() : some(6));
     uint16_t tail = (uint16_t)some(once_in(5) ? 65536 : SECTOR);
     begin((const char *const[]){"list_line", "list_end", "audit_line", "audit_end"}[which]);
-    *records = (struct cdpatch_record){(uint8_t)(once_in(3) ? some(6) : CDPATCH_MODE1), once_in(2), once_in(2), once_in(2),
+    *records = (struct cdpatch_record){(uint8_t)(once_in(3) ? some(6) : CDPATCH_KIND_MODE1), once_in(2), once_in(2), once_in(2),
                                        (uint8_t)(once_in(2) ? 0 : some(256)), (uint8_t)(once_in(2) ? 0 : some(256))};
     number(first);
     switch (which) {

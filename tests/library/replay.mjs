@@ -14,7 +14,7 @@ const SHOWN = 10;
  */
 function argument(input) {
     const letter = String.fromCharCode(input.take(1)[0]);
-    if (letter === 'z') return { given: new Size(0) };
+    if (letter === 'z') return { given: 0 };
     if (letter === 'n') return { given: Number(input.number(8)) };
     if (letter === 's') return { given: new Size(input.number(8)) };
     const size = Number(input.number(4));

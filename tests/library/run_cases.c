@@ -2,65 +2,10 @@
  * sectors. A case is a line of JSON, followed by image, script, log, and new image. Log and status are those of PROGRAM, and the new image is
  * that of cdpatch_apply; if they disagree, run_cases fails. A long image is blank except for some sectors: only these are printed, and the
  * new ones are those of a run of this library. One case in four runs without old bytes: the script for PROGRAM then has none. */
-#include "some_cases.h"
-#include <fcntl.h>
-#include <sys/wait.h>
-#include <unistd.h>
+#include "by_program.h"
+#include "lent.h"
 
 enum { SOME_BLOCKS = 12, LAST_SECTORS = 999996 };
-
-static const char *program;
-
-static void check_that(bool holds, const char *what) {
-    if (!holds) {
-        perror(what);
-        exit(2);
-    }
-}
-
-static void save(const char *name, const uint8_t *bytes, size_t size) {
-    FILE *file = fopen(name, "wb");
-    check_that(file && fwrite(bytes, 1, size, file) == size && fclose(file) == 0, name);
-}
-
-/* The bytes of a file, or none if it does not exist. */
-static uint8_t *load(const char *name, size_t *size) {
-    FILE *file = fopen(name, "rb");
-    *size = 0;
-    if (!file)
-        return more(NULL, 1);
-    check_that(fseek(file, 0, SEEK_END) == 0, name);
-    *size = (size_t)ftell(file);
-    rewind(file);
-    uint8_t *bytes = more(NULL, *size);
-    check_that(fread(bytes, 1, *size, file) == *size && fclose(file) == 0, name);
-    return bytes;
-}
-
-/* The status of a command on the files `image` and `script`. It writes `log`, and `out` if it creates one. */
-static uint32_t by_program(const char *command, uint32_t base, bool carry) {
-    char number[16];
-    int status = 0;
-    snprintf(number, sizeof number, "%u", base);
-    unlink("out");
-    pid_t child = fork();
-    if (child == 0) {
-        const char *words[9] = {program, command, "--base", number}, **word = words + 4;
-        if (carry)
-            *word++ = "--carry";
-        *word++ = "image";
-        *word++ = "script";
-        if (!strcmp(command, "apply"))
-            *word = "out";
-        int log = open("log", O_WRONLY | O_CREAT | O_TRUNC, 0600);
-        dup2(log, 1);
-        dup2(log, 2);
-        execv(program, (char **)(uintptr_t)words);
-        _exit(99);
-    }
-    check_that(child > 0 && waitpid(child, &status, 0) == child && WIFEXITED(status), "the program");
-    return (uint32_t)WEXITSTATUS(status);
-}
 
 static void print_parts(const uint8_t *const *parts, const size_t *sizes) {
     for (int i = 0; i < 4; i++)
@@ -87,12 +32,13 @@ static void print_case(unsigned number, uint64_t seed) {
     save("script", script, script_size);
     uint32_t status = by_program("check", it.base, it.carry);
     uint8_t *log = load("log", &log_size);
-    check_that(cdpatch_apply(it.image, it.size, script, script_size, it.base, it.carry, made, it.size, text, it.log_room, &length) == status &&
+    check_that(cdpatch_apply(it.image, it.size, script, script_size, it.base, it.carry, LENT, made, it.size, text, it.log_room,
+                             &length) == status &&
                    length == log_size && !memcmp(text, log, length) && (number % 16 > 0 || applies(&it, made, status)),
                "the program and cdpatch_apply differ");
     size_t made_size = status == 2 ? 0 : it.size;
     printf("{\"base\":%u,\"flags\":%d,\"status\":%u,\"blank\":0,\"blocks\":[],\"sizes\":[%zu,%zu,%zu,%zu]}\n", it.base,
-           it.carry * CDPATCH_CARRY + without_old * CDPATCH_WITHOUT_OLD, status, it.size, it.script_size, log_size, made_size);
+           it.carry * CDPATCH_FLAG_CARRY + without_old * CDPATCH_FLAG_WITHOUT_OLD, status, it.size, it.script_size, log_size, made_size);
     print_parts((const uint8_t *const[]){it.image, it.script, log, made}, (size_t[]){it.size, it.script_size, log_size, made_size});
     free(made);
     free(text);
@@ -111,7 +57,7 @@ static void some_long_case(uint64_t *dice, struct long_case *it, unsigned number
     uint8_t user[CDPATCH_USER_SIZE], address[3] = {0, 2, 0};
     it->size = 2352000000u + more_bytes[number % 4] - (number % 5 == 4 ? below(dice, 3 * SECTOR) : 0);
     it->base = bases[below(dice, 3)];
-    it->flags = below(dice, 2) * CDPATCH_CARRY + (number == 5) * CDPATCH_NO_COPY;
+    it->flags = below(dice, 2) * CDPATCH_FLAG_CARRY + (number == 5) * CDPATCH_FLAG_NO_COPY;
     for (uint32_t i = 0; i < SOME_BLOCKS; i++) {
         it->numbers[i] = i < 4 ? i : LAST_SECTORS + i - 4;
         some_bytes(dice, user, sizeof user);
@@ -141,7 +87,7 @@ static size_t pass(const struct long_case *it, const struct cdpatch_step *step, 
         uint64_t at = (uint64_t)it->numbers[i] * SECTOR;
         if (at < step->at || at + SECTOR > step->at + size)
             continue;
-        memcpy(out + made, step->kind == CDPATCH_COPY ? it->sectors[i] : hand, SECTOR);
+        memcpy(out + made, step->kind == CDPATCH_STEP_COPY ? it->sectors[i] : hand, SECTOR);
         made += SECTOR;
     }
     return made;
@@ -158,14 +104,14 @@ static size_t run_long(const struct long_case *it, uint8_t *out) {
     cdpatch_run_begin(&run, it->script, it->script_size, it->base, it->size, it->flags, entries, SMALL_ROOM);
     for (;; done = step.size) {
         cdpatch_run_next(&run, done, it->script, it->script_size, entries, SMALL_ROOM, hand, CDPATCH_SECTORS_IN_HAND, &rooms, &step);
-        if (step.kind == CDPATCH_END)
+        if (step.kind == CDPATCH_STEP_END)
             return made;
-        if (step.kind == CDPATCH_READ) {
+        if (step.kind == CDPATCH_STEP_READ) {
             uint32_t i = index_at(it, step.at);
             memset(hand + step.place, 0, step.size);
             if (i < SOME_BLOCKS)
                 memcpy(hand + step.place, it->sectors[i], step.size);
-        } else if (step.kind != CDPATCH_LOG)
+        } else if (step.kind != CDPATCH_STEP_LOG)
             made += pass(it, &step, step.size, hand, out + made);
     }
 }

@@ -46,19 +46,19 @@ static bool ends(uint64_t *dice, const struct some_case *it, size_t sectors, boo
         memset(lent.step, 0xA5, sizeof *lent.step);
         cdpatch_run_next(lent.run, done, it->script, it->script_size, lent.entries + (SMALL_ROOM - room), room, lent.hand, sectors,
                          lent.rooms, lent.step);
-        if (lent.step->status > 2 || lent.step->kind > CDPATCH_LOG)
+        if (lent.step->status > 2 || lent.step->kind > CDPATCH_STEP_LOG)
             return false;
-        if (lent.step->kind == CDPATCH_END)
+        if (lent.step->kind == CDPATCH_STEP_END)
             return true;
-        if (lent.step->size == 0 || (lent.step->kind == CDPATCH_LOG && lent.step->size > CDPATCH_LINE_SIZE))
+        if (lent.step->size == 0 || (lent.step->kind == CDPATCH_STEP_LOG && lent.step->size > CDPATCH_LINE_SIZE))
             return false;
-        if ((lent.step->kind == CDPATCH_READ || lent.step->kind == CDPATCH_WRITE) &&
+        if ((lent.step->kind == CDPATCH_STEP_READ || lent.step->kind == CDPATCH_STEP_WRITE) &&
             lent.step->place + lent.step->size > sectors * SECTOR)
             return false;
         done = lent.step->size;
         if (!honest)
             done = some_done(dice, done);
-        else if ((lent.step->kind == CDPATCH_COPY || lent.step->kind == CDPATCH_READ) && lent.step->at + done > it->size)
+        else if ((lent.step->kind == CDPATCH_STEP_COPY || lent.step->kind == CDPATCH_STEP_READ) && lent.step->at + done > it->size)
             done = lent.step->at < it->size ? it->size - lent.step->at : 0;
     }
     return false;
@@ -74,7 +74,7 @@ static void go_on(const struct some_case *it, unsigned steps) {
     size_t done = 0;
     for (begin(it); steps > 0; steps--) {
         cdpatch_run_next(lent.run, done, it->script, it->script_size, lent.entries, SMALL_ROOM, lent.hand, 3, lent.rooms, lent.step);
-        if (lent.step->kind == CDPATCH_END)
+        if (lent.step->kind == CDPATCH_STEP_END)
             return;
         done = lent.step->size;
     }
@@ -111,7 +111,7 @@ static void test_hands(const struct some_case *it, uint64_t *dice, unsigned numb
         begin(it);
         lent.hand = hand_of(sectors);
         cdpatch_run_next(lent.run, 0, it->script, it->script_size, lent.entries, SMALL_ROOM, lent.hand, sectors, lent.rooms, lent.step);
-        judge(lent.step->kind == CDPATCH_END && lent.step->status == CDPATCH_FAILED, "a hand that is too small", number);
+        judge(lent.step->kind == CDPATCH_STEP_END && lent.step->status == CDPATCH_STATUS_FAILED, "a hand that is too small", number);
     }
     begin(it);
     judge(ends(dice, it, 3, false, false), "bytes that were not moved", number);
@@ -138,7 +138,7 @@ static void test_refusals(const struct some_case *it, unsigned number) {
     count = cdpatch_run_begin(lent.run, it->script, it->script_size, 0, it->size, 8, lent.entries, SMALL_ROOM);
     judge(count == CDPATCH_REFUSED, "a flag without a meaning", number);
     cdpatch_run_next(lent.run, 0, it->script, it->script_size, lent.entries, SMALL_ROOM, hand_of(3), 3, lent.rooms, lent.step);
-    judge(lent.step->kind == CDPATCH_END && lent.step->status == CDPATCH_FAILED, "a refused run", number);
+    judge(lent.step->kind == CDPATCH_STEP_END && lent.step->status == CDPATCH_STATUS_FAILED, "a refused run", number);
 }
 
 /* A thread with its own runs, states, entries, hands, and rooms. */
@@ -153,8 +153,8 @@ static void *thread(void *given) {
         do {
             cdpatch_run_next(&memory->run, done, it.script, it.script_size, memory->entries, SMALL_ROOM, memory->hand, it.sectors_in_hand,
                              &memory->rooms, &memory->step);
-            done = memory->step.kind == CDPATCH_END ? 0 : move(&it, KNOWN, memory, &made, &last);
-        } while (memory->step.kind != CDPATCH_END);
+            done = memory->step.kind == CDPATCH_STEP_END ? 0 : move(&it, KNOWN, memory, &made, &last);
+        } while (memory->step.kind != CDPATCH_STEP_END);
         for (size_t i = 0; i < made.log_size; i++)
             sum = sum * 31 + made.log[i];
         sum = sum * 31 + memory->step.status;

@@ -38,13 +38,13 @@ static size_t move(const struct some_case *it, enum client client, struct memory
     size_t left = it->size - made->came, size = step->size < left ? step->size : left;
     bool known = client == KNOWN || client == KNOWN_SECTORS;
     switch (step->kind) {
-    case CDPATCH_READ:
-    case CDPATCH_COPY:
+    case CDPATCH_STEP_READ:
+    case CDPATCH_STEP_COPY:
         if (step->at != made->came || step->size == 0 || (known && step->size > left))
             made->wrong = "a step asks for other bytes than the next";
-        if (step->kind == CDPATCH_COPY && (client == PIPE_SECTORS || client == KNOWN_SECTORS))
+        if (step->kind == CDPATCH_STEP_COPY && (client == PIPE_SECTORS || client == KNOWN_SECTORS))
             made->wrong = "a step copies, though it may not";
-        if (step->kind == CDPATCH_COPY) {
+        if (step->kind == CDPATCH_STEP_COPY) {
             memcpy(made->out + made->out_size, it->image + made->came, size);
             made->out_size += size;
         } else {
@@ -55,7 +55,7 @@ static size_t move(const struct some_case *it, enum client client, struct memory
         }
         made->came += size;
         return size;
-    case CDPATCH_WRITE:
+    case CDPATCH_STEP_WRITE:
         if (step->at != made->out_size || step->place != 0 || step->size == 0 || made->out_size + step->size > it->size)
             made->wrong = "a step writes other bytes than the next";
         else
@@ -63,7 +63,7 @@ static size_t move(const struct some_case *it, enum client client, struct memory
         made->out_size += step->size;
         memory->sent = step->size < memory->held ? step->size : memory->held; /* the next call takes it from the hand */
         return step->size;
-    case CDPATCH_LOG:
+    case CDPATCH_STEP_LOG:
         if (made->log_size + step->size > it->log_room)
             exit(2);
         memcpy(made->log + made->log_size, step->text, step->size);

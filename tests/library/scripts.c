@@ -68,11 +68,7 @@ static void check_texts(const struct room *it) {
     const char *const faults[] = {message("no_head"), message("unknown_verb"), message("word_count"), message("bad_number"),
         message("bad_hex"), message("bad_length"), message("bad_offset"), message("bad_address"), "more than 65535 patches"};
     char wanted[CDPATCH_LINE_SIZE];
-#ifdef EARLIER_HEADER
-    judge(cdpatch_version() > CDPATCH_VERSION_NUMBER, "version", 0);
-#else
     judge(cdpatch_version() == CDPATCH_VERSION_NUMBER, "version", 0);
-#endif
     for (uint32_t number = 0; number < 20; number++) {
         uint32_t any = number < 16 ? number : UINT32_MAX - (number - 16);
         blank(it);
@@ -82,9 +78,9 @@ static void check_texts(const struct room *it) {
                        outcomes[any < 7 ? any : 7]), "outcome_line", any);
         blank(it);
         wanted[0] = 0;
-        if (any >= CDPATCH_NO_HEAD && any < CDPATCH_NO_MEMORY)
-            snprintf(wanted, sizeof wanted, "script line 4294967295: %s\n", faults[any - CDPATCH_NO_HEAD]);
-        else if (any == CDPATCH_NO_MEMORY)
+        if (any >= CDPATCH_CONTENT_NO_HEAD && any < CDPATCH_CONTENT_NO_MEMORY)
+            snprintf(wanted, sizeof wanted, "script line 4294967295: %s\n", faults[any - CDPATCH_CONTENT_NO_HEAD]);
+        else if (any == CDPATCH_CONTENT_NO_MEMORY)
             strcpy(wanted, "script: no memory\n");
         judge(has_text(it->text, cdpatch_fault_line(UINT32_MAX, any, it->text), wanted), "fault_line", any);
     }
@@ -92,32 +88,30 @@ static void check_texts(const struct room *it) {
     judge(has_text(it->text, cdpatch_last_line(UINT32_MAX, 0, it->text), "applied 4294967295 refused 0\n"), "last_line", 0);
 }
 
-/* Also compiled with the header of 1.2.0, which has neither this macro nor the lines of reports. */
-#ifdef CDPATCH_AT_LEAST
 /* The lines of `list` and `audit`: the longest, each part alone, and records without a line. */
 static void check_report_lines(const struct room *it, bool at_end) {
     static const char *const kinds[] = {"nosync", "mode0", "mode1", "mode2", "other"};
     static const struct { uint32_t block; struct cdpatch_record record; const char *line; } findings[] = {
-        {UINT32_MAX, {CDPATCH_MODE1, true, true, true, 255, 255}, "4294967295 address zeros edc p=255 q=255\n"},
-        {0, {CDPATCH_MODE1, true, false, false, 0, 0}, "0 address\n"}, {1, {CDPATCH_MODE1, false, true, false, 0, 0}, "1 zeros\n"},
-        {2, {CDPATCH_MODE1, false, false, true, 0, 0}, "2 edc\n"}, {3, {CDPATCH_MODE1, false, false, false, 86, 0}, "3 p=86\n"},
-        {4, {CDPATCH_MODE1, false, false, false, 0, 1}, "4 q=1\n"}, {5, {CDPATCH_MODE1, false, false, false, 0, 0}, ""},
-        {6, {CDPATCH_MODE2, true, true, true, 1, 1}, ""}, {7, {CDPATCH_MODE0, true, true, true, 1, 1}, ""},
+        {UINT32_MAX, {CDPATCH_KIND_MODE1, true, true, true, 255, 255}, "4294967295 address zeros edc p=255 q=255\n"},
+        {0, {CDPATCH_KIND_MODE1, true, false, false, 0, 0}, "0 address\n"}, {1, {CDPATCH_KIND_MODE1, false, true, false, 0, 0}, "1 zeros\n"},
+        {2, {CDPATCH_KIND_MODE1, false, false, true, 0, 0}, "2 edc\n"}, {3, {CDPATCH_KIND_MODE1, false, false, false, 86, 0}, "3 p=86\n"},
+        {4, {CDPATCH_KIND_MODE1, false, false, false, 0, 1}, "4 q=1\n"}, {5, {CDPATCH_KIND_MODE1, false, false, false, 0, 0}, ""},
+        {6, {CDPATCH_KIND_MODE2, true, true, true, 1, 1}, ""}, {7, {CDPATCH_KIND_MODE0, true, true, true, 1, 1}, ""},
         {8, {255, true, true, true, 1, 1}, ""}};
     struct cdpatch_record *record = (struct cdpatch_record *)fenced(sizeof *record, at_end);
     char wanted[CDPATCH_LINE_SIZE];
     for (uint32_t kind = 0; kind < 8; kind++) {
         uint32_t any = kind < 7 ? kind : UINT32_MAX;
         wanted[0] = 0;
-        if (any <= CDPATCH_OTHER)
+        if (any <= CDPATCH_KIND_OTHER)
             snprintf(wanted, sizeof wanted, "16-4294967295 %s\n", kinds[any]);
         blank(it);
         judge(has_text(it->text, cdpatch_list_line(16, UINT32_MAX, any, it->text), wanted), "list_line", any);
     }
     blank(it);
-    judge(has_text(it->text, cdpatch_list_line(7, 7, CDPATCH_MODE2, it->text), "7-7 mode2\n"), "a run of one sector", 0);
+    judge(has_text(it->text, cdpatch_list_line(7, 7, CDPATCH_KIND_MODE2, it->text), "7-7 mode2\n"), "a run of one sector", 0);
     blank(it);
-    judge(has_text(it->text, cdpatch_list_line(7, 6, CDPATCH_MODE2, it->text), ""), "a run of no sector", 0);
+    judge(has_text(it->text, cdpatch_list_line(7, 6, CDPATCH_KIND_MODE2, it->text), ""), "a run of no sector", 0);
     blank(it);
     judge(has_text(it->text, cdpatch_list_end(UINT32_MAX, 2351, it->text), "sectors 4294967295 tail 2351\n"), "list_end", 0);
     for (unsigned i = 0; i < sizeof findings / sizeof *findings; i++) {
@@ -129,7 +123,6 @@ static void check_report_lines(const struct room *it, bool at_end) {
     judge(has_text(it->text, cdpatch_audit_end(UINT32_MAX, 3, 2, UINT16_MAX, it->text),
                    "sectors 4294967295 mode1 3 damaged 2 tail 65535\n"), "audit_end", 0);
 }
-#endif
 
 /* ---- lines */
 
@@ -140,8 +133,8 @@ static uint32_t read_text(const struct room *it, uint32_t version, size_t earlie
     uint32_t answer;
     memcpy(line, text, size);
     blank(it);
-    answer = cdpatch_read_line(version, 7, earlier, line, size, it->patch, it->new_bytes, it->old_bytes);
-    judge(answer == CDPATCH_PATCH || (all_kept(it->patch, sizeof *it->patch) && all_kept(it->new_bytes, CDPATCH_PATCH_SIZE) &&
+    answer = cdpatch_read_line(version, earlier, line, size, it->patch, it->new_bytes, it->old_bytes);
+    judge(answer == CDPATCH_CONTENT_PATCH || (all_kept(it->patch, sizeof *it->patch) && all_kept(it->new_bytes, CDPATCH_PATCH_SIZE) &&
           all_kept(it->old_bytes, CDPATCH_PATCH_SIZE)), "a line without a patch writes nothing", answer);
     munmap((void *)(line - (uintptr_t)line % PAGE - PAGE), (size + PAGE - 1) / PAGE * PAGE + 2 * PAGE);
     return answer;
@@ -149,20 +142,20 @@ static uint32_t read_text(const struct room *it, uint32_t version, size_t earlie
 
 static void check_contents(const struct room *it, bool at_end) {
     static const struct { uint32_t version; size_t earlier; const char *text; uint32_t content; } lines[] = {
-        {0, 0, "", CDPATCH_NOTHING}, {2, 65535, " \t", CDPATCH_NOTHING}, {0, 0, "# set", CDPATCH_NOTHING},
-        {0, 0, "cdpatch 1", CDPATCH_VERSION_1}, {0, SIZE_MAX, "\tcdpatch  2 ", CDPATCH_VERSION_2},
-        {0, 0, "cdpatch 9", CDPATCH_NO_HEAD}, {0, 0, "rebuild 1", CDPATCH_NO_HEAD}, {0, 0, "cdpatch 1\r", CDPATCH_NO_HEAD},
-        {1, 0, "cdpatch 1", CDPATCH_UNKNOWN_VERB}, {1, 0, "address 1 00:02:00", CDPATCH_UNKNOWN_VERB},
-        {2, 0, "address 1", CDPATCH_WORD_COUNT}, {1, 0, "set 1 2 41 is 42", CDPATCH_WORD_COUNT},
-        {1, 0, "rebuild 1234567890", CDPATCH_BAD_NUMBER}, {1, 0, "set x 9999 4", CDPATCH_BAD_NUMBER},
-        {1, 0, "set 1 2 4", CDPATCH_BAD_HEX}, {1, 0, "set 1 2 4142 was 4", CDPATCH_BAD_HEX},
-        {1, 0, "set 1 2 4142 was 41", CDPATCH_BAD_LENGTH}, {1, 0, "fill 1 2 0 41", CDPATCH_BAD_LENGTH},
-        {1, 0, "fill 1 2 4097 41", CDPATCH_BAD_LENGTH}, {1, 0, "set 1 2048 4", CDPATCH_BAD_OFFSET},
-        {2, 0, "address 1 00:02:75", CDPATCH_BAD_ADDRESS},
-        {1, 65534, "rebuild 1", CDPATCH_PATCH}, {1, 65535, "rebuild 1", CDPATCH_TOO_MANY},
-        {1, 65536, "rebuild 1", CDPATCH_TOO_MANY}, {2, SIZE_MAX, "rebuild 1", CDPATCH_TOO_MANY},
-        {1, SIZE_MAX, "rebuild", CDPATCH_WORD_COUNT}, {3, 0, "cdpatch 1", CDPATCH_NO_VERSION},
-        {UINT32_MAX, 0, "", CDPATCH_NO_VERSION}, {256, 0, "rebuild 1", CDPATCH_NO_VERSION}};
+        {0, 0, "", CDPATCH_CONTENT_NOTHING}, {2, 65535, " \t", CDPATCH_CONTENT_NOTHING}, {0, 0, "# set", CDPATCH_CONTENT_NOTHING},
+        {0, 0, "cdpatch 1", CDPATCH_CONTENT_VERSION_1}, {0, SIZE_MAX, "\tcdpatch  2 ", CDPATCH_CONTENT_VERSION_2},
+        {0, 0, "cdpatch 9", CDPATCH_CONTENT_NO_HEAD}, {0, 0, "rebuild 1", CDPATCH_CONTENT_NO_HEAD}, {0, 0, "cdpatch 1\r", CDPATCH_CONTENT_NO_HEAD},
+        {1, 0, "cdpatch 1", CDPATCH_CONTENT_UNKNOWN_VERB}, {1, 0, "address 1 00:02:00", CDPATCH_CONTENT_UNKNOWN_VERB},
+        {2, 0, "address 1", CDPATCH_CONTENT_WORD_COUNT}, {1, 0, "set 1 2 41 is 42", CDPATCH_CONTENT_WORD_COUNT},
+        {1, 0, "rebuild 1234567890", CDPATCH_CONTENT_BAD_NUMBER}, {1, 0, "set x 9999 4", CDPATCH_CONTENT_BAD_NUMBER},
+        {1, 0, "set 1 2 4", CDPATCH_CONTENT_BAD_HEX}, {1, 0, "set 1 2 4142 was 4", CDPATCH_CONTENT_BAD_HEX},
+        {1, 0, "set 1 2 4142 was 41", CDPATCH_CONTENT_BAD_LENGTH}, {1, 0, "fill 1 2 0 41", CDPATCH_CONTENT_BAD_LENGTH},
+        {1, 0, "fill 1 2 4097 41", CDPATCH_CONTENT_BAD_LENGTH}, {1, 0, "set 1 2048 4", CDPATCH_CONTENT_BAD_OFFSET},
+        {2, 0, "address 1 00:02:75", CDPATCH_CONTENT_BAD_ADDRESS},
+        {1, 65534, "rebuild 1", CDPATCH_CONTENT_PATCH}, {1, 65535, "rebuild 1", CDPATCH_CONTENT_TOO_MANY},
+        {1, 65536, "rebuild 1", CDPATCH_CONTENT_TOO_MANY}, {2, SIZE_MAX, "rebuild 1", CDPATCH_CONTENT_TOO_MANY},
+        {1, SIZE_MAX, "rebuild", CDPATCH_CONTENT_WORD_COUNT}, {3, 0, "cdpatch 1", CDPATCH_CONTENT_NO_VERSION},
+        {UINT32_MAX, 0, "", CDPATCH_CONTENT_NO_VERSION}, {256, 0, "rebuild 1", CDPATCH_CONTENT_NO_VERSION}};
     for (unsigned i = 0; i < sizeof lines / sizeof *lines; i++)
         judge(read_text(it, lines[i].version, lines[i].earlier, lines[i].text, at_end) == lines[i].content, lines[i].text, i);
 }
@@ -170,18 +163,18 @@ static void check_contents(const struct room *it, bool at_end) {
 /* Each kind of patch has the numbers and the bytes of its line. */
 static void check_patches_read(const struct room *it, bool at_end) {
     const struct cdpatch_patch *patch = it->patch;
-    judge(read_text(it, 1, 0, "set 999999999 2047 0a0B was fFf0", at_end) == CDPATCH_PATCH, "set", 0);
-    judge(patch->verb == CDPATCH_SET && patch->block == 999999999 && patch->offset == 2047 && patch->count == 2 &&
+    judge(read_text(it, 1, 0, "set 999999999 2047 0a0B was fFf0", at_end) == CDPATCH_CONTENT_PATCH, "set", 0);
+    judge(patch->verb == CDPATCH_VERB_SET && patch->block == 999999999 && patch->offset == 2047 && patch->count == 2 &&
           patch->has_old == 1, "the record of a set", 0);
     judge(!memcmp(it->new_bytes, "\x0A\x0B", 2) && all_kept(it->new_bytes + 2, CDPATCH_PATCH_SIZE - 2), "its new bytes", 0);
     judge(!memcmp(it->old_bytes, "\xFF\xF0", 2) && all_kept(it->old_bytes + 2, CDPATCH_PATCH_SIZE - 2), "its old bytes", 0);
-    judge(read_text(it, 1, 0, "set 0 0 41", at_end) == CDPATCH_PATCH && patch->has_old == 0 && patch->count == 1 &&
+    judge(read_text(it, 1, 0, "set 0 0 41", at_end) == CDPATCH_CONTENT_PATCH && patch->has_old == 0 && patch->count == 1 &&
           all_kept(it->old_bytes, CDPATCH_PATCH_SIZE), "a set without old bytes", 0);
-    judge(read_text(it, 1, 0, "fill 1 2 4096 fe", at_end) == CDPATCH_PATCH && patch->verb == CDPATCH_FILL && patch->block == 1 &&
+    judge(read_text(it, 1, 0, "fill 1 2 4096 fe", at_end) == CDPATCH_CONTENT_PATCH && patch->verb == CDPATCH_VERB_FILL && patch->block == 1 &&
           patch->offset == 2 && patch->count == 4096 && patch->value == 0xFE, "the record of a fill", 0);
-    judge(read_text(it, 1, 0, "rebuild 4", at_end) == CDPATCH_PATCH && patch->verb == CDPATCH_REBUILD && patch->block == 4,
+    judge(read_text(it, 1, 0, "rebuild 4", at_end) == CDPATCH_CONTENT_PATCH && patch->verb == CDPATCH_VERB_REBUILD && patch->block == 4,
           "the record of a rebuild", 0);
-    judge(read_text(it, 2, 0, "address 5 12:34:56", at_end) == CDPATCH_PATCH && patch->verb == CDPATCH_ADDRESS &&
+    judge(read_text(it, 2, 0, "address 5 12:34:56", at_end) == CDPATCH_CONTENT_PATCH && patch->verb == CDPATCH_VERB_ADDRESS &&
           patch->block == 5 && !memcmp(patch->address, "\x12\x34\x56", 3), "the record of an address", 0);
 }
 
@@ -189,29 +182,29 @@ static void check_patches_read(const struct room *it, bool at_end) {
 static void check_lengths(const struct room *it, bool at_end) {
     static char text[9000];
     for (unsigned digits = 1; digits < 8500; digits += digits < 300 || digits > 8180 ? 1 : 97) {
-        uint32_t wanted = digits % 2 ? CDPATCH_BAD_HEX : digits > 8192 ? CDPATCH_BAD_LENGTH : CDPATCH_PATCH;
+        uint32_t wanted = digits % 2 ? CDPATCH_CONTENT_BAD_HEX : digits > 8192 ? CDPATCH_CONTENT_BAD_LENGTH : CDPATCH_CONTENT_PATCH;
         memcpy(text, "set 0 0 ", 8);
         memset(text + 8, 'c', digits);
         text[8 + digits] = 0;
         judge(read_text(it, 1, 0, text, at_end) == wanted, "a set of so many digits", digits);
-        if (wanted == CDPATCH_PATCH)
+        if (wanted == CDPATCH_CONTENT_PATCH)
             judge(it->patch->count == digits / 2 && it->new_bytes[0] == 0xCC && it->new_bytes[digits / 2 - 1] == 0xCC &&
                   all_kept(it->new_bytes + digits / 2, CDPATCH_PATCH_SIZE - digits / 2), "its bytes", digits);
         memset(text, digits % 2 ? ' ' : 0xFF, digits);
         text[digits] = 0;
-        judge(read_text(it, 1, 0, text, at_end) == (digits % 2 ? CDPATCH_NOTHING : CDPATCH_UNKNOWN_VERB), "so many bytes", digits);
+        judge(read_text(it, 1, 0, text, at_end) == (digits % 2 ? CDPATCH_CONTENT_NOTHING : CDPATCH_CONTENT_UNKNOWN_VERB), "so many bytes", digits);
     }
 }
 
 static void check_long_line(const struct room *it) {
     static const struct { const char *front; uint32_t content; } lines[] = {
-        {"", CDPATCH_UNKNOWN_VERB}, {"set 0 0 ", CDPATCH_BAD_LENGTH}, {"rebuild ", CDPATCH_BAD_NUMBER}, {"#", CDPATCH_NOTHING}};
+        {"", CDPATCH_CONTENT_UNKNOWN_VERB}, {"set 0 0 ", CDPATCH_CONTENT_BAD_LENGTH}, {"rebuild ", CDPATCH_CONTENT_BAD_NUMBER}, {"#", CDPATCH_CONTENT_NOTHING}};
     uint8_t *line = fenced(LONGEST, true);
     blank(it);
     memset(line, '0', LONGEST);
     for (unsigned i = 0; i < sizeof lines / sizeof *lines; i++) {
         memcpy(line, lines[i].front, strlen(lines[i].front));
-        judge(cdpatch_read_line(1, 1, 0, line, LONGEST, it->patch, it->new_bytes, it->old_bytes) == lines[i].content,
+        judge(cdpatch_read_line(1, 0, line, LONGEST, it->patch, it->new_bytes, it->old_bytes) == lines[i].content,
               "the longest line", i);
     }
     judge(all_kept(it->patch, sizeof *it->patch) && all_kept(it->new_bytes, CDPATCH_PATCH_SIZE), "it writes nothing", 0);
@@ -248,54 +241,54 @@ static void expect(const struct room *it, const uint8_t *samples, struct cdpatch
     answer = cdpatch_apply_patch(it->patch, it->new_bytes, it->old_bytes, sectors, count, carry, it->place);
     judge(answer == result, what, answer);
     judge(!memcmp(it->patch, &record, offsetof(struct cdpatch_patch, address) + 3), "the record stays", answer);
-    if (answer == CDPATCH_OK || answer == CDPATCH_NO_PATCH)
+    if (answer == CDPATCH_RESULT_OK || answer == CDPATCH_RESULT_NO_PATCH)
         judge(all_kept(&it->place->block, 4) && all_kept(&it->place->offset, 2), "no place", answer);
     else
         judge(it->place->block == block && it->place->offset == offset, "the place", answer);
-    judge((memcmp(it->sectors, samples, SAMPLES * SECTOR) != 0) == (answer == CDPATCH_OK), "the sectors", answer);
+    judge((memcmp(it->sectors, samples, SAMPLES * SECTOR) != 0) == (answer == CDPATCH_RESULT_OK), "the sectors", answer);
 }
 
 /* A set of 4096 bytes from offset 2047 on, the longest range, covers three sectors. */
 static void check_applied(const struct room *it, uint8_t *samples) {
-    struct cdpatch_patch set = {16, 2047, 4096, CDPATCH_SET, 0, 0, {0, 0, 0}}, fill = {16, 7, 1, CDPATCH_FILL, 9, 0x42, {0, 0, 0}};
+    struct cdpatch_patch set = {16, 2047, 4096, CDPATCH_VERB_SET, 0, 0, {0, 0, 0}}, fill = {16, 7, 1, CDPATCH_VERB_FILL, 9, 0x42, {0, 0, 0}};
     uint8_t wanted[SECTOR];
     blank(it);
-    expect(it, samples, set, 3, false, CDPATCH_OK, 0, 0, "three sectors");
+    expect(it, samples, set, 3, false, CDPATCH_RESULT_OK, 0, 0, "three sectors");
     judge(it->sectors[16 + 2046] == samples[16 + 2046] && it->sectors[16 + 2047] == KEPT && it->sectors[SECTOR + 16] == KEPT &&
           it->sectors[2 * SECTOR + 16 + 2046] == KEPT && it->sectors[2 * SECTOR + 16 + 2047] == samples[2 * SECTOR + 16 + 2047],
           "what is set", 0);
     for (int i = 0; i < SAMPLES; i++)
         judge(cdpatch_is_consistent(it->sectors + i * SECTOR), "each sector is consistent", (unsigned)i);
-    expect(it, samples, set, 2, false, CDPATCH_NO_BLOCK, 18, 0, "two sectors of three");
-    expect(it, samples, set, 0, true, CDPATCH_NO_BLOCK, 16, 0, "no sectors");
-    expect(it, samples, fill, SIZE_MAX, false, CDPATCH_OK, 0, 0, "a count of sectors that wraps");
+    expect(it, samples, set, 2, false, CDPATCH_RESULT_NO_BLOCK, 18, 0, "two sectors of three");
+    expect(it, samples, set, 0, true, CDPATCH_RESULT_NO_BLOCK, 16, 0, "no sectors");
+    expect(it, samples, fill, SIZE_MAX, false, CDPATCH_RESULT_OK, 0, 0, "a count of sectors that wraps");
     memcpy(wanted, samples, SECTOR);
-    judge(cdpatch_change_user(wanted, 7, (const uint8_t *)"\x42", 1) == CDPATCH_OK && !memcmp(it->sectors, wanted, SECTOR), "a fill is a change", 0);
+    judge(cdpatch_change_user(wanted, 7, (const uint8_t *)"\x42", 1) == CDPATCH_RESULT_OK && !memcmp(it->sectors, wanted, SECTOR), "a fill is a change", 0);
     set.has_old = 1;
     memcpy(it->old_bytes, samples + 16 + 2047, 1);
     memcpy(it->old_bytes + 1, samples + SECTOR + 16, 2048);
     memcpy(it->old_bytes + 2049, samples + 2 * SECTOR + 16, 2047);
-    expect(it, samples, set, 3, false, CDPATCH_OK, 0, 0, "right old bytes");
+    expect(it, samples, set, 3, false, CDPATCH_RESULT_OK, 0, 0, "right old bytes");
     it->old_bytes[4095] ^= 1;
-    expect(it, samples, set, 3, false, CDPATCH_DIFFERS, 18, 2046, "the last old byte");
+    expect(it, samples, set, 3, false, CDPATCH_RESULT_DIFFERS, 18, 2046, "the last old byte");
     it->old_bytes[0] ^= 1;
-    expect(it, samples, set, 3, false, CDPATCH_DIFFERS, 16, 2047, "the first old byte");
+    expect(it, samples, set, 3, false, CDPATCH_RESULT_DIFFERS, 16, 2047, "the first old byte");
     samples[SECTOR + 2351] ^= 1;
-    expect(it, samples, set, 3, false, CDPATCH_DAMAGED, 17, 0, "a damaged sector");
+    expect(it, samples, set, 3, false, CDPATCH_RESULT_DAMAGED, 17, 0, "a damaged sector");
     set.has_old = 0;
-    expect(it, samples, set, 3, true, CDPATCH_OK, 0, 0, "a damaged sector, with carry");
+    expect(it, samples, set, 3, true, CDPATCH_RESULT_OK, 0, 0, "a damaged sector, with carry");
     samples[SECTOR + 2351] ^= 1;
     samples[2 * SECTOR + 15] = 2;
-    expect(it, samples, set, 3, true, CDPATCH_NOT_MODE1, 18, 0, "a sector of Mode 2");
+    expect(it, samples, set, 3, true, CDPATCH_RESULT_NOT_MODE1, 18, 0, "a sector of Mode 2");
     samples[2 * SECTOR + 15] = 1;
 }
 
 /* Records that no line can give, and records with any bytes in the other fields. */
 static void check_records(const struct room *it, const uint8_t *samples) {
-    struct cdpatch_patch set = {0, 0, 1, CDPATCH_SET, 0, 0, {0, 0, 0}}, other;
+    struct cdpatch_patch set = {0, 0, 1, CDPATCH_VERB_SET, 0, 0, {0, 0, 0}}, other;
     blank(it);
 #define REFUSED(field, value) \
-    (other = set, other.field = (value), expect(it, samples, other, 3, true, CDPATCH_NO_PATCH, 0, 0, #field " is " #value))
+    (other = set, other.field = (value), expect(it, samples, other, 3, true, CDPATCH_RESULT_NO_PATCH, 0, 0, #field " is " #value))
     REFUSED(block, 1000000000);
     REFUSED(block, UINT32_MAX);
     REFUSED(offset, 2048);
@@ -303,71 +296,69 @@ static void check_records(const struct room *it, const uint8_t *samples) {
     REFUSED(count, 0);
     REFUSED(count, 4097);
     REFUSED(count, UINT16_MAX);
-    REFUSED(verb, CDPATCH_ADDRESS + 1);
+    REFUSED(verb, CDPATCH_VERB_ADDRESS + 1);
     REFUSED(verb, 255);
     REFUSED(has_old, 2);
     REFUSED(has_old, 255);
-    set.verb = CDPATCH_FILL;
+    set.verb = CDPATCH_VERB_FILL;
     REFUSED(count, 0);
     REFUSED(count, 4097);
     REFUSED(offset, 2048);
-    set.verb = CDPATCH_ADDRESS;
+    set.verb = CDPATCH_VERB_ADDRESS;
     REFUSED(address[1], 0x60);
     REFUSED(address[2], 0x75);
     REFUSED(address[0], 0x9A);
     REFUSED(address[2], 0x0A);
     REFUSED(offset, 1);
-    set.verb = CDPATCH_REBUILD;
+    set.verb = CDPATCH_VERB_REBUILD;
     REFUSED(offset, 1);
 #undef REFUSED
     memset(&other, 255, sizeof other);
-    expect(it, samples, other, 3, true, CDPATCH_NO_PATCH, 0, 0, "a record of bytes FF");
+    expect(it, samples, other, 3, true, CDPATCH_RESULT_NO_PATCH, 0, 0, "a record of bytes FF");
 }
 
 /* Fields that a record's verb does not use may have any value. */
 static void check_other_fields(const struct room *it, uint8_t *samples) {
-    struct cdpatch_patch set = {16, 0, 1, CDPATCH_SET, 0, 0xFF, {0xFF, 0xFF, 0xFF}};
-    struct cdpatch_patch fill = {16, 0, 1, CDPATCH_FILL, 0xFF, 0x42, {0xFF, 0xFF, 0xFF}};
-    struct cdpatch_patch rebuild = {16, 0, 0xFFFF, CDPATCH_REBUILD, 0xFF, 0xFF, {0xFF, 0xFF, 0xFF}};
-    struct cdpatch_patch address = {16, 0, 0xFFFF, CDPATCH_ADDRESS, 0xFF, 0xFF, {0x12, 0x34, 0x56}};
+    struct cdpatch_patch set = {16, 0, 1, CDPATCH_VERB_SET, 0, 0xFF, {0xFF, 0xFF, 0xFF}};
+    struct cdpatch_patch fill = {16, 0, 1, CDPATCH_VERB_FILL, 0xFF, 0x42, {0xFF, 0xFF, 0xFF}};
+    struct cdpatch_patch rebuild = {16, 0, 0xFFFF, CDPATCH_VERB_REBUILD, 0xFF, 0xFF, {0xFF, 0xFF, 0xFF}};
+    struct cdpatch_patch address = {16, 0, 0xFFFF, CDPATCH_VERB_ADDRESS, 0xFF, 0xFF, {0x12, 0x34, 0x56}};
     blank(it);
-    expect(it, samples, set, 1, false, CDPATCH_OK, 0, 0, "a set with other fields");
-    expect(it, samples, fill, 1, false, CDPATCH_OK, 0, 0, "a fill with other fields");
-    expect(it, samples, address, 1, false, CDPATCH_OK, 0, 0, "an address with other fields");
+    expect(it, samples, set, 1, false, CDPATCH_RESULT_OK, 0, 0, "a set with other fields");
+    expect(it, samples, fill, 1, false, CDPATCH_RESULT_OK, 0, 0, "a fill with other fields");
+    expect(it, samples, address, 1, false, CDPATCH_RESULT_OK, 0, 0, "an address with other fields");
     samples[2 * SECTOR + 20] ^= 1;
-    expect(it, samples, rebuild, 1, false, CDPATCH_OK, 0, 0, "a rebuild with other fields");
+    expect(it, samples, rebuild, 1, false, CDPATCH_RESULT_OK, 0, 0, "a rebuild with other fields");
     judge(cdpatch_is_consistent(it->sectors + 2 * SECTOR), "it removes the damage", 0);
-    expect(it, samples, rebuild, 1, true, CDPATCH_OK, 0, 0, "a rebuild with carry");
+    expect(it, samples, rebuild, 1, true, CDPATCH_RESULT_OK, 0, 0, "a rebuild with carry");
     judge(cdpatch_is_consistent(it->sectors + 2 * SECTOR), "that removes it too", 0);
     samples[2 * SECTOR + 20] ^= 1;
 }
 
 /* A null pointer is valid for no bytes. */
 static void check_nulls(const struct room *it, const uint8_t *samples) {
-    struct cdpatch_patch set = {16, 7, 1, CDPATCH_SET, 0, 0, {0, 0, 0}};
+    struct cdpatch_patch set = {16, 7, 1, CDPATCH_VERB_SET, 0, 0, {0, 0, 0}};
     struct cdpatch_record record;
     blank(it);
     judge(!cdpatch_first_line(NULL, 0, it->line) && all_kept(it->line, sizeof *it->line), "the first line of nothing", 0);
-    judge(cdpatch_read_line(1, 1, 0, NULL, 0, it->patch, it->new_bytes, it->old_bytes) == CDPATCH_NOTHING, "a line of no bytes", 0);
-    judge(cdpatch_apply_patch(&set, it->new_bytes, it->old_bytes, NULL, 0, true, it->place) == CDPATCH_NO_BLOCK &&
+    judge(cdpatch_read_line(1, 0, NULL, 0, it->patch, it->new_bytes, it->old_bytes) == CDPATCH_CONTENT_NOTHING, "a line of no bytes", 0);
+    judge(cdpatch_apply_patch(&set, it->new_bytes, it->old_bytes, NULL, 0, true, it->place) == CDPATCH_RESULT_NO_BLOCK &&
           it->place->block == 16, "a patch on no sectors", 0);
     judge(cdpatch_survey(NULL, 0, 0, NULL, 0), "a survey of nothing", 0);
     judge(!cdpatch_survey(samples, 1, 0, NULL, 0) && !cdpatch_survey(NULL, 0, 0, &record, 1), "no room for a survey", 0);
 }
 
-/* A line can be read again with 0 as the number of earlier patches, and with any line number. */
+/* A line can be read again with 0 as the number of earlier patches. */
 static void check_read_again(const struct room *it) {
     static const uint8_t line[] = "set 3 7 4142 was 4344";
     struct cdpatch_patch first;
     blank(it);
-    judge(cdpatch_read_line(1, 65535, 65534, line, 21, it->patch, it->new_bytes, it->old_bytes) == CDPATCH_PATCH, "a line", 0);
+    judge(cdpatch_read_line(1, 65534, line, 21, it->patch, it->new_bytes, it->old_bytes) == CDPATCH_CONTENT_PATCH, "a line", 0);
     first = *it->patch;
-    for (uint32_t number = 0; number < 3; number++) {
-        blank(it);
-        judge(cdpatch_read_line(1, number * (UINT32_MAX / 2), 0, line, 21, it->patch, it->new_bytes, it->old_bytes) == CDPATCH_PATCH &&
-              it->patch->block == first.block && it->patch->count == first.count && !memcmp(it->new_bytes, "AB", 2) &&
-              !memcmp(it->old_bytes, "CD", 2), "a line that is read again", number);
-    }
+    blank(it);
+    judge(cdpatch_read_line(1, 0, line, 21, it->patch, it->new_bytes, it->old_bytes) == CDPATCH_CONTENT_PATCH &&
+          it->patch->block == first.block && it->patch->count == first.count && !memcmp(it->new_bytes, "AB", 2) &&
+          !memcmp(it->old_bytes, "CD", 2), "a line that is read again", 0);
 }
 
 /* ---- sectors */
@@ -430,9 +421,7 @@ int main(int count, char **arguments) {
     for (int at_end = 0; at_end < 2; at_end++) {
         struct room room = rooms(at_end);
         check_texts(&room);
-#ifdef CDPATCH_AT_LEAST
         check_report_lines(&room, at_end);
-#endif
         check_cutting(&room, at_end);
         check_contents(&room, at_end);
         check_patches_read(&room, at_end);

@@ -1,4 +1,6 @@
 /* Random images and scripts for them. */
+#ifndef SOME_CASES
+#define SOME_CASES
 #include <cdpatch.h>
 #include <stdio.h>
 #include <stdlib.h>
@@ -129,3 +131,5 @@ static void free_case(struct some_case *it) {
     free(it->script);
     free(it->without_old);
 }
+
+#endif

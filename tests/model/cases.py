@@ -196,7 +196,7 @@ def some_script(dice, image, base, carry):
         more, last = dice.choice([(0, b''), (0, b''), (1, b''), (1, b'put 0\n'), (0, b'set 0 0 4\n')])
         return b'cdpatch 1\n' + (MOST_PATCHES + more) * b'rebuild 999999999\n' + last, note
     if state == 'head':
-        head = dice.choice([[], [b'cdpatch'], [b'cdpatch', b'01'], [b'cdpatch', b'3'], head + [b'x'], [b'CDPATCH', b'1'],
+        head = dice.choice([[], [b'cdpatch'], [b'cdpatch', b'01'], [b'cdpatch', b'9'], head + [b'x'], [b'CDPATCH', b'1'],
                             [b'cdpatch', b'1\r'], [b'\xef\xbb\xbfcdpatch', b'1'], [b'set', b'0', b'0', b'41']])
     patches = some_patches(dice, base, count, version)
     lines = [[word for _, word in roles(dice, patch)] for patch in with_was(dice, image, base, carry, patches)]

@@ -1,5 +1,5 @@
-"""Compares the model with one client on random cases, byte for byte: `run PROGRAM [--cases N] [--seed S]`, or `run --library FILE` or
-another client of the worked cases in place of PROGRAM."""
+"""Compares the model with one client on random cases, byte for byte: `compare.py PROGRAM [--cases N] [--seed S]`, or
+`compare.py --library FILE` or another client of the worked cases in place of PROGRAM."""
 
 import argparse
 import fcntl
@@ -73,9 +73,10 @@ def is_right(client, kept, number, case, due):
 
 
 def judge(client, seed, kept, number):
-    """The kinds of a case, and whether the client is right about it and, for one case in HARMED, about its changed copy."""
+    """The kinds of a case, and whether the client is right about it and, for one case in HARMED, about its changed copy. There is no answer
+    if the client does not have the command."""
     kinds, cases = known(seed, number, client.options)
-    return kinds, [is_right(client, kept, number, case, due) for case, due in cases]
+    return kinds, [is_right(client, kept, number, case, due) for case, due in cases if case.command in client.answers]
 
 
 def compared(client, given, kept):
@@ -91,7 +92,7 @@ def compared(client, given, kept):
 
 def words_of_the_call():
     """The parsed arguments of the command line."""
-    words = argparse.ArgumentParser(prog='tests/model/run', description='Compares a client with the model.')
+    words = argparse.ArgumentParser(prog='tests/model/compare.py', description='Compares a client with the model.')
     words.add_argument('asked', nargs='?', metavar='PROGRAM')
     add_clients(words)
     words.add_argument('--cases', type=int, default=300)

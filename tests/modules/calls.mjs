@@ -1,21 +1,12 @@
 // The calls of a module of libcdpatch, with bytes of JavaScript.
 
 import { readFileSync } from 'node:fs';
-import { setFlagsFromString } from 'node:v8';
 
 const PAGE = 65536;
+/** The bytes at the beginning of the memory that are the stack, and their value before a call: no byte of it is right by luck. */
+const [STACK, LEFT] = [1 << 20, 0xFF];
 /** The value of guard bytes between the arguments of a call, and the initial value of bytes that it writes. */
 export const [KEPT, UNWRITTEN] = [0x5A, 0xA5];
-
-/**
- * The module in a file. Node 18 and 20 need a flag of their engine for 64-bit memory.
- * @param {string} path
- */
-export function opened(path) {
-    const bytes = readFileSync(path);
-    if (!WebAssembly.validate(bytes)) setFlagsFromString('--experimental-wasm-memory64');
-    return new WebAssembly.Module(bytes);
-}
 
 /** Bytes that a call reads and writes; the caller gets them back. */
 export class Room {
@@ -36,20 +27,15 @@ export class Size {
 export class Calls {
     /** @param {string} path the module's file */
     constructor(path) {
-        const module = opened(path);
+        const module = new WebAssembly.Module(readFileSync(path));
         this.exports = /** @type {any} */ (new WebAssembly.Instance(module).exports);
-        this.start = Number(this.exports.__heap_base.value);
+        this.start = this.exports.__heap_base.value;
     }
 
     /** @param {number} size the required memory in bytes */
     grow(size) {
         const missing = Math.ceil((size - this.exports.memory.buffer.byteLength) / PAGE);
-        if (missing <= 0) return;
-        try {
-            this.exports.memory.grow(missing);
-        } catch {
-            this.exports.memory.grow(BigInt(missing));
-        }
+        if (missing > 0) this.exports.memory.grow(missing);
     }
 
     /**
@@ -63,7 +49,7 @@ export class Calls {
         const lent = new Lent(this, given.flatMap(it => it instanceof Room ? it.bytes : it instanceof Uint8Array ? [it] : []));
         let next = 0;
         const passed = given.map(it => {
-            if (it instanceof Room || it instanceof Uint8Array) return BigInt(lent.places[next++]);
+            if (it instanceof Room || it instanceof Uint8Array) return lent.places[next++];
             return it instanceof Size ? it.value : Number(it);
         });
         const result = this.exports[name](...passed);
@@ -106,6 +92,7 @@ export class Lent {
         }
         calls.grow(at + 16);
         this.memory = new Uint8Array(calls.exports.memory.buffer);
+        this.memory.fill(LEFT, 0, STACK);
         this.memory.fill(KEPT, calls.start, at + 16);
         pieces.forEach((piece, i) => {
             if (typeof piece !== 'number') this.memory.set(piece, this.places[i]);

@@ -48,7 +48,7 @@ class Lines {
         this.text = text;
         this.lent = new Lent(calls, [text, LINE_RECORD, text.length, PATCH_RECORD, PATCH_SIZE, PATCH_SIZE]);
         [, this.found, this.line, this.record, this.fresh, this.old] = this.lent.places.map((_, i) => this.lent.piece(i));
-        this.places = this.lent.places.map(BigInt);
+        this.places = this.lent.places;
         [this.number, this.size, this.end] = [0, 0, 0];
     }
 
@@ -56,7 +56,7 @@ class Lines {
     next() {
         const [text, found] = this.places;
         this.found.fill(UNWRITTEN);
-        const isLine = this.exports.cdpatch_first_line(text + BigInt(this.end), BigInt(this.text.length - this.end), found);
+        const isLine = this.exports.cdpatch_first_line(text + this.end, BigInt(this.text.length - this.end), found);
         this.lent.seeBetween();
         if (!isLine) return false;
         const [size, taken] = [0, 8].map(at => Number(fields(this.found).getBigUint64(at, true)));
@@ -74,7 +74,7 @@ class Lines {
     read(version, count) {
         const [, , line, ...rooms] = this.places;
         const given = this.line.slice(0, this.size);
-        const content = this.exports.cdpatch_read_line(version, this.number, BigInt(count), line, BigInt(this.size), ...rooms);
+        const content = this.exports.cdpatch_read_line(version, BigInt(count), line, BigInt(this.size), ...rooms);
         this.lent.seeBetween();
         same(this.line.subarray(0, this.size), given);
         return content;

@@ -28,6 +28,7 @@ const ENTRY_SIZE = 20;
 const [END, READ, COPY, WRITE, LOG] = [0, 1, 2, 3, 4];
 const UNKNOWN_SIZE = (1n << 64n) - 1n;
 const FAILED = 2;
+const INVALID = -2; // what begins a run of an invalid script returns, as a signed number
 export const [CARRY, NO_COPY] = [1, 2];
 
 /** A run in a module, from its beginning. */
@@ -41,13 +42,15 @@ class Run {
         this.calls = calls;
         this.asked = asked;
         const count = this.begin(size, 0);
-        if (this.begin(size, count) !== count) throw new Error('a script has another number of patches a second time');
-        this.entries = this.lent.memory.slice(this.places[2], this.places[2] + count * ENTRY_SIZE);
+        const room = count === INVALID ? 0 : count;
+        if (room < 0) throw new Error('no run begins');
+        if (this.begin(size, room) !== count) throw new Error('a script has another number of patches a second time');
+        this.entries = this.lent.memory.slice(this.places[2], this.places[2] + room * ENTRY_SIZE);
         this.step = new DataView(this.lent.memory.buffer, this.places[5], STEP_SIZE);
     }
 
     /**
-     * Begins with room for `room` entries, and returns the number of entries.
+     * Begins with room for `room` entries, and returns the number of entries, or INVALID.
      * @param {number} size
      * @param {number} room
      */
@@ -55,7 +58,7 @@ class Run {
         const { script, base, flags, known } = this.asked;
         this.lent = new Lent(this.calls, [RUN_SIZE, script, room * ENTRY_SIZE, SECTORS_IN_HAND * SECTOR, ROOMS_SIZE, STEP_SIZE]);
         this.places = this.lent.places;
-        const [run, text, entries, hand, rooms, step] = this.places.map(BigInt);
+        const [run, text, entries, hand, rooms, step] = this.places;
         const lent = [text, BigInt(script.length), entries, BigInt(room)];
         this.given = [...lent, hand, BigInt(SECTORS_IN_HAND), rooms, step];
         this.run = run;

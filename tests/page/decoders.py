@@ -7,6 +7,9 @@ from typing import Any
 
 import common
 
+# No browser has a decoder for these.
+OF_TABLES = ('CP437', 'CP850', 'CP852')
+
 READ = '''const [label, codes] = arguments;
 const decoder = new TextDecoder(label);
 return codes.map(code => decoder.decode(Uint8Array.from(code < 256 ? [code] : [code >> 8, code & 255])));'''
@@ -20,7 +23,7 @@ console.log(JSON.stringify(all));"""
 
 def tables() -> dict[str, dict[int, str]]:
     """The characters beyond ASCII in the encodings of other languages, by the standard's labels, as node decodes them."""
-    known = {it['name']: it['label'] for it in common.encodings() if 'label' in it}
+    known = {it['name']: it['label'] for it in common.encodings() if 'label' in it and it['name'] not in OF_TABLES}
     program = TABLES.replace('NAMES', json.dumps(list(known)))
     given = subprocess.run(['node', '--input-type=module', '-e', program], stdout=subprocess.PIPE, check=True)
     return {label: dict(pairs) for label, pairs in zip(known.values(), json.loads(given.stdout))}

@@ -79,31 +79,31 @@ test('of reads that are far apart, or go back, no more is read than is asked for
     assert.deepEqual(await cutsFor(places), places.map(([, length]) => length));
 });
 
-test('hands that are free read whole slices ahead, and the page all else', async () => {
+test('workers that are free read whole slices ahead, and the page all else', async () => {
     const file = fileOf();
     const asked = [];
-    const crew = {
+    const pool = {
         async readLent({ file: { name }, from, size }) {
             asked.push([name, from, size]);
             return asked.length === 2 ? null : new Uint8Array(bytes.subarray(from, from + size));
         },
     };
-    const reader = forwardOf(readByWorkers(fileReader(file), crew, { aborted: false }));
+    const reader = forwardOf(readByWorkers(fileReader(file), pool, { aborted: false }));
     for (const [at, length] of rowOf(73)) assert.ok(Buffer.from(await reader.read(at, length)).equals(bytes.subarray(at, at + length)), `${at}`);
     assert.deepEqual(asked, [1, 17, 33, 49].map(at => ['game.bin', at * MiB, 16 * MiB]));
     assert.deepEqual(file.cuts, [MiB, 16 * MiB, 7 * MiB + 7]);
 });
 
-test('Cancel ends a read that no hand answers', async () => {
+test('Cancel ends a read that no worker answers', async () => {
     const cancelling = new AbortController();
-    const crew = {
+    const pool = {
         readLent: () => {
             setImmediate(() => cancelling.abort());
             return new Promise(() => {});
         },
     };
     for (const when of ['while it waits', 'before it']) {
-        const reader = forwardOf(readByWorkers(fileReader(fileOf()), crew, cancelling.signal));
+        const reader = forwardOf(readByWorkers(fileReader(fileOf()), pool, cancelling.signal));
         await reader.read(0, MiB);
         await assert.rejects(reader.read(MiB, MiB), { code: 'cancelled' }, when);
     }

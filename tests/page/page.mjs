@@ -22,6 +22,9 @@ export const page = name => import(pathToFileURL(pageFile(name)).href);
 /** @param {string} name a module of the core */
 export const core = name => import(pathToFileURL(join(web, 'core', name)).href);
 
+/** @param {string} name a module of cdscript */
+export const command = name => import(pathToFileURL(join(web, 'command', name)).href);
+
 const { Calls } = await core('module/calls.js');
 
 export const calls = new Calls(new WebAssembly.Module(readFileSync(join(top, 'library/cdpatch.wasm'))));
@@ -47,11 +50,11 @@ class HashWorker {
 /** The parts of a page with workers that hash. */
 export const parts = { module: true, newWorker: () => new HashWorker() };
 
-const { Crew, localWorker } = await core('crew/crew.js');
+const { Pool, localWorker } = await core('pool/pool.js');
 const { JOBS } = await core('jobs/jobs.js');
 
 /** Parts that hash and survey images in this process, with a worker only for the SHA-1. */
-export const summing = { crew: new Crew([localWorker(calls, JOBS)]), parts };
+export const summing = { pool: new Pool([localWorker(calls, JOBS)]), parts };
 
 /** An image of undamaged sectors with this user data, padded with zeros. */
 export function imageOf(users) {

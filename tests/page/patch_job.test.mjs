@@ -24,14 +24,14 @@ const anchor = () => ({ setAttribute() {}, append() {}, click() { given.download
 
 /** A chosen file. `before` has the properties of an existing one. */
 function chosenFile(before = {}) {
-    const chosen = { name: 'out.bin', written: [], state: 'none', removed: false };
+    const chosen = { name: 'out.bin', written: [], state: 'none', removed: false, lost: 0 };
     const sink = {
         write: async write => { chosen.written.push(write); },
         close: async () => { chosen.state = 'closed'; },
         abort: async () => { chosen.state = 'aborted'; },
     };
     return Object.assign(chosen, {
-        getFile: async () => ({ name: 'out.bin', size: 0, lastModified: 1, ...before }),
+        getFile: async () => ({ name: 'out.bin', size: 0, lastModified: 1, ...before, ...chosen.state === 'closed' && { size: (await writtenBy(chosen.written)).length - chosen.lost } }),
         createWritable: async () => sink, remove: async () => { chosen.removed = true; },
     });
 }
@@ -140,6 +140,15 @@ test('a file that cannot be read again after it was closed is saved', async () =
     const saved = await saveWork(app, work(), 'out.bin', '', watch);
     assert.deepEqual([saved.streamed, saved.file, chosen.state], [true, null, 'closed']);
     assert.equal((await writtenBy(chosen.written)).length, game.bytes.length);
+});
+
+test('a file of another length than was written is no saved image', async () => {
+    for (const size of [0, 7]) {
+        const chosen = Object.assign(choosing(chosenFile({ size })), { lost: 1 });
+        const message = `The saved file has ${game.bytes.length - 1} bytes instead of ${game.bytes.length}: saving did not finish.`;
+        await assert.rejects(saveWork(app, work(), 'out.bin', '', watch), { message: message.replace(/\d+/g, it => Number(it).toLocaleString('en')) });
+        assert.deepEqual([chosen.state, chosen.removed], ['closed', true]);
+    }
 });
 
 test('a browser that wants a fresh click says so', async () => {

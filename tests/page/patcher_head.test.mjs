@@ -4,7 +4,7 @@ import assert from 'node:assert/strict';
 import { test } from 'node:test';
 import { page } from './page.mjs';
 
-const { isImageName, isPlainSheet, takenHead } = await page('player/patcher_head.js');
+const { isImageName, plainSheet, takenHead } = await page('player/patcher_head.js');
 
 const sheet = (...names) => names.map((name, i) => `FILE "${name}" BINARY\n  TRACK 0${i + 1} MODE1/2352\n    INDEX 01 00:00:00\n`).join('');
 
@@ -31,14 +31,21 @@ test('an image whose name is none of an image gets another one, in its cue sheet
 
 test('a cue sheet is offered only if it can be read and names files beside it', () => {
     const wrong = [sheet('\\\\evil.example\\share\\track2.bin'), sheet('game.bin', '/etc/passwd'), sheet('..'), sheet('a:b.bin'), sheet('nul'), sheet('a\u202eb.bin'),
-        'FILE game', sheet('game.bin').replace('INDEX 01', 'INDEX 00'), `${sheet('game.bin')}CDTEXTFILE "\\\\evil\\x.cdt"\n`,
-        `${sheet('game.bin')}  cdtextfile /x\n`, sheet('game.bin').replace('\n', '\n\0'), `${sheet('game.bin')}REM \u001b[31m\n`, '',
-        sheet('game.bin').replaceAll('\n', '\v')];
-    for (const text of wrong) {
-        assert.equal(isPlainSheet(text), false, JSON.stringify(text));
-        assert.equal(takenHead({ name: 'game.bin', cue: text }).cue, '');
+        'FILE game', sheet('game.bin').replace('INDEX 01', 'INDEX 00'), '',
+        sheet('game.bin').replace('\n', '\n\0'), sheet('game.bin').replaceAll('\n', '\v'), sheet('game.bin').replace('BINARY', '../BINARY'),
+        `FILE\u00a0"../x" BINARY\n${sheet('game.bin')}`, `\ufeffFILE "../x" BINARY\n${sheet('game.bin')}`];
+    for (const text of wrong) assert.equal(plainSheet(text), '', JSON.stringify(text));
+});
+
+test('a cue sheet has nothing that was not read', () => {
+    const good = sheet('game.bin');
+    const others = ['FILE"C:\\x\\secret.wav" WAVE', '"FILE" "../x" BINARY', 'X FILE "../x" BINARY', 'CDTEXTFILE "\\\\evil\\x.cdt"', 'CDTEXTFILE"../x"', 'TITLE "a',
+        'REM \u001b[31m', 'INDEX"01" 00:00:00', 'CATALOG 1', '\0'];
+    for (const line of others) {
+        for (const text of [`${line}\n${good}`, `${good}${line}\n`]) assert.equal(plainSheet(text), good, JSON.stringify(text));
     }
-    const right = [sheet('game.bin', 'track2.bin'), sheet('game.bin').replaceAll('\n', '\r\n'), `REM https://x/\n${sheet('game.bin')}`, sheet('日本語.bin'),
-        `${sheet('game.bin')}CDTEXTFILE "game.cdt"\n`];
-    for (const text of right) assert.equal(isPlainSheet(text), true, JSON.stringify(text));
+    const whole = 'FILE "a.bin" BINARY\n  TRACK 01 MODE1/2352\n    INDEX 01 00:00:00\n    POSTGAP 00:00:10\n  TRACK 02 AUDIO\n    FLAGS DCP PRE\n    PREGAP 00:02:00\n' +
+        '    INDEX 00 10:00:00\nFILE "日本語.wav" WAVE\n    INDEX 01 00:00:00\n    INDEX 02 100:59:74\n';
+    assert.equal(plainSheet(whole), whole);
+    assert.equal(plainSheet(whole.toLowerCase().replaceAll('\n', '\r\n').replaceAll(' "', '  "')), whole);
 });

@@ -11,10 +11,10 @@ const { applyPatches } = await page('../core/script/patches.js');
 const { bytesOfPieces } = await page('../core/bytes.js');
 const { validScript } = await page('../core/tasks/index.js');
 const { isPatched } = await page('save/patch_job.js');
-const { Crew, localWorker } = await page('../core/crew/crew.js');
+const { Pool, localWorker } = await page('../core/pool/pool.js');
 const { JOBS } = await page('../core/jobs/jobs.js');
 
-const app = { calls, parts, crew: new Crew([localWorker(calls, JOBS)]) };
+const app = { calls, parts, pool: new Pool([localWorker(calls, JOBS)]) };
 const ascii = text => new TextEncoder().encode(text);
 const game = imageOf([ascii('hello'), ascii('world'), ascii('again')]);
 
@@ -112,10 +112,10 @@ test('an image fits only if it is as long as the author’s and all that is writ
     const rows = [
         [`${set}set 1 0 41 was 77\n`, image, 'fits', /^All 2 places match\. The rest of the disc differs from the author’s\. 1 sector of your image is damaged\.$/],
         [set, image, 'fits', /^The place matches\./],
-        [`${set}set 1 0 41\n`, image, 'unknown', /^1 of 2 patches names no old bytes, so nothing shows whether it fits\. 1 sector of your image is damaged\.$/],
+        [`${set}set 1 0 41\n`, image, 'unknown', /^1 of 2 places to patch matches\. 1 of 2 patches names no old bytes, so nothing shows whether it fits\. 1 sector of your image is damaged\.$/],
         ['set 0 0 41\nfill 1 0 100 00\n', image, 'unknown', /^2 of 2 patches name no old bytes, so nothing shows whether they fit\. 1 sector/],
-        [`${set}fill 1 0 1 41\n`, image, 'unknown', /^1 of 2/],
-        [`${set}rebuild 1\n`, image, 'unknown', /^1 of 2/],
+        [`${set}fill 1 0 1 41\n`, image, 'unknown', /^1 of 2 places to patch matches\. 1 of 2 patches/],
+        [`${set}set 1 0 4A was 77\nrebuild 1\n`, image, 'unknown', /^2 of 3 places to patch match\. 1 of 3 patches names/],
         [set, { size: size + 2352, sha1: '' }, 'unknown', /^The place matches, but .* Your image has 7,056 bytes, and the author’s has 9,408\. The file is probably incomplete\. 1 sector/],
         [set, { size: size - 2352, sha1: '' }, 'unknown', /the author’s has 4,704\. 1 sector/],
     ];

@@ -133,7 +133,7 @@ test('the next region is made while one is written', async () => {
     assert.deepEqual(order, ['read at 0', 'write at 0', 'read at 16', 'written', 'write at 16', 'read at 32', 'written', 'write at 32', 'written']);
 });
 
-test('what is no file is written as bytes', async () => {
+test('an image that is not a file is written as bytes', async () => {
     const sink = sinkOf();
     const { file, ...source } = longReader;
     assert.deepEqual([file, await saved(sink, {}, source)], [long, DONE]);

@@ -8,7 +8,7 @@ const { messageOf, messageParts, sentence } = await page('ui/notices.js');
 
 const { megabytes } = await page('ui/progress.js');
 const { newBytes } = await core('faults.js');
-const { serving } = await core('crew/crew.js');
+const { serving } = await core('pool/pool.js');
 const { JOBS } = await core('jobs/jobs.js');
 
 test('a size is said alike everywhere: in megabytes, below 100 with a tenth', () => {

@@ -5,7 +5,7 @@ import { test } from 'node:test';
 import { MESSAGES } from '../lib/messages.mjs';
 import { calls, core, page } from './page.mjs';
 
-const { replacedLines } = await core('script/merge_lines.js');
+const { replacedLinesInTurns } = await core('script/merge_lines.js');
 const { modelInParts } = await core('script/model.js');
 const { mergeOf } = await page('app/merging.js');
 const { ReplacedFiles } = await page('app/replaced_files.js');
@@ -255,7 +255,7 @@ test('lines that give way to others are found in their order, and taken out by o
     const lines = linesOf('cdpatch 1\n# mine\nfill 5 0 3 00\n');
     lines.add(['set 6 1 4141 was 2020'], '');
     lines.add(['set 5 0 41 was 20', 'set 6 3 42 was 20', 'set 7 0 43 was 20'], 'bytes');
-    const found = await replacedLines(lines, ['set 6 2 2020 was 2020', 'set 5 0 202020 was 202020'], ({ text }) => lines.made.has(text));
+    const found = await replacedLinesInTurns(lines, ['set 6 2 2020 was 2020', 'set 5 0 202020 was 202020'], ({ text }) => lines.made.has(text));
     assert.deepEqual(found.map(({ number }) => number), [4, 5, 6]);
     const before = lines.text();
     assert.equal(lines.remove(new Set(found.map(({ text }) => text))), 3);

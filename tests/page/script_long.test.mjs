@@ -6,7 +6,7 @@ import { MESSAGES } from '../lib/messages.mjs';
 import { calls, page } from './page.mjs';
 
 const { ScriptLines } = await page('app/script_lines.js');
-const { isLong } = await page('app/script_long.js');
+const { hasTooMany, isLong } = await page('app/script_long.js');
 const { MOST_HELPED, chosenHelps } = await page('script/helps.js');
 
 test('a script is too long above 4 MB, or 150,000 lines', () => {
@@ -14,6 +14,35 @@ test('a script is too long above 4 MB, or 150,000 lines', () => {
     assert.equal(isLong(`cdpatch 1\n${'#'.repeat(3999991)}`), true);
     assert.equal(isLong('\n'.repeat(149999)), false);
     assert.equal(isLong('\n'.repeat(150000)), true);
+});
+
+test('a script that is too long to be shown has too many patches above 65,535, as cdpatch counts them', () => {
+    const others = ' # rebuild 7\n\n\t \r\n#\n'.repeat(40000);
+    for (const [count, isBeyond] of [[65535, false], [65536, true]]) {
+        const text = `#\ncdpatch 1\n${'rebuild 7\n'.repeat(count - 2)}\t rebuild 7\r\n${others}rebuild 7`;
+        assert.equal(hasTooMany(text), isBeyond);
+        assert.equal(new ScriptLines(calls, text).tooMany, isBeyond);
+        const lines = new ScriptLines(calls);
+        lines.replace(text, '');
+        const long = new ScriptLines(calls);
+        long.take(`${text}${'#\n'.repeat(150000)}`, 'long.txt');
+        assert.deepEqual([lines.tooMany, long.tooMany, long.lines.length], [isBeyond, isBeyond, 1]);
+        long.leaveLong();
+        assert.equal(long.tooMany, false);
+    }
+});
+
+test('after a script that is too long to be shown, the lines and edits before it return, and the base is that of the open image', () => {
+    const lines = new ScriptLines(calls);
+    lines.add(['rebuild 7'], '');
+    const before = lines.text();
+    const bringBack = lines.take(`cdpatch 1\n${'#\n'.repeat(150000)}`, 'long.txt');
+    lines.base = 150;
+    assert.deepEqual([lines.lines.length, lines.patches, lines.name], [1, 0, 'long.txt']);
+    bringBack();
+    assert.deepEqual([lines.text(), lines.patches, lines.name, lines.base, lines.long], [before, 1, '', 150, null]);
+    lines.undo();
+    assert.equal(lines.isNew(), true);
 });
 
 test('of the longest script whose lines are shown each line is read once, and once more if it has too many patches', () => {

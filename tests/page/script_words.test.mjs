@@ -30,9 +30,10 @@ test('each fault has a sentence, and some a line that mends it', () => {
     assert.equal(said('set 1 2 4142 was 41').text, 'New bytes: 2, old bytes: 1. There must be as many of each.');
     assert.match(said('fill 1 2 5000 00').text, /1 to 4096/);
     assert.match(said('rebuild 1 2').text, /rebuild BLOCK\.$/);
+    assert.match(said('set 1 2').text, /: set BLOCK OFFSET NEW, or set BLOCK OFFSET NEW was OLD\.$/);
     assert.match(said('address 1 00:60:00').text, /SS to 59/);
     assert.deepEqual(said('SET 1 2 41').fix, { says: 'set?', lines: ['set 1 2 41'] });
-    assert.match(said('replace 1 2 41').text, /The verbs are/);
+    assert.match(said('replace 1 2 41').text, /The verbs are set, fill, rebuild, address \(from version 2 on\),/);
     for (const line of ['cdpatch 1', 'CDPATCH 2']) assert.match(said(line).text, /one head line/);
 });
 

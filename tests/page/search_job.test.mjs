@@ -2,7 +2,7 @@
 
 import assert from 'node:assert/strict';
 import { test } from 'node:test';
-import { localCrew } from '../core/crews.mjs';
+import { localPool } from '../core/pools.mjs';
 import { TEXT, openedDisc } from '../core/opened.mjs';
 import { withDocument } from './document.mjs';
 import { calls, core, page } from './page.mjs';
@@ -13,8 +13,9 @@ const { encodingOf } = await core('encodings/encodings.js');
 test('the page finds what the task finds, in the order of the files', async t => {
     withDocument(t);
     const { SearchJob } = await page('text/search_job.js');
+    const { App } = await page('app/state.js');
     const { opened } = await openedDisc();
-    const app = { calls, crew: localCrew(), runOnImage: job => job({ aborted: false }, () => {}) };
+    const app = new App(calls, localPool(), null);
     const encoding = encodingOf('UTF-8');
     const { count, hits, image } = await new SearchJob(app).find({ opened }, { text: TEXT, encoding });
     const { best } = await findText(app, opened, { text: TEXT, encodings: [encoding], limit: 10 });

@@ -95,3 +95,14 @@ test('only what is about a turn apart is called a scratch', () => {
     }
     assert.deepEqual(guessed(100, 541, 500), [['every 541st sector all over the disc', true]]);
 });
+
+test('rows of lost sectors, and of sectors with addresses of other blocks, are not called copy protection', () => {
+    const words = mark => {
+        const marks = new Uint8Array(40).fill(MARK.MODE1);
+        marks.fill(mark, 20, 30);
+        return placesOf({ marks, known: 40 }).map(place => placeGuess(place, false, 40));
+    };
+    assert.deepEqual(words(MARK.LOST), ['10 in a row: perhaps not read by the drive']);
+    assert.deepEqual(words(MARK.ADDRESS), ['10 in a row: sectors before them are missing or extra']);
+    assert.deepEqual(words(MARK.EDC), ['10 in a row: perhaps on purpose (copy protection)']);
+});

@@ -49,7 +49,7 @@ test('who takes another script is given back the one that was in no file', () =>
 test('a job with the second image ends with it, and the next one goes on', async () => {
     const app = new App(calls, null, null);
     const ended = [];
-    const begin = () => app.runPair(async signal => new Promise(done => {
+    const begin = () => app.run({ of: 'pair' }, async ({ signal }) => new Promise(done => {
         signal.addEventListener('abort', () => { ended.push(signal); done(); });
     }));
     const jobs = [begin(), begin()];
@@ -63,7 +63,7 @@ test('a job with the second image ends with it, and the next one goes on', async
 test('saves are counted until they end, and nothing but their Cancel ends them', async () => {
     const app = new App(calls, null, null);
     const ends = [];
-    const save = () => app.runSave((signal, cancel) => new Promise((done, fail) => {
+    const save = () => app.run({ saves: true }, ({ signal, cancel }) => new Promise((done, fail) => {
         signal.addEventListener('abort', () => fail(new Error('cancelled')));
         ends.push({ signal, cancel, done });
     }));

@@ -224,7 +224,7 @@ class States(PageTest):
         """Two images that differ in damage: before making a script, the page says that damage is left out."""
         self.pair(discs.scratches(), discs.scratches(other=True), 'Compare')
         self.browser.wait('#second-body .tally', 'differ')
-        self.press('Save the script')
+        self.press('Open in Script')
         self.browser.wait('#second-body .say.bad')
 
     def to_close_asked(self) -> None:
@@ -306,7 +306,7 @@ class States(PageTest):
 
     def to_script_version(self) -> None:
         """A script of an unknown version."""
-        self.marked(discs.script().replace('cdpatch 1', 'cdpatch 3').encode(), 'Change it to “cdpatch 2”')
+        self.marked(discs.script().replace('cdpatch 1', 'cdpatch 9').encode(), 'Change it to “cdpatch 2”')
 
     def to_script_marked(self) -> None:
         """A script in UTF-16: it has been read, and one press saves it as UTF-8."""
@@ -432,7 +432,7 @@ class States(PageTest):
 
     def to_player_unknown(self) -> None:
         """A different dump, for which nothing shows whether the patch fits."""
-        self.play(common.damaged(discs.game(), 150), 'playerNotAuthorsDisc')
+        self.play(common.damaged(discs.game(), 150), 'playerCannotTell')
 
     def to_player_other(self) -> None:
         """A different disc, which the patch does not fit."""

@@ -12,7 +12,7 @@ const { openDisc } = await core('disc/index.js');
 /** The image of these bytes as the page opens it. */
 async function opened(bytes) {
     const reader = { size: bytes.length, read: async (at, length) => bytes.slice(at, at + length) };
-    return imageOfTrack(await openDisc(calls, [{ name: 'game.bin', reader }]), '', null);
+    return imageOfTrack(await openDisc(calls, [{ name: 'game.bin', reader }]), null);
 }
 
 test('the sectors of an image that begins before block 0 have the addresses that it says', async () => {
@@ -20,7 +20,7 @@ test('the sectors of an image that begins before block 0 have the addresses that
     bytes[2352 * 7 + 14] ^= 1; // breaks an address
     const image = await opened(Buffer.concat([new Uint8Array(2352 * 150), bytes]));
     assert.deepEqual([image.base, image.addressed], [0, -150]);
-    const app = new App(calls, summing.crew, summing.parts);
+    const app = new App(calls, summing.pool, summing.parts);
     const found = [];
     app.on('surveyed', () => found.push([app.survey.marks.findings(), app.survey.marks.elsewhere]));
     await readImage(app, image);

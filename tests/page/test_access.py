@@ -101,6 +101,21 @@ class Access(States):
         self.reach('Patch and save', Keys.ENTER)
         self.browser.wait('#saved', 'Saved:')
 
+    def test_a_button_that_disappears_keeps_the_focus_on_its_part(self) -> None:
+        files = discs.written(game=discs.game(), english=discs.script(), refused=discs.refused(), fault='cdpatch 1\nset 3 2105 41\n')
+        self.open_image(files['game'])
+        self.open_script(files['fault'])
+        self.press_by_key('Block ')
+        self.wait_for_focus('.editor textarea')
+        self.browser.press(Keys.END, *' # typed')
+        self.open_files(files['refused'])
+        self.browser.wait('#messages .say', 'Bring it back')
+        self.press_by_key('Bring it back')
+        self.wait_for_focus('.editor textarea')
+        self.to_player_right()
+        self.press_by_key('Open this in the full cdpatch')
+        self.wait_for_focus('#tab-script')
+
     def test_the_focus_stays_on_what_is_shown(self) -> None:
         self.begin(discs.game())
         self.search('スタート')

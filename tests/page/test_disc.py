@@ -69,7 +69,7 @@ class Disc(PageTest):
         """Opens these files in the new page, and waits until they have been read."""
         browser = self.browser
         browser.give('#files', paths)
-        browser.wait(VERDICT, 'Mode 1')
+        browser.wait(f'{VERDICT} b[class$=-ink]')
         return browser
 
     def place(self) -> str:
@@ -97,8 +97,8 @@ class Disc(PageTest):
     def test_it_opens_by_the_button_from_a_file_and_sends_nothing(self) -> None:
         image = scratched()
         browser = self.opened(file_of(image))
-        self.assertEqual(browser.text(VERDICT).split('.')[0], f'9 of {SECTORS - 2} Mode 1 sectors are damaged, in 1 place; '
-                         '2 lost their sync field or mode byte; 1 has a wrong address')
+        self.assertEqual(browser.text(VERDICT).split('.')[0], f'9 of {SECTORS - 2} data sectors are damaged; '
+                         '2 data sectors are lost; 1 sector has a wrong address')
         browser.wait('.sha1', sha1(image))
         self.assertEqual(browser.attempts(), [])
 
@@ -109,7 +109,7 @@ class Disc(PageTest):
         browser.open(f'{server.url}/{common.PAGE.name}')
         browser.wait('#open-files')
         browser.drop('#drop', [file_of(discs.game())])
-        browser.wait(VERDICT, f'All {SECTORS} Mode 1 sectors are sound')
+        browser.wait(VERDICT, f'All {SECTORS} data sectors are sound')
         browser.wait('.sha1', sha1(discs.game()))
         self.assertEqual(browser.attempts(), [])
         self.assertEqual([line for line in server.requests if common.PAGE.name not in line], [])
@@ -127,7 +127,7 @@ class Disc(PageTest):
         self.assertEqual(browser.text('#disc-line .name'), first.name)
         browser.choose('#disc-line select', '3')
         browser.wait('#disc-line .name', second.name)
-        browser.wait(VERDICT, 'All 80 Mode 1 sectors are sound')
+        browser.wait(VERDICT, 'All 80 data sectors are sound')
         self.assertEqual(browser.text('#disc-line dl dd').split()[0], '830')
 
     def test_a_cut_image_says_where_its_volume_goes_on(self) -> None:
@@ -193,8 +193,8 @@ class Disc(PageTest):
         image = image[:20 * SECTOR_SIZE + 16] + bytes(SECTOR_SIZE - 16) + image[21 * SECTOR_SIZE:]
         browser = self.browser
         browser.give('#files', [file_of(image)])
-        browser.wait(VERDICT, '2 of 39 data sectors are damaged, in 1 place; 1 has a wrong address.')
-        self.assertIn('1 Mode 2 sector could not be tested. You can view and repair Mode 2 sectors, but not patch them.', browser.text(VERDICT))
+        browser.wait(VERDICT, '2 of 39 data sectors are damaged; 1 sector has a wrong address; 1 sector has no codes that show damage.')
+        self.assertIn('You can view and repair Mode 2 sectors, but not patch them.', browser.text(VERDICT))
         for block, words in ((7, 'damaged: the EDC does not match, the parity does not match'), (9, 'damaged: the parity does not match'),
                              (11, 'The address in its header is not that of its block'), (12, 'This sector is sound'), (20, 'was not tested')):
             self.go_to(block)
@@ -210,7 +210,7 @@ class Disc(PageTest):
     def test_workers_that_can_read_no_file_are_given_bytes(self) -> None:
         image = scratched() * 120
         browser = self.opened(file_of(image))
-        browser.wait(VERDICT, '1,080 of 21,600 Mode 1 sectors are damaged')
+        browser.wait(VERDICT, '1,080 of 21,600 data sectors are damaged')
         browser.run('''const real = Worker.prototype.postMessage; globalThis.posted = { files: 0, bytes: 0 };
             Worker.prototype.postMessage = function (message, ...given) {
                 const pieces = message.pieces?.map(piece => piece.file ? { ...piece, file: new Blob() } : piece);
@@ -269,7 +269,7 @@ class Disc(PageTest):
     def test_the_example_disc_opens(self) -> None:
         browser = self.browser
         browser.click('#open-example')
-        browser.wait(VERDICT, '16 of 270 Mode 1 sectors are damaged, in 1 place')
+        browser.wait(VERDICT, '16 of 270 data sectors are damaged')
         browser.wait('#findings', 'a scratch: every 9th sector')
 
     def test_no_panel_is_wider_than_a_phone(self) -> None:
@@ -291,7 +291,7 @@ class Disc(PageTest):
         self.assertEqual(browser.run('return document.activeElement.innerText'), 'Change')
         self.assertNotIn('copy protection', browser.text('#findings'))
         browser.run("document.querySelector('#disc-line .lead .main').click()")
-        browser.wait('#disc-line .lead', f'1 of {len(discs.game()) // 2352} Mode 1 sectors')
+        browser.wait('#disc-line .lead', f'1 of {len(discs.game()) // 2352} data sectors')
 
     def test_reading_can_be_cancelled_and_begun_again(self) -> None:
         browser = self.browser
@@ -310,7 +310,7 @@ class Disc(PageTest):
         self.assertNotIn('Calculating the SHA-1', browser.text('#panel-publish'))
         browser.click('#tab-disc')
         browser.click(f'{VERDICT} button')
-        browser.wait(VERDICT, 'Mode 1 sectors match')
+        browser.wait(VERDICT, 'missing or extra in 119 places')
 
     def test_an_image_is_read_once_for_its_map_and_its_hashes(self) -> None:
         browser = self.browser

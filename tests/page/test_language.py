@@ -29,8 +29,8 @@ WHOLE = {'cdpatch', 'carry', 'rebuild', 'was', 'cdpatch check', 'cdpatch apply',
 
 # Parts of texts without marks: names, hashes, lines of a script, the browser's own words, and input from the tests.
 WITHIN = [
-    r'\b(?=[a-f]*\d)[0-9a-f]{8,}\b', r'\b(esbuild|zlib|wasm-opt|cdpatch) [\d.]+', '^cdpatch: ', 'Shift-JIS', r'\baudit\b', r'\bset \d+ \d+ [0-9A-F]+ was [0-9A-F]+',
-    r'\d and \d',  # Intl.ListFormat
+    r'\b(?=[a-f]*\d)[0-9a-f]{8,}\b', r'\b(esbuild|zlib|cdpatch) [\d.]+', '^cdpatch: ', 'Shift-JIS', r'\bWindows-125\d\b', r'\baudit\b', r'\bset \d+ \d+ [0-9A-F]+ was [0-9A-F]+',
+    'set, fill, rebuild(, address)?', r'\d and \d',  # Intl.ListFormat
     r'Hoshizora Tantei \(Japan\).bin', r'english\.txt', 'Starlit Detective in English', 'Team Comet · version', '^All menus and chapters .*', '^Start␣*$',
     '^Continue␣*$', '^New game␣*$', r'^Set\.$', '^Cont$', '^much too long .*', '^also too long .*',
 ]
@@ -41,8 +41,9 @@ CORE = {
     'Calls.outcomeLine': r'(refused: )?old bytes differ at block \d+ offset \d+|no block \d+|block \d+ is damaged',
     'SectorCalls.auditLine': r'edc p=\d+ q=\d+',
     'script/left of sentences/english.js, with blocksText of sentences/blocks.js': r'is damaged in blocks [\d, ]+ and \d+ more',
+    'verdictText of sentences/verdict.js': r'(?i:^the only data sector is sound|(all )?[\d,]+ (of [\d,]+ )?(data |Mode 2 |extra )?(sectors?|blocks?|tracks?)( of the volume)? .*(sound|damaged|lost|address|missing|tested|damage).*)',
     'kind/what of sentences/kinds.js': '^not recognised$',
-    'list/new-characters of sentences/english.js': r'No old text has these characters, so the font of the game may lack them: .* in row \d+\.',
+    'list/new-characters of sentences/english.js': r'\d+ characters are in no old text: .* Does the font of the game have them\?',
     'replace/no-room of sentences/english.js': r'the new text has \d+ bytes in CP932, and there is room for \d+: \d+ too many',
 }
 
@@ -88,7 +89,7 @@ def in_another_language(page: Path) -> Path:
         english.write_text(marked(english.read_text('utf-8')), 'utf-8')
     made, most = room / 'cdpatch.html', pack.LARGEST_PAGE
     pack.LARGEST_PAGE = 2 * most
-    made.write_text(pack.packed_door('page', room / 'web', common.TOP / 'library/cdpatch.wasm', Path('/dev/null')), 'utf-8')
+    made.write_text(pack.packed_interface('page', room / 'web', common.TOP / 'library/cdpatch.wasm', Path('/dev/null')), 'utf-8')
     pack.LARGEST_PAGE = most
     return made
 

@@ -21,6 +21,7 @@ TALLY = '''return Object.fromEntries([...document.querySelectorAll('#list .tally
 # Presses Cancel. Returns the message that the list has then, at once.
 CANCELLED = '''const list = document.querySelector('#list');
     [...list.querySelectorAll('button')].find(it => it.innerText === 'Cancel').click();
+    await new Promise(requestAnimationFrame);
     return list.querySelector('.say')?.innerText'''
 
 

@@ -201,6 +201,22 @@ class Messages(PageTest):
         self.wait_for_hash()
         self.is_gone('#long-job')
 
+    def test_the_bar_shows_the_job_that_the_visible_panel_does_not_show(self) -> None:
+        self.browser.run(f'{GATE} globalThis.least = 400000;')
+        self.open_files(discs.written(game=discs.game())['game'])
+        self.browser.click('#tab-text')
+        self.browser.run('Worker.prototype.postMessage = () => {}')
+        self.press('Export a table')
+        self.browser.wait('#panel-text .progress')
+        self.browser.wait('#long-job [aria-label="Reading the disc"]')
+        self.browser.click('#tab-disc')
+        self.browser.wait(f'#long-job [aria-label="{common.text("textLookingForTexts")}"]')
+        self.assertNotIn('Reading the disc', self.browser.text('#long-job'))
+        self.browser.click('#tab-script')
+        self.browser.wait('#long-job [aria-label="Reading the disc"]')
+        self.browser.wait(f'#long-job [aria-label="{common.text("textLookingForTexts")}"]')
+        self.browser.run('openGate()')
+
     def test_a_job_that_is_asked_for_while_another_one_runs_is_refused_with_words(self) -> None:
         self.open_image(discs.written(game=discs.game())['game'])
         self.browser.click('#tab-text')

@@ -286,7 +286,7 @@ class Script(PageTest):
         self.browser.press(Keys.END, held=Keys.CONTROL)
         self.assertEqual(self.rows()[-2].split('|')[:2], ['65536', 'set 65534 0 4A4A4A4A4A4A4A4A'])
         self.browser.press('rebuild 7')
-        self.browser.wait('#panel-script header .tag', '1 error')
+        self.browser.wait('#panel-script header .tag', 'more than 65,535 patches')
         self.assertEqual(self.rows()[-1], '65537|rebuild 7|more than 65535 patches')
         self.assertEqual(self.browser.attempts(), [])
 
@@ -343,6 +343,23 @@ class Script(PageTest):
             saved.unlink()
             self.assertEqual(self.browser.run('return forgotten'), due)
             self.press('Back to Check')
+
+    def test_a_script_with_too_many_patches_has_one_message_and_no_button(self) -> None:
+        image = discs.written(game=discs.game())['game']
+        for others in (0, 100000):
+            script = discs.written(long='cdpatch 1\n' + 'rebuild 3\n' * 65536 + '#\n' * others)['long']
+            for opened in ((script,), (script, image)):
+                with self.subTest(others=others, opened=len(opened)):
+                    self.browser.open(common.PAGE)
+                    self.browser.wait('#start h1')
+                    self.open_files(*opened)
+                    self.browser.wait('#panel-script .side', 'Apply it with cdscript apply --long.')
+                    said = self.browser.run('return [...document.querySelectorAll("#panel-script :is(.say.bad, .say.warn)")].map(it => it.innerText)')
+                    self.assertEqual(len(said), 1, said)
+                    self.assertEqual(self.browser.run('return [...document.querySelectorAll("#panel-script .side .btn")].length'), 0)
+                    self.assertEqual(self.browser.text('#panel-script header .tag.bad'), 'more than 65,535 patches')
+                    self.browser.press(Keys.CONTROL + Keys.ENTER)
+                    self.assertFalse(self.browser.run('return document.querySelector("#panel-script .progress") !== null'))
 
     def test_others_get_their_turn_while_a_long_script_is_opened(self) -> None:
         path = discs.written(long='cdpatch 1\n' + 'rebuild 3\n' * 20000)['long']

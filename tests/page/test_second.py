@@ -32,7 +32,7 @@ class Second(PageTest):
         """Writes two files, game.bin and other.bin, and opens one after the other."""
         files = discs.written(game=first, other=second)
         self.open_files(files['game'])
-        self.browser.wait('#disc-line .lead', 'Mode 1')
+        self.browser.wait('#disc-line .lead', 'sector')
         self.open_files(files['other'])
         return files
 
@@ -71,7 +71,7 @@ class Second(PageTest):
                 self.open_files(files['plain' if answer == 'Open it instead' else 'other'])
                 self.browser.answer(answer)
                 if answer == 'Open it instead':
-                    self.browser.wait('#disc-line .lead', 'All 40 Mode 1 sectors are sound')
+                    self.browser.wait('#disc-line .lead', 'All 40 data sectors are sound')
                 else:
                     self.browser.wait('.tally')
                 waited(lambda: self.pressed_entries() == [], 'an entry is pressed')
@@ -146,7 +146,7 @@ class Second(PageTest):
                 sheet = files['game'].with_suffix('.cue')
                 sheet.write_text(discs.sheet_of(**tracks))
                 self.open_files(files['game'], *[sheet] if tracks else [], *[files[stem] for stem in tracks if stem == 'song'])
-                self.browser.wait('#disc-line .lead', 'Mode 1')
+                self.browser.wait('#disc-line .lead', 'sector')
                 self.open_files(files['other'])
                 self.browser.answer()
                 self.press('Save repaired image')
@@ -268,7 +268,7 @@ class Second(PageTest):
                 self.assertEqual(self.tally()[0], 1 if first == 0 else 40)
                 self.press('Open it instead')
                 self.browser.wait('#disc-line .name', 'other.bin')
-                self.browser.wait('#disc-line .lead', 'All 40 Mode 1 sectors are sound')
+                self.browser.wait('#disc-line .lead', 'All 40 data sectors are sound')
 
     def test_a_comparison_names_the_file_of_each_block(self) -> None:
         first = with_faults() + AUDIO * 14
@@ -317,14 +317,23 @@ class Second(PageTest):
         self.assertEqual(self.tally(), [3, 0, 2])
         tagged = "return [...document.querySelectorAll('[aria-label^=Bytes] .tag')].map(it => [it.parentElement.matches(':last-child'), it.innerText])"
         waited(lambda: self.browser.run(tagged) == [[True, 'damaged in the second']] * 2, 'the tag is not in the column of files')
-        self.press('Save the script')
+        self.press('Open in Script')
         self.browser.wait('#second-body .say.bad', 'the second image is damaged in blocks 33 and 44')
+        self.browser.wait('#second-body .say.bad', 'Leave these 2 out')
         self.assertEqual([*self.browser.downloads.iterdir()], [])
-        self.press('Leave these 2 out')
+        self.browser.run(f'{BUTTON}.focus()', 'Save the script without the 2 damaged sectors')
+        self.browser.press(Keys.ENTER)
         self.browser.wait('#second-body .say.warn', 'gives other.bin, except for blocks 33 and 44, which it leaves as they are.')
+        # A second Enter does not press `Open it instead`.
+        self.assertFalse(self.browser.run('return document.activeElement.matches(".away, body")'))
+        self.browser.press(Keys.ENTER)
+        self.assertEqual([self.browser.text('#disc-line .name'), self.browser.text('#second-title')], ['game.bin', 'Second image: other.bin'])
         script = self.browser.downloaded('other (changes).txt')
         self.assertEqual([line.split()[:2] for line in script.read_text().splitlines()], [['cdpatch', '1'], ['set', '50']])
         script.unlink()
+        self.press('Open in Script')
+        self.press('Leave these 2 out')
+        self.browser.wait('#panel-script .say.good', 'other (changes).txt: 1 patch, which matches game.bin.')
 
     def test_damage_is_not_left_out_if_nothing_else_differs(self) -> None:
         self.pair(with_faults(), with_faults((33, 5), (44, 5)))
@@ -350,7 +359,7 @@ class Second(PageTest):
         image = with_faults()
         files = discs.written(game=image, more=image + AUDIO[:2 * SECTOR_SIZE], fewer=image[:-7 * SECTOR_SIZE], tail=image + b'tail', later=image[SECTOR_SIZE:])
         self.open_files(files['game'])
-        self.browser.wait('#disc-line .lead', 'Mode 1')
+        self.browser.wait('#disc-line .lead', 'sector')
         for name, words in {'more': 'It has 2 sectors more than game.bin', 'fewer': 'It has 7 sectors fewer than game.bin',
                             'tail': 'The bytes after its last sector differ from those of game.bin',
                             'later': 'It is shifted: it begins 1 sector later than game.bin'}.items():
@@ -429,7 +438,7 @@ class Second(PageTest):
         browser = self.browser
         files = discs.written(game=discs.game() * 120, other=discs.game() * 120)
         self.open_files(files['game'])
-        browser.wait('#disc-line .lead', 'Mode 1 sectors match')
+        browser.wait('#disc-line .lead', 'Sectors are missing or extra in 119 places')
         browser.run('''const post = Worker.prototype.postMessage; Object.assign(globalThis, { late: [], ranges: 0 });
             Worker.prototype.postMessage = function (...given) {
                 globalThis.ranges += Number(Boolean(given[0].pieces));

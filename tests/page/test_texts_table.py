@@ -41,14 +41,18 @@ class TextsTable(PageTest):
         self.assertGreater(len(saved.splitlines()), len(SENTENCES))
         self.assertEqual(self.browser.attempts(), [])
 
-    def test_plain_ascii_text_is_listed_only_with_its_table_as_is_said_beside_the_buttons(self) -> None:
+    def test_english_is_listed_only_with_its_encoding_or_table_as_is_said_beside_the_buttons(self) -> None:
         ascii_text = b'Start of the game'
         image = self.begin(spoken_texts())
         self.assertIn(ascii_text, image.read_bytes())
-        self.browser.wait('#panel-text .texts-table + p', 'Plain ASCII text is listed only if a .tbl file with its letters is chosen.')
+        self.browser.wait('#panel-text .texts-table + p', 'For English and other European languages choose Windows-1252')
         self.press('Export a table')
         saved = self.browser.downloaded('game (texts).csv')
         self.assertNotIn(ascii_text, common.waited(saved.read_bytes, 'the table is empty'))
+        saved.unlink()
+        self.browser.choose('#find-encoding', 'Windows-1252')
+        self.press('Export a table')
+        self.assertIn(ascii_text, common.waited(self.browser.downloaded('game (texts).csv').read_bytes, 'the table is empty'))
         saved.unlink()
         tbl = image.with_name('ascii.tbl')
         tbl.write_text(''.join(f'{code:02X}={chr(code)}\n' for code in range(0x20, 0x7F)))
@@ -57,13 +61,21 @@ class TextsTable(PageTest):
         self.press('Export a table')
         self.assertIn(ascii_text, common.waited(self.browser.downloaded('game (texts).csv').read_bytes, 'the table is empty'))
 
+    def test_the_byte_that_ends_texts_is_that_of_the_field(self) -> None:
+        image = self.begin(spoken_texts())
+        self.browser.type('#texts-end', '0A')
+        self.press('Export a table')
+        self.browser.wait('#panel-text .say.good', 'Saved: game (texts).csv')
+        saved = common.waited(self.browser.downloaded('game (texts).csv').read_bytes, 'the table is empty').decode()
+        self.assertEqual(saved, common.cdscript_prints('texts', '--csv', '--end', '0A', image))
+
     def test_new_texts_become_the_lines_that_cdscript_writes(self) -> None:
         image = self.begin(spoken_texts())
         table = self.table(image, {2: 'The game starts.', 3: 'Save?', 5: 'The end.'})
         self.give(table)
         self.browser.wait('#panel-text .say.good', '3 lines added to the script.')
         self.browser.wait('#panel-text .say.good', 'All 3 translations fit.')
-        self.browser.wait('#panel-text .say.good', 'No old text has these characters, so the font of the game may lack them: Thegamstr. in row 2')
+        self.browser.wait('#panel-text .say.good', ' characters are in no old text: S T a')
         written = common.cdscript_prints('replace', image, '--list', table)
         self.press('Open Script')
         self.assertEqual(self.script_text(), written)

@@ -116,13 +116,13 @@ fi
 # Tests the completions of cdscript: jobs, options, repeated options, values, and names that are files.
 asked_of_cdscript() {
     offers "$(jobs_of_cdscript | sort | paste -sd ' ')" ''
-    offers '--help --notices --version' --
+    offers '--forms --help --notices --version' --
     for job in info replace replace-file diff merge raw; do
         offers "$(help_of $job | sed -nE 's/^ +(-.,)? ?(--[a-z-]+) .*/\2/p' | sort | paste -sd ' ')" $job --
     done
     offers '--dat' merge --dat image --d
     offers '' find --track 2 --tr
-    offers 'CP932' find image text --encoding C
+    offers 'CP932' find image text --encoding CP9
     offers 'image' scan --dat im
     offers 'folder' find image text -o fo
     offers "$everything" merge image image ''
@@ -134,18 +134,16 @@ asked_of_cdscript() {
     offers "$everything" replace-file image path ''
     offers "$everything" diff --track 2 image ''
 }
-if [ -e "$scratch/bin/cdscript" ]; then
-    shell='bash, cdscript'
-    . "$completions/cdscript.bash"
-    offered() {
-        COMP_WORDS=(cdscript "$@") COMP_CWORD=$#
-        _cdscript
-        [ ${#COMPREPLY[@]} = 0 ] || printf '%s\n' "${COMPREPLY[@]}"
-    }
+shell='bash, cdscript'
+. "$completions/cdscript.bash"
+offered() {
+    COMP_WORDS=(cdscript "$@") COMP_CWORD=$#
+    _cdscript
+    [ ${#COMPREPLY[@]} = 0 ] || printf '%s\n' "${COMPREPLY[@]}"
+}
+asked_of_cdscript
+if command -v fish > /dev/null; then
+    shell='fish, cdscript'
+    offered() { offered_by_fish cdscript "$@"; }
     asked_of_cdscript
-    if command -v fish > /dev/null; then
-        shell='fish, cdscript'
-        offered() { offered_by_fish cdscript "$@"; }
-        asked_of_cdscript
-    fi
 fi

@@ -1,15 +1,13 @@
 #!/usr/bin/env bash
-# Tests Debian's packages in a clean root with apt; run it by hand before a release. `bash tests/pages/debian_root.sh ROOT DIRECTORY [OLD]`
-# installs the packages of DIRECTORY in ROOT, which `debootstrap --variant=minbase bookworm ROOT` has created. It uses, removes, and purges
-# each, and upgrades to them from OLD, the single package of 1.3.0. Nothing may be left. It needs root and a network, and prints its
-# findings; the last line is 'N passed, M failed'.
+# Tests Debian's packages in a clean root with apt; run it by hand before a release. `bash tests/pages/debian_root.sh ROOT DIRECTORY` installs
+# the packages of DIRECTORY in ROOT, which `debootstrap --variant=minbase bookworm ROOT` has created. It uses, removes, and purges each, and
+# nothing may be left. It needs root and a network, and prints its findings; the last line is 'N passed, M failed'.
 set -u
 root=$(realpath "$1")
 directory=$(realpath "$2")
-old=${3:+$(realpath "$3")}
 top=$(cd "$(dirname "$0")/../.." && pwd)
 . "$top/tests/lib/judging.sh"
-all=(cdpatch cdscript libcdpatch1 libcdpatch-dev python3-cdpatch)
+all=(cdpatch cdscript libcdpatch2 libcdpatch-dev python3-cdpatch)
 
 inside() { chroot "$root" env -i HOME=/root PATH=/usr/sbin:/usr/bin:/sbin:/bin LC_ALL=C.UTF-8 DEBIAN_FRONTEND=noninteractive "$@"; }
 apt() { inside apt-get -qq -y --no-install-recommends "$@" > "$scratch/log" 2>&1 || { tail -n 5 "$scratch/log"; false; }; }
@@ -43,7 +41,7 @@ used_in_c() {
 }
 
 installed_and_removed() {
-    judge 'apt installs them' apt install /packages/{cdpatch,cdscript,libcdpatch1,libcdpatch-dev,python3-cdpatch}.deb
+    judge 'apt installs them' apt install /packages/{cdpatch,cdscript,libcdpatch2,libcdpatch-dev,python3-cdpatch}.deb
     judge 'the program does what its README says' used_by_its_readme
     judge 'Python uses the library' used_in_python
     judge 'the example in C is compiled by pkg-config, and runs' used_in_c
@@ -54,31 +52,14 @@ installed_and_removed() {
     judge 'dpkg knows none of them' is_gone
 }
 
-upgraded() {
-    judge 'apt installs the package of 1.3.0' apt install /packages/old.deb
-    judge 'Python uses it' inside python3 -c 'import cdpatch'
-    judge 'apt upgrades it to all packages' apt install /packages/{cdpatch,cdscript,libcdpatch1,libcdpatch-dev,python3-cdpatch}.deb
-    judge 'the program does what its README says, after that' used_by_its_readme
-    judge 'Python uses the library, after that' used_in_python
-    judge 'apt purges all packages' apt purge "${all[@]}"
-    judge 'nothing is left after the upgrade' is_as_before
-    judge 'apt installs the package of 1.3.0 again' apt install /packages/old.deb
-    judge 'apt upgrades it to the program alone' apt install /packages/cdpatch.deb
-    judge 'then only that is there' test "$(inside dpkg -l "${all[@]}" 2> "$scratch/log" | sed -n 's/^ii *\([^ ]*\) .*/\1/p')" = cdpatch
-    judge 'apt purges it' apt purge cdpatch
-    judge 'nothing is left of it' is_as_before
-}
-
 mkdir -p "$root/packages"
 mount --bind /proc "$root/proc"
 trap 'umount "$root/proc"; rm -rf "$scratch" "$root/packages"' EXIT
 for name in "${all[@]}"; do
     cp "$directory/${name}"_*.deb "$root/packages/$name.deb"
 done
-[ -z "$old" ] || cp "$old" "$root/packages/old.deb"
 cp /etc/resolv.conf "$root/etc/resolv.conf"
 judge 'apt installs what they need' eval 'apt update && apt install nodejs python3 gcc libc6-dev pkg-config'
 paths > "$scratch/before"
 installed_and_removed
-[ -z "$old" ] || upgraded
 finish

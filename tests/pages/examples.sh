@@ -43,8 +43,6 @@ blocks_of() {
 packaged() {
     case $1 in
         chdman) echo mame-tools ;;
-        node) echo nodejs ;;
-        cdscript) echo 'binaryen and esbuild, for make' ;;
         *) echo "$1" ;;
     esac
 }
@@ -84,7 +82,7 @@ page() {
     judge "$name has blocks" test "$(blocks_of "$2")" -gt 0
     for needs in *.needs; do
         [ -e "$needs" ] || continue
-        read -ra commands < <(sed 's/\bnode\b/node cdscript/' "$needs")
+        read -ra commands < "$needs"
         for command in "${commands[@]}"; do
             command -v "$command" > /dev/null && continue
             lacking[$command]+=" ${needs%.needs}"
@@ -144,41 +142,39 @@ if [ -e long.bin ]; then
 fi
 
 # The tarball, unpacked in an empty directory and installed, with nothing else of the project on the path.
-if ! missing make make 'the pages of the tarball'; then
-    mkdir "$scratch/from_tarball"
-    cd "$scratch/from_tarball" || exit 1
-    packed
-    tar -xzf "$scratch"/packed/made/*-linux.tar.gz
-    make --no-print-directory -s -C cdpatch-*-linux > said
-    judge 'make in the tarball installs nothing' test "$(cat said)" = 'Everything is built: make install installs it.'
-    make --no-print-directory -s -C cdpatch-*-linux install PREFIX="$PWD/prefix"
-    rm -r cdpatch-*-linux
-    installed=$PWD/prefix
-    path=$PATH
-    # The tools that the pages need, those that every system has, and the shell.
-    mkdir "$scratch/named"
-    for name in awk base64 bash cat cmp cp cut dash date dd diff dirname find grep gunzip gzip head iconv ls ln mkdir mktemp mv od rm sed sh \
-        seq sha256sum sort tail test touch tr uniq wc yes genisoimage node git perl; do
-        ! command -v "$name" > /dev/null || ln -s "$(command -v "$name")" "$scratch/named/$name"
-    done
-    PATH=$installed/bin:$scratch/named
-    judge 'the program is the installed one' test "$(command -v cdpatch)" = "$installed/bin/cdpatch"
-    pages tarball "$installed/share/doc/cdpatch" "$installed/share/man/man1/cdpatch.1"
-    # The README's patch fits any disc with ISO 9660, and no others.
-    cd "$scratch/tarball-readme" || exit 1
-    made='../sources-TRANSLATE/Game (Track 1).bin'
-    [ ! -e "$made" ] || judge 'the patch of the README is right for a disc of genisoimage' cdpatch check "$made" changes > log
-    cdpatch check "$top/crates/cd_low_tests/data/cdrkit-8.bin" changes > log
-    judge 'and refused on a short image' test "$(head -n 1 log)" = 'line 2: refused: no block 16'
-    cdpatch check new.bin changes > log
-    judge 'and where it was applied' test "$(head -n 1 log)" = 'line 2: refused: old bytes differ at block 16 offset 1395'
-    PATH=$path
-    # The installed pages name no command and no file that only the sources have.
-    cd "$installed/share/doc/cdpatch" || exit 1
-    grep -nE 'crates/cd_low_tests/data|make (check|test|dist|quick)|^ *make( |$)|sources -->' README.md docs/{SCRIPTS,TRANSLATE,REPAIR,FAQ,INSTALL}.md > only
-    judge "the installed pages have only what works there: $(head -n 1 only)" test ! -s only
-    rm only
-    while IFS=: read -r page link <&3; do
-        judge "installed $page: $link is there" test -e "$(dirname "$page")/$link"
-    done 3< <(grep -oE '\]\([^) ]*\)' README.md CHANGELOG.md docs/*.md | sed -e 's/](//' -e 's/)$//' -e '/:#/d' -e 's/#.*//' | grep -v ':http')
-fi
+mkdir "$scratch/from_tarball"
+cd "$scratch/from_tarball" || exit 1
+packed
+tar -xzf "$scratch"/packed/made/*-linux.tar.gz
+make --no-print-directory -s -C cdpatch-*-linux > said
+judge 'make in the tarball installs nothing' test "$(cat said)" = 'Everything is built: make install installs it.'
+make --no-print-directory -s -C cdpatch-*-linux install PREFIX="$PWD/prefix"
+rm -r cdpatch-*-linux
+installed=$PWD/prefix
+path=$PATH
+# The tools that the pages need, those that every system has, and the shell.
+mkdir "$scratch/named"
+for name in awk base64 bash cat cmp cp cut dash date dd diff dirname find grep gunzip gzip head iconv ls ln mkdir mktemp mv od rm sed sh \
+    seq sha256sum sort tail test touch tr uniq wc yes genisoimage node git perl; do
+    ! command -v "$name" > /dev/null || ln -s "$(command -v "$name")" "$scratch/named/$name"
+done
+PATH=$installed/bin:$scratch/named
+judge 'the program is the installed one' test "$(command -v cdpatch)" = "$installed/bin/cdpatch"
+pages tarball "$installed/share/doc/cdpatch" "$installed/share/man/man1/cdpatch.1"
+# The README's patch fits any disc with ISO 9660, and no others.
+cd "$scratch/tarball-readme" || exit 1
+made='../sources-TRANSLATE/Game (Track 1).bin'
+[ ! -e "$made" ] || judge 'the patch of the README is right for a disc of genisoimage' cdpatch check "$made" changes > log
+cdpatch check "$top/crates/cd_low_tests/data/cdrkit-8.bin" changes > log
+judge 'and refused on a short image' test "$(head -n 1 log)" = 'line 2: refused: no block 16'
+cdpatch check new.bin changes > log
+judge 'and where it was applied' test "$(head -n 1 log)" = 'line 2: refused: old bytes differ at block 16 offset 1395'
+PATH=$path
+# The installed pages name no command and no file that only the sources have.
+cd "$installed/share/doc/cdpatch" || exit 1
+grep -nE 'crates/cd_low_tests/data|make (check|test|dist|quick)|^ *make( |$)|sources -->' README.md docs/{SCRIPTS,TRANSLATE,REPAIR,FAQ,INSTALL}.md > only
+judge "the installed pages have only what works there: $(head -n 1 only)" test ! -s only
+rm only
+while IFS=: read -r page link <&3; do
+    judge "installed $page: $link is there" test -e "$(dirname "$page")/$link"
+done 3< <(grep -oE '\]\([^) ]*\)' README.md CHANGELOG.md docs/*.md | sed -e 's/](//' -e 's/)$//' -e '/:#/d' -e 's/#.*//' | grep -v ':http')

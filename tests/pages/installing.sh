@@ -1,41 +1,14 @@
-# Tests `make install` and `make uninstall`: for a package, below other directories, over earlier releases, and with nothing built.
+# Tests `make install` and `make uninstall`: for a package, below other directories, and with nothing built.
 
 # built WORD..: runs make in `tree`, which has the built files.
 built() { make --no-print-directory -s -C tree "$@"; }
 files() { [ ! -d "$1" ] || (cd "$1" && find . ! -type d | LC_ALL=C sort); }
 
-# changed_tree FILE EXPRESSION: creates a tree `other` in which a sed expression has changed a file.
-changed_tree() {
-    rm -rf other
-    mkdir other
-    ln -s "$PWD"/tree/* other
-    rm "other/${1%%/*}"
-    cp -rL "tree/${1%%/*}" other
-    sed -E "$2" "tree/$1" > "other/$1"
-    judge "a make install of which $1 is changed by $2 is another" test "$(sha256sum < "tree/$1")" != "$(sha256sum < "other/$1")"
-}
-# built_otherwise WORD..: runs make in `other`.
-built_otherwise() { make --no-print-directory -s -C other "$@"; }
-
-# A make install that uses cp writes through a link at the target.
-writes_through_links() {
-    changed_tree tools/files.sh 's/\$INSTALL -m 644 "\$room\/text"/cp "$room\/text"/'
-    ln -sf "$PWD/victim" root/usr/lib/pkgconfig/cdpatch.pc
-    built_otherwise install DESTDIR="$PWD/root" PREFIX=/usr
-    judge 'and is refused' test "$(cat victim)" != kept
-    rm root/usr/lib/pkgconfig/cdpatch.pc
-    built install DESTDIR="$PWD/root" PREFIX=/usr
-}
-
-# is_complete ROOT: whether it has every file that 1.2.0 or 1.3.0 installed below its /usr, except the removed one, and a man page for each
-# call.
-is_complete() {
-    files "$1/usr" > got
-    { grep -vx ./share/cdpatch/python/cdpatch/_scripts.py "$top/tests/pages/installed.txt"
-        sed -n 's/^[a-z].* \(cdpatch_[a-z0-9_]*\)(.*/.\/share\/man\/man3\/\1.3/p' "$top/include/cdpatch.h"
-        (cd "$top/python/cdpatch" && printf './share/cdpatch/python/cdpatch/%s\n' *.py); } |
-        if [ -e "$joined/cdscript" ]; then cat; else grep -vE 'cdscript|cdpatch\.html|\.wasm'; fi | LC_ALL=C sort -u | LC_ALL=C comm -23 - got > lacking
-    [ ! -s lacking ]
+# lacking: prints the man pages of calls and the modules of the package for Python that are not installed.
+lacking() {
+    { sed -n 's/^[a-z].* \(cdpatch_[a-z0-9_]*\)(.*/.\/share\/man\/man3\/\1.3/p' "$top/include/cdpatch.h"
+        (cd "$top/python/cdpatch" && printf './share/cdpatch/python/cdpatch/%s\n' *.py py.typed); } | LC_ALL=C sort |
+        LC_ALL=C comm -23 - <(files root/usr)
 }
 
 # The places of installed files, which must have the bytes of the built files.
@@ -44,20 +17,24 @@ has_what_was_built() {
         judge "$path is $source" cmp -s "$source" "root/usr/$path"
     done 3<< END
 bin/cdpatch $program
+bin/cdscript $top/cdscript
 include/cdpatch.h $top/include/cdpatch.h
 lib/libcdpatch.a $library/libcdpatch.a
-lib/libcdpatch.so $library/libcdpatch.so.1
-lib/glibc-hwcaps/x86-64-v3/libcdpatch.so.1 $library/x86-64-v3/libcdpatch.so.1
+lib/libcdpatch.so $library/libcdpatch.so.2
+lib/glibc-hwcaps/x86-64-v3/libcdpatch.so.2 $library/x86-64-v3/libcdpatch.so.2
+share/cdpatch/cdpatch.html $top/cdpatch.html
+share/cdpatch/cdpatch.wasm $library/cdpatch.wasm
+share/doc/cdpatch/CHANGELOG.md $top/CHANGELOG.md
 share/doc/cdpatch/NOTICES $library/NOTICES
 share/doc/cdpatch/examples/audit.c $top/examples/audit.c
 share/cdpatch/python/backend.py $top/python/backend.py
 share/bash-completion/completions/cdpatch $completions/cdpatch.bash
+share/bash-completion/completions/cdscript $completions/cdscript.bash
 share/fish/vendor_completions.d/cdpatch.fish $completions/cdpatch.fish
+share/fish/vendor_completions.d/cdscript.fish $completions/cdscript.fish
 share/zsh/site-functions/_cdpatch $completions/_cdpatch
+share/zsh/site-functions/_cdscript $completions/_cdscript
 END
-    [ ! -e "$joined/cdscript" ] || judge 'cdscript, the page, and the modules are what was built' eval \
-        'cmp root/usr/bin/cdscript "$joined/cdscript" && cmp root/usr/share/cdpatch/cdpatch.html "$joined/cdpatch.html" &&
-        cmp root/usr/share/cdpatch/cdpatch.wasm "$library/cdpatch.wasm" && cmp root/usr/share/cdpatch/cdpatch-wasm64.wasm "$library/cdpatch-wasm64.wasm"'
 }
 
 # The files in which places and the version are filled in.
@@ -80,14 +57,14 @@ is_filled_in() {
 
 installed_for_a_package() {
     judge 'make install' built install DESTDIR="$PWD/root" PREFIX=/usr
-    judge "it installs all that 1.2.0 and 1.3.0 did: $(is_complete root; paste -sd ' ' lacking)" is_complete root
+    judge "it installs a man page for each call, and each module for Python: $(lacking | paste -sd ' ')" test -z "$(lacking)"
     has_what_was_built
     is_filled_in
     judge 'the installed program runs' test "$(root/usr/bin/cdpatch list disc.bin | tail -n 1)" = 'sectors 8 tail 0'
     judge 'programs may be run by all, and the rest may be read by all' eval \
         '[ -z "$(find root/usr/bin -type f ! -perm 755)$(find root -type f ! -path "*/bin/*" ! -perm 644)$(find root -type d ! -perm 755)" ]'
     judge 'the page of each call is a link to that of the library' test "$(readlink root/usr/share/man/man3/cdpatch_apply_patch.3)" = libcdpatch.3
-    judge 'the link of the library stands next to it' test "$(readlink root/usr/lib/libcdpatch.so)" = libcdpatch.so.1
+    judge 'the link of the library stands next to it' test "$(readlink root/usr/lib/libcdpatch.so)" = libcdpatch.so.2
     for crate in arrayvec bstr byteorder clap hex itoa memchr sha1 thiserror; do
         judge "the notices have $crate's" \
             test "$(sed -n "/^== $crate ==\$/,/^== /p" root/usr/share/doc/cdpatch/NOTICES | grep -c '^Permission is hereby granted')" -gt 0
@@ -100,7 +77,6 @@ installed_for_a_package() {
     built install DESTDIR="$PWD/root" PREFIX=/usr
     judge 'what a link there names is not written over' test "$(cat victim)" = kept -a \
         -z "$(find root -type l ! -lname 'libcdpatch.*')"
-    wrong_versions 'a wrong make install' && writes_through_links
     used_by_python
     touch root/usr/bin/another
     judge 'make uninstall' built uninstall DESTDIR="$PWD/root" PREFIX=/usr
@@ -113,7 +89,6 @@ installed_for_a_package() {
 used_by_python() {
     local package=root/usr/share/cdpatch/python
     find root -type d | sort > directories
-    missing /usr/bin/python3 python3 'an uninstall after Python was used' && return
     judge 'Python keeps what it compiles of the package' eval 'kept_by_python $package "import cdpatch" && [ -d $package/cdpatch/__pycache__ ]'
     missing pip3 python3-pip 'an uninstall after pip was used' && return
     env -u PYTHONDONTWRITEBYTECODE -u PYTHONPYCACHEPREFIX pip3 --disable-pip-version-check install --no-index --quiet --target site \
@@ -133,58 +108,19 @@ uninstalled_among_others() {
     judge 'and none that is called cdpatch' test -z "$(find others -name '*cdpatch*')"
 }
 
-# earlier ROOT: creates the files that 1.2.0 or 1.3.0 installed below its /usr, and their compiled files.
-earlier() {
-    local file
-    while read -r file; do
-        mkdir -p "$1/usr/${file%/*}"
-        echo earlier > "$1/usr/$file"
-    done < "$top/tests/pages/installed.txt"
-    mkdir "$1/usr/share/cdpatch/python/cdpatch/__pycache__"
-    echo earlier > "$1/usr/share/cdpatch/python/cdpatch/__pycache__/_scripts.cpython-311.pyc"
-}
-# replaces_all BUILT: whether a make install over an earlier release leaves none of its files, and a make uninstall none at all.
-replaces_all() {
-    rm -rf earlier
-    earlier earlier
-    "$1" install DESTDIR="$PWD/earlier" PREFIX=/usr
-    ! grep -rqx earlier earlier && "$1" uninstall DESTDIR="$PWD/earlier" PREFIX=/usr && [ -z "$(find earlier -name '*cdpatch*')" ]
-}
-
-wrong_lists() {
-    local file
-    for file in bindir/cdpatch python/cdpatch/ man3dir/CALL docs/REPAIR libdir/libcdpatch.so.1; do
-        changed_tree dist.list "\\,$file,d"
-        built_otherwise install DESTDIR="$PWD/other_root" PREFIX=/usr
-        judge "and is refused, since it lacks $file" eval '! is_complete other_root'
-        rm -r other_root
-    done
-    changed_tree dist.list '/ gone /d'
-    judge 'and is refused, since it leaves a file of 1.2.0' eval '! replaces_all built_otherwise'
-    changed_tree tools/files.sh '/^remove_compiled/,/^}/s/rm -rf .*/:/'
-    judge 'and is refused, since it leaves what Python compiled' eval '! replaces_all built_otherwise'
-    changed_tree tools/files.sh 's/"\$pagedir" "\$cmakedir"; do/"$pagedir" "$cmakedir" "$man1dir" "$zshcompdir"; do/'
-    built install DESTDIR="$PWD/others" PREFIX=/usr
-    built_otherwise uninstall DESTDIR="$PWD/others" PREFIX=/usr
-    judge 'and is refused, since a directory that was there is gone' test -n "$(find others | sort | comm -13 - others.before)"
-    changed_tree tools/files.sh '/backend\.\*\.pyc/d'
-    built install DESTDIR="$PWD/root" PREFIX=/usr
-    used_by_python
-    built_otherwise uninstall DESTDIR="$PWD/root" PREFIX=/usr
-    judge 'and is refused, since a file stays' test "$(files root)" != ./usr/bin/another
-}
-
 installed_elsewhere() {
     local file
     built install DESTDIR="$PWD/local"
     judge 'without PREFIX into /usr/local' test -x local/usr/local/bin/cdpatch
     built uninstall DESTDIR="$PWD/local"
     judge 'and away again' test -z "$(files local)"
-    local places=(prefix="$PWD/with space" bindir="$PWD/with space/sbin" zshcompdir="$PWD/zsh")
+    local odd='with space & a|b\c' places
+    places=(prefix="$PWD/$odd" bindir="$PWD/$odd/sbin" zshcompdir="$PWD/zsh")
     built install "${places[@]}"
-    judge 'prefix, and places by their names' test -x 'with space/sbin/cdpatch' -a -f zsh/_cdpatch
+    judge 'prefix, and places by their names' test -x "$odd/sbin/cdpatch" -a -f zsh/_cdpatch
+    judge 'cdpatch.pc has that prefix' test "$(head -n 1 "$odd/lib/pkgconfig/cdpatch.pc")" = "prefix=$PWD/$odd"
     built uninstall "${places[@]}"
-    judge 'and away from there' test -z "$(files 'with space')$(files zsh)"
+    judge 'and away from there' test -z "$(files "$odd")$(files zsh)"
     for file in cdpatch library completions; do
         mv "tree/$file" away
         built install DESTDIR="$PWD/none" 2> log
@@ -193,12 +129,8 @@ installed_elsewhere() {
     done
 }
 
-if ! missing make make 'make install'; then
-    enter installing
-    staged tree
-    installed_for_a_package
-    uninstalled_among_others
-    judge 'make install over 1.2.0 and 1.3.0 leaves no file of theirs' replaces_all built
-    wrong_versions 'a wrong make install' && wrong_lists
-    installed_elsewhere
-fi
+enter installing
+staged tree
+installed_for_a_package
+uninstalled_among_others
+installed_elsewhere

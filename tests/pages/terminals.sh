@@ -41,9 +41,9 @@ cdpatch apply -- image script -d|
 END
 
 cat > "$scratch/typed_cdscript" << 'END'
-cdscript au|cdscript audit
+cdscript ap|cdscript apply
 cdscript merge --d|cdscript merge --dat
-cdscript find image text --encoding C|cdscript find image text --encoding CP932
+cdscript find image text --encoding CP9|cdscript find image text --encoding CP932
 cdscript find image text -o fo|cdscript find image text -o folder/
 cdscript scan image sc|cdscript scan image script
 cdscript merge image image sc|cdscript merge image image script
@@ -74,12 +74,10 @@ in_terminal() {
     judge "$shell was asked all" test "$(wc -l < ../became)" = "$(wc -l < lines)"
 }
 
-if ! missing python3 python3 'completions on a terminal'; then
-    for made in "${programs[@]}"; do
-        name=${made##*/} lines=typed
-        [ "$name" = cdpatch ] || lines=typed_$name
-        in_terminal bash "$completions/$name.bash" "$lines"
-        missing zsh zsh 'the completion for zsh' || in_terminal zsh "$completions/_$name" "$lines"
-        missing fish fish 'the completion for fish on a terminal' || in_terminal fish "$completions/$name.fish" "$lines"
-    done
-fi
+for made in "${programs[@]}"; do
+    name=${made##*/} lines=typed
+    [ "$name" = cdpatch ] || lines=typed_$name
+    in_terminal bash "$completions/$name.bash" "$lines"
+    missing zsh zsh 'the completion for zsh' || in_terminal zsh "$completions/_$name" "$lines"
+    missing fish fish 'the completion for fish on a terminal' || in_terminal fish "$completions/$name.fish" "$lines"
+done

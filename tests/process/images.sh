@@ -1,6 +1,5 @@
 #!/usr/bin/env bash
-# Patches and lists images of several buffers through files, pipes, and standard input, byte for byte: `bash tests/process/images.sh
-# [PROGRAM]`. The last line is 'N passed, M failed'.
+# Patches and lists images of several buffers through files, pipes, and standard input, byte for byte.
 #
 # The expected bytes are computed without the program: those of the large image as described in `helpers.sh`, and an image without patches
 # must stay the same.
@@ -83,28 +82,26 @@ fed() {
     status=$?
 }
 
-if ! missing python3 python3 'a pipe in chunks, and lines on a terminal'; then
-    for size in 1 7 2351 2352 2353 4096 65535 65536; do
-        if [ $size = 1 ]; then
-            # Each chunk waits for the reader, so there are few.
-            joined 0 1 2 > image
-            joined 3 1 2 > patched
-            printf 'cdpatch 2\naddress 0 00:02:03\nset 0 0 %s\n' "${user[3]}" > small
-            printf 'line 2: applied\nline 3: applied\napplied 2 refused 0\n' > small.log
-            printf '0-2 mode1\nsectors 3 tail 0\n' > list.log
-            fed 1 apply - small out
-            printed 0 small.log 'apply to chunks of 1 byte'
-            made patched 'apply to chunks of 1 byte'
-        else
-            make_large 2351
-            fed $size apply - large.script out
-            printed 0 large.log "apply to chunks of $size bytes"
-            made patched "apply to chunks of $size bytes"
-        fi
-        fed $size list -
-        printed 0 list.log "list of chunks of $size bytes"
-    done
-fi
+for size in 1 7 2351 2352 2353 4096 65535 65536; do
+    if [ $size = 1 ]; then
+        # Each chunk waits for the reader, so there are few.
+        joined 0 1 2 > image
+        joined 3 1 2 > patched
+        printf 'cdpatch 2\naddress 0 00:02:03\nset 0 0 %s\n' "${user[3]}" > small
+        printf 'line 2: applied\nline 3: applied\napplied 2 refused 0\n' > small.log
+        printf '0-2 mode1\nsectors 3 tail 0\n' > list.log
+        fed 1 apply - small out
+        printed 0 small.log 'apply to chunks of 1 byte'
+        made patched 'apply to chunks of 1 byte'
+    else
+        make_large 2351
+        fed $size apply - large.script out
+        printed 0 large.log "apply to chunks of $size bytes"
+        made patched "apply to chunks of $size bytes"
+    fi
+    fed $size list -
+    printed 0 list.log "list of chunks of $size bytes"
+done
 
 # ---- sectors patched one at a time give the same result as all of them in one image
 

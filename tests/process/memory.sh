@@ -1,6 +1,5 @@
 #!/usr/bin/env bash
-# Refuses memory, under a falling limit of address space, and for each allocation in turn: `bash tests/process/memory.sh [PROGRAM]`. The
-# last line is 'N passed, M failed'.
+# Refuses memory, under a falling limit of address space, and for each allocation in turn.
 #
 # Each run must give the right answer, or one of the two lines about missing memory and status 2. The same run afterwards, with enough
 # memory, must give the right answer.

@@ -1,6 +1,5 @@
 #!/usr/bin/env bash
-# Tests the program as a process on real files, and its messages about files that are missing, are not files, or contain no script: `bash
-# tests/process/program.sh [PROGRAM]`. The last line is 'N passed, M failed'.
+# Tests the program as a process on real files, and its messages about files that are missing, are not files, or contain no script.
 set -u
 . "$(dirname "$0")/../lib/helpers.sh"
 

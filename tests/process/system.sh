@@ -1,18 +1,11 @@
 #!/usr/bin/env bash
-# Tests the code without a contract, by which the program opens, reads, writes, and syncs files and streams: `bash tests/process/system.sh
-# [PROGRAM]`. The last line is 'N passed, M failed'.
-#
-# Each check must also refuse wrong programs, as must-fail edits do for proofs (`tests/wrong/program/wrong.c`).
+# Tests the code without a contract, by which the program opens, reads, writes, and syncs files and streams.
 set -u
 . "$(dirname "$0")/../lib/helpers.sh"
-. "$tests/wrong/program/programs.sh"
 
 here=$(pwd -P)
-right_program=$program
 prepare_large
 make_large 2351
-has_wrong_programs=
-prepare_wrong_programs 'the wrong programs' && has_wrong_programs=1
 has_strace=
 if ! missing strace strace 'calls of the system'; then
     strace -qq -o trace -e inject=read:error=EIO:when=1 true 2> /dev/null
@@ -23,29 +16,13 @@ if ! missing strace strace 'calls of the system'; then
     fi
 fi
 
-# row NAME CHECK WRONG..: judges that a check passes for the program, and fails for each of these wrong programs. It must also pass with a
-# launcher that changes nothing, which shows that it refuses only wrong programs.
-row() {
-    local name=$1 check=$2 wrong
-    judge "$name" checked "$check"
-    [ -n "$has_wrong_programs" ] || return
-    program=$(wrong_program nothing)
-    judge "$name, by the launcher" checked "$check"
-    for wrong in "${@:3}"; do
-        program=$(wrong_program "$wrong")
-        judge "$name: refuses the program that $wrong" refused "$check"
-    done
-    program=$right_program
-}
+# row NAME CHECK: judges that a check passes for the program.
+row() { judge "$1" checked "$2"; }
 
 # Runs a check. Messages of the shell about a signal, and of tools about a missing file, are discarded.
 checked() {
     rm -rf out log errors rest trace
     "$1" 2> /dev/null
-}
-
-refused() {
-    ! checked "$1"
 }
 
 # traced NAME..: a row that needs strace.
@@ -197,18 +174,18 @@ reads_are_large() {
 truncate -s 2352000000 longest
 truncate -s 9408000 long
 echo 'cdpatch 1' > none.script
-row 'the standard input is read from its place on' standard_input_from_its_place rewinds_standard_input
-row 'the standard input is not touched' standard_input_left_alone eats_standard_input
-row 'two runs at once on one image' two_runs_at_once locks_its_inputs
-row 'links are followed' links_are_followed refuses_links
-row 'names are taken as they are' names_are_taken_as_they_are cuts_blanks_off_names
-row 'an image takes no memory' images_take_no_memory keeps_the_image
-row 'an image is not kept' images_are_not_kept keeps_as_much_as_it_can
-traced 'a read for each buffer' reads_are_large reads_a_sector_at_a_time
+row 'the standard input is read from its place on' standard_input_from_its_place
+row 'the standard input is not touched' standard_input_left_alone
+row 'two runs at once on one image' two_runs_at_once
+row 'links are followed' links_are_followed
+row 'names are taken as they are' names_are_taken_as_they_are
+row 'an image takes no memory' images_take_no_memory
+row 'an image is not kept' images_are_not_kept
+traced 'a read for each buffer' reads_are_large
 for _ in 1 2 3 4; do cat "$vectors"; done > whole
 if device=$(losetup --find --show whole 2> /dev/null); then
     trap 'losetup -d "$device"; rm -rf "$scratch"' EXIT
-    row 'a block device as image' block_device refuses_devices
+    row 'a block device as image' block_device
     losetup -d "$device"
     trap 'rm -rf "$scratch"' EXIT
 else
@@ -263,12 +240,12 @@ out_has_what_was_sent() {
     [ $? = 2 ] && within out patched && [ "$(stat -c %s out)" -ge $((2 * 65856 - 2352)) ]
 }
 
-traced 'OUT is made new, in one call' out_is_made_new looks_before_it_makes_out appends_to_out may_read_out hides_out_from_others
-row 'OUT has the right bytes' out_is_written says_more_than_was_taken
-row 'no other file is left' no_other_file_is_left leaves_a_file_here leaves_a_temporary_file leaves_a_file_at_home
-traced 'no other file is touched' no_other_file_is_touched leaves_a_file_here leaves_a_temporary_file leaves_a_file_at_home
-row 'a limit on file sizes kills' size_limit_kills ignores_the_limit_on_file_sizes
-traced 'OUT has what was sent' out_has_what_was_sent drops_what_is_held
+traced 'OUT is made new, in one call' out_is_made_new
+row 'OUT has the right bytes' out_is_written
+row 'no other file is left' no_other_file_is_left
+traced 'no other file is touched' no_other_file_is_touched
+row 'a limit on file sizes kills' size_limit_kills
+traced 'OUT has what was sent' out_has_what_was_sent
 
 # ---- errors of all kinds, and two in one run
 
@@ -294,14 +271,12 @@ writes_of_out_fail() { fails write out "$write_failed" 2; }
 writes_of_the_log_fail() { fails write log '' 1; }
 syncs_of_out_fail() { fails fdatasync out "$write_failed" 1; }
 
-traced 'each kind of error of a read of the image' reads_of_the_image_fail takes_a_forbidden_read_for_the_end waits_for_a_read \
-    repeats_a_read
-traced 'each kind of error of a read of the standard input' reads_of_the_standard_input_fail takes_a_forbidden_read_for_the_end \
-    repeats_a_read
-traced 'each kind of error of a read of the script' reads_of_the_script_fail takes_a_forbidden_read_for_the_end waits_for_a_read
-traced 'each kind of error of a write to OUT' writes_of_out_fail repeats_a_write_of_out passes_over_a_full_disk
-traced 'each kind of error of a write of the log' writes_of_the_log_fail prints_again
-traced 'each kind of error of a sync' syncs_of_out_fail passes_over_a_sync_that_is_not_known repeats_a_sync syncs_nothing
+traced 'each kind of error of a read of the image' reads_of_the_image_fail
+traced 'each kind of error of a read of the standard input' reads_of_the_standard_input_fail
+traced 'each kind of error of a read of the script' reads_of_the_script_fail
+traced 'each kind of error of a write to OUT' writes_of_out_fail
+traced 'each kind of error of a write of the log' writes_of_the_log_fail
+traced 'each kind of error of a sync' syncs_of_out_fail
 
 # two_faults FILE CALLS FAULT..: runs `apply` with a log of several buffers, and injects these faults into calls on OUT and on a different
 # file. The calls on OUT are in `trace`.
@@ -338,7 +313,7 @@ first_end_is_the_end() {
     strace -qq -o trace -P "$here/large.script" -e inject=read:retval=0:when=1 "$program" check image "$here/large.script" > log 2> errors
     [ $? = 2 ] && [ "$(wc -l < log)" = 1 ]
 }
-traced 'a read of no byte is the end' first_end_is_the_end reads_on_after_the_end
+traced 'a read of no byte is the end' first_end_is_the_end
 
 # synced STATUS SYNCS SCRIPT FAULT..: whether a run of `apply` with these faults has this status, syncs OUT this many times, and writes
 # nothing to it afterwards.
@@ -365,10 +340,9 @@ syncs_of_each_status() {
 
 { echo 'cdpatch 1'; echo 'set 1000000 0 41'; } > refused.script
 { echo 'cdpatch 1'; yes 'rebuild 3' | head -n 9000; } > long.script
-traced 'OUT is synced once, after the last write, with each status' syncs_of_each_status syncs_nothing syncs_twice \
-    syncs_each_write syncs_before_it_writes
-traced 'a fault, and then one of a write to OUT' second_fault_in_a_write repeats_a_write_of_out drops_what_is_held
-traced 'a fault, and then one of a sync' second_fault_in_a_sync repeats_a_sync syncs_nothing
+traced 'OUT is synced once, after the last write, with each status' syncs_of_each_status
+traced 'a fault, and then one of a write to OUT' second_fault_in_a_write
+traced 'a fault, and then one of a sync' second_fault_in_a_sync
 
 # ---- the standard output, and terminals
 
@@ -396,14 +370,12 @@ for number in 0 1; do
     head -c 2351 sector.$number
     printf '\377'
 done > damaged
-if [ -n "$has_strace" ] && ! missing python3 python3 'terminals'; then
-    row 'a terminal gets each line at once' terminal_gets_lines asks_whether_standard_error_is_a_terminal \
-        asks_whether_standard_input_is_a_terminal
-    row 'a file gets all lines at once' file_gets_all_at_once asks_whether_standard_error_is_a_terminal \
-        asks_whether_standard_input_is_a_terminal
+if [ -n "$has_strace" ]; then
+    row 'a terminal gets each line at once' terminal_gets_lines
+    row 'a file gets all lines at once' file_gets_all_at_once
 fi
 if compiled refuse 'want of memory for the standard output'; then
-    row 'want of memory is printed' want_of_memory_is_printed is_silent_without_memory
+    row 'want of memory is printed' want_of_memory_is_printed
 fi
 
 # ---- arguments
@@ -421,8 +393,8 @@ arguments_must_be_text() {
     [ "$status" = 2 ] && echo "$no_text" | cmp -s - log
 }
 
-row 'all arguments are read' arguments_are_all_read drops_the_eighth_argument
-row 'arguments that are not text' arguments_must_be_text makes_text_of_arguments
+row 'all arguments are read' arguments_are_all_read
+row 'arguments that are not text' arguments_must_be_text
 
 # ---- closed standard streams
 
@@ -484,10 +456,9 @@ numbers_are_above_those_of_streams() {
     done
 }
 
-row 'closed streams are no files' closed_streams_are_no_files gives_spare_files_back holds_one_spare_file
-traced 'no file gets the number of a closed stream' numbers_are_above_those_of_streams takes_standard_input_for_open \
-    takes_standard_output_for_open takes_standard_error_for_open gives_spare_files_back holds_one_spare_file
-traced 'closed streams without a root directory' closed_streams_without_a_root goes_on_without_spare_files
+row 'closed streams are no files' closed_streams_are_no_files
+traced 'no file gets the number of a closed stream' numbers_are_above_those_of_streams
+traced 'closed streams without a root directory' closed_streams_without_a_root
 
 # ---- signals
 
@@ -515,9 +486,9 @@ ended_by_sigterm() { ends_by TERM 143; }
 ended_by_sighup() { ends_by HUP 129; }
 ended_by_ctrl_c() { ends_by INT 130; }
 
-row 'SIGTERM ends it' ended_by_sigterm ignores_sigterm removes_out_when_stopped
-row 'SIGHUP ends it' ended_by_sighup ignores_sighup removes_out_when_stopped
-row 'Ctrl-C ends it' ended_by_ctrl_c ignores_ctrl_c removes_out_when_stopped
+row 'SIGTERM ends it' ended_by_sigterm
+row 'SIGHUP ends it' ended_by_sighup
+row 'Ctrl-C ends it' ended_by_ctrl_c
 
 # ---- old machines
 
@@ -534,7 +505,7 @@ old_processor() {
 
 # The program with a different name for the newest part of the C library that it requires.
 old_c_library() {
-    sed 's/GLIBC_2\.34/GLIBC_2.94/' "$right_program" > newer
+    sed 's/GLIBC_2\.34/GLIBC_2.94/' "$program" > newer
     chmod +x newer
     ./newer apply image large.script out > log 2> errors
     status=$?
@@ -542,7 +513,7 @@ old_c_library() {
 }
 
 if compiled old_processor 'an old processor'; then
-    row 'an old processor' old_processor begins_on_any_processor
+    row 'an old processor' old_processor
 fi
 judge 'an old C library' checked old_c_library
 

@@ -1,5 +1,5 @@
 """Shared by the tests of the Python package: the model of tests/model, the messages of tests/lib, and a profile with the same random cases
-in each run. For a wrong package the first case that refuses it is enough (`--hypothesis-profile=first`)."""
+in each run. For a mutant (tests/wrong/mutants.py) the first case that fails is enough (`--hypothesis-profile=first`)."""
 
 import sys
 from pathlib import Path

@@ -34,13 +34,13 @@ def loads(package, library, **more):
 def copy(tmp_path):
     """A copy of the package, four directories below a prefix without a library."""
     package = tmp_path / 'prefix' / 'share' / 'cdpatch' / 'python' / 'cdpatch'
-    shutil.copytree(PACKAGE, package, ignore=shutil.ignore_patterns('__pycache__', '*.so.1'))
+    shutil.copytree(PACKAGE, package, ignore=shutil.ignore_patterns('__pycache__', '*.so.2'))
     return package
 
 
 def with_library(directory):
     directory.mkdir(parents=True, exist_ok=True)
-    return Path(shutil.copy(LIBRARY, directory / 'libcdpatch.so.1'))
+    return Path(shutil.copy(LIBRARY, directory / 'libcdpatch.so.2'))
 
 
 def test_the_library_that_is_named_comes_first(copy, tmp_path):
@@ -80,7 +80,7 @@ def test_an_older_one_of_the_loader_hides_none_of_the_prefix(copy, tmp_path):
 def test_an_older_one_is_refused_if_there_is_no_other(copy, tmp_path):
     ended = ran(copy.parent, 'import cdpatch', LD_LIBRARY_PATH=str(with_older_library(tmp_path / 'lib').parent))
     last = ended.stderr.splitlines()[-1]
-    assert last.startswith('ImportError: cdpatch has found an older library, libcdpatch.so.1, without cdpatch_survey. ')
+    assert last.startswith('ImportError: cdpatch has found an older library, libcdpatch.so.2, without cdpatch_survey. ')
 
 
 @pytest.mark.parametrize('place', ['lib/python3.11/site-packages', 'lib64/python3.13/site-packages', 'lib/python3/dist-packages'])
@@ -97,12 +97,12 @@ def test_never_one_above_a_package_that_is_not_installed(copy, tmp_path, place):
     assert ended.returncode == 1 and 'ImportError: cdpatch cannot load its library: ' in ended.stderr
 
 
-@pytest.mark.parametrize('named', [None, '/nowhere/libcdpatch.so.1', __file__])
+@pytest.mark.parametrize('named', [None, '/nowhere/libcdpatch.so.2', __file__])
 def test_if_there_is_none_one_line_says_what_to_do(copy, named):
     ended = ran(copy.parent, 'import cdpatch', **{'CDPATCH_LIBRARY': named} if named else {})
     last = ended.stderr.splitlines()[-1]
     assert ended.returncode == 1 and last.startswith('ImportError: cdpatch cannot load its library: ')
-    assert (named or 'libcdpatch.so.1') in last and 'make install' in last and 'CDPATCH_LIBRARY' in last
+    assert (named or 'libcdpatch.so.2') in last and 'make install' in last and 'CDPATCH_LIBRARY' in last
 
 
 def test_a_library_that_lacks_a_call_is_refused_in_one_line(copy):

@@ -17,9 +17,9 @@
 #endif
 
 struct tried { uint64_t ok; void *block; };
-AS_ON_LINUX struct tried cdpatchalloc(uint64_t size, uint64_t align);
-AS_ON_LINUX struct tried cdpatchrealloc(void *block, uint64_t kept, uint64_t size, uint64_t align);
-void cdpatchdealloc(void *block);
+AS_ON_LINUX struct tried rattle_alloc(uint64_t size, uint64_t align);
+AS_ON_LINUX struct tried rattle_realloc(void *block, uint64_t kept, uint64_t size, uint64_t align);
+void rattle_dealloc(void *block);
 int64_t rattle_arg(uint64_t number, char *buffer, uint64_t room);
 int32_t rattle_errno(void);
 void rattle_set_errno(int32_t error);
@@ -31,7 +31,7 @@ static const uint64_t TOO_MUCH = (uint64_t)1 << 62;
 
 static bool gives_memory(void)
 {
-    struct tried a = cdpatchalloc(1000, 16), b = cdpatchalloc(1, 1), none = cdpatchalloc(0, 8);
+    struct tried a = rattle_alloc(1000, 16), b = rattle_alloc(1, 1), none = rattle_alloc(0, 8);
     if (a.ok != 1 || b.ok != 1 || none.ok != 1 || (uintptr_t)a.block % 16 || !none.block || none.block == b.block)
         return false;
     memset(a.block, 1, 1000);
@@ -41,22 +41,22 @@ static bool gives_memory(void)
 
 static bool refuses_memory(void)
 {
-    struct tried refused = cdpatchalloc(TOO_MUCH, 16);
+    struct tried refused = rattle_alloc(TOO_MUCH, 16);
     return refused.ok == 0 && refused.block;
 }
 
 static bool resizes_memory(void)
 {
-    struct tried made = cdpatchalloc(10, 1), grown, refused;
+    struct tried made = rattle_alloc(10, 1), grown, refused;
     memcpy(made.block, "0123456789", 10);
-    refused = cdpatchrealloc(made.block, 10, TOO_MUCH, 1);
+    refused = rattle_realloc(made.block, 10, TOO_MUCH, 1);
     if (refused.ok != 0 || !refused.block || memcmp(made.block, "0123456789", 10))
         return false;
-    grown = cdpatchrealloc(made.block, 10, 1000000, 1);
+    grown = rattle_realloc(made.block, 10, 1000000, 1);
     if (grown.ok != 1 || memcmp(grown.block, "0123456789", 10))
         return false;
     memset(grown.block, 3, 1000000);
-    grown = cdpatchrealloc(grown.block, 0, 0, 4);
+    grown = rattle_realloc(grown.block, 0, 0, 4);
     return grown.ok == 1 && grown.block;
 }
 
@@ -67,9 +67,9 @@ static bool frees_memory(void)
     void *last = NULL;
     int again = 0;
     for (int i = 0; i < BLOCKS; i++) {
-        void *block = cdpatchalloc(MEGABYTE, 16).block;
+        void *block = rattle_alloc(MEGABYTE, 16).block;
         again += block == last;
-        cdpatchdealloc(block);
+        rattle_dealloc(block);
         last = block;
     }
     return again > 0;
@@ -318,11 +318,13 @@ static bool reports_failures(void)
     return true;
 }
 
-/* Here standard output is a terminal, which shows UTF-8. */
+/* Here standard output is a terminal, which shows UTF-8 until the console ends the program. */
 static bool knows_consoles(void)
 {
+    BOOL WINAPI restore_page(DWORD event);
     int32_t file = made("no_console") ? shim_open("no_console", READ) : -1;
-    return GetConsoleOutputCP() == CP_UTF8 && shim_isatty(1) == 1 && file >= 0 && !shim_isatty(file) && !shim_isatty(9);
+    return GetConsoleOutputCP() == CP_UTF8 && shim_isatty(1) == 1 && file >= 0 && !shim_isatty(file) && !shim_isatty(9)
+        && !restore_page(CTRL_C_EVENT) && GetConsoleOutputCP() != CP_UTF8 && SetConsoleCtrlHandler(restore_page, FALSE);
 }
 
 static bool knows_the_processor(void)

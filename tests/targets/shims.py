@@ -1,6 +1,6 @@
 #!/usr/bin/env python3
-"""Tests whether the shims of a directory meet their contracts: `shims.py windows|arm64 [DIRECTORY [TEST]]` compiles them with shim.c, and
-prints 'passed NAME' or 'failed NAME' for each test. The status is 1 if one failed. The default directory is targets/."""
+"""Tests whether the shims in targets/ meet their contracts: `shims.py windows|arm64` compiles them with shim.c, and prints 'passed NAME' or
+'failed NAME' for each test. The status is 1 if one failed."""
 
 import os
 import pty
@@ -10,7 +10,7 @@ import tempfile
 from pathlib import Path
 
 TESTS = Path(__file__).resolve().parent
-TOP = TESTS.parent.parent
+SOURCES = TESTS.parents[1] / 'targets'
 WINE = '/usr/lib/wine/wine64'
 COMPILERS = {'windows': 'x86_64-w64-mingw32-gcc', 'arm64': 'aarch64-linux-gnu-gcc'}
 SHIMS = {'windows': ('windows.c', ['-lshell32']), 'arm64': ('linux.c', [])}
@@ -20,11 +20,11 @@ WORDS = ['abc', 'ÄÖ']
 TIME = 60  # seconds, more than any test needs
 
 
-def compiled(system: str, directory: Path, room: Path) -> Path:
-    """Compiles the test program with a directory's shims. Only the shim is compiled after failing.h."""
+def compiled(system: str, room: Path) -> Path:
+    """Compiles the test program with the shims. Only the shim is compiled after failing.h."""
     shim, libraries = SHIMS[system]
     program, flags = room / 'shim.exe', ['-std=gnu11', '-O1', '-w', '-fno-builtin-realloc']
-    for source, more in (directory / shim, ['-include', str(TESTS / 'failing.h')]), (directory / 'memory.c', []), (TESTS / 'shim.c', []):
+    for source, more in (SOURCES / shim, ['-include', str(TESTS / 'failing.h')]), (SOURCES / 'memory.c', []), (TESTS / 'shim.c', []):
         subprocess.run([COMPILERS[system], *flags, *more, '-c', source, '-o', room / f'{source.stem}.{len(more)}.o'], check=True)
     subprocess.run([COMPILERS[system], *room.glob('*.o'), *libraries, '-o', program], check=True)
     return program
@@ -50,15 +50,14 @@ def holds(system: str, program: Path, test: str) -> bool:
     return status == 0 and (test != 'start' or text == '12\n34')
 
 
-def main(system: str, shims: str = str(TOP / 'targets'), only: str = '') -> int:
+def main(system: str) -> int:
     with tempfile.TemporaryDirectory() as name:
-        program = compiled(system, Path(shims), Path(name))
-        tests = [only] if only else [*run(system, program)[1].split(), 'statuses']
-        results = [(test, holds(system, program, test)) for test in tests]
+        program = compiled(system, Path(name))
+        results = [(test, holds(system, program, test)) for test in [*run(system, program)[1].split(), 'statuses']]
     for test, passed in results:
         print('passed' if passed else 'failed', test, flush=True)
-    return int(not results or not all(passed for _, passed in results))
+    return int(not all(passed for _, passed in results))
 
 
 if __name__ == '__main__':
-    sys.exit(main(*sys.argv[1:]))
+    sys.exit(main(sys.argv[1]))

@@ -1,27 +1,46 @@
 #!/usr/bin/env bash
-# Runs `make check` with only the commands that every Debian has: tests that need others must be skipped with the name of the package, and
-# the rest must pass: `bash tests/tools/bare.sh [PROGRAM]`. BARE names different groups to run. The last line is 'N passed, M failed'.
+# Tries what users run where only the commands are installed that every Debian has, and those that `make` needs: some suites, among them those
+# of `make install` and `make dist`. Tests that need other commands must be skipped with the name of the package, and the rest must pass.
+# Without esbuild and node, `make` must name their packages: `bash tests/tools/bare.sh [PROGRAM]`. The last line is 'N passed, M failed'.
 set -u
 . "$(dirname "$0")/../lib/helpers.sh"
-commands='awk basename bash cat chmod chown cmp comm cp cut date dd diff dirname du env expr find fold grep head id install join kill ln ls mawk
-    md5sum mkdir mkfifo mktemp mv nice nproc od paste pwd readlink realpath renice rm rmdir sed seq sh sha1sum sha256sum sleep sort split stat
-    stty tac tail tar tee test timeout touch tr true truncate uname uniq wc xargs yes'
-groups=${BARE-program library modules cases model core cdscript python page faults random_faults pack bodies}
+everywhere='awk basename bash cat chmod chown cmp comm cp cut date dd diff dirname dpkg du env expr false find fold grep gzip head id install join kill
+    ln ls mawk md5sum mkdir mkfifo mktemp mv nice nproc od paste perl pwd readlink realpath rm rmdir sed seq sh sha1sum sha256sum sleep sort split
+    stat stty tac tail tar tee test timeout touch tr true truncate uname uniq wc xargs yes'
+needed=$(sed -n '/^\[build\]/,/^$/s/: .*//p' "$top/tools/packages.txt")
+packages=$(sed -n '/^\[build\]/,/^$/s/^.*: //p' "$top/tools/packages.txt" | grep -vxE 'make|python3' | paste -sd ' ')
+# Suites that are short here. This one must not be among them.
+suites=(program faults memory system random_faults library python help terminals installing release fit forms)
 
-mkdir bare
-for command in $commands; do
-    ln -s "$(command -v "$command")" bare
-done
-
-# unnamed: prints the skipped tests without a package.
-unnamed() { sed -nE 's/^[1-9][0-9]* skipped: //p' log | sed 's/; /\n/g' | grep -vE "Debian's packages? |needs such a processor"; }
-
+# with COMMAND..: creates a directory with these commands. Debian's Python comes first on the path of every Debian.
+with() {
+    local command
+    mkdir "$1"
+    for command in "${@:2}"; do
+        ln -s "$(PATH=/usr/bin:$PATH command -v "$command")" "$1"
+    done
+}
 # shellcheck disable=SC2086 # words of one text
-tested() { env -i "HOME=$scratch" "PATH=$PWD/bare" bash "$tests/run" "$program" $groups > log 2>&1; }
-judge 'nothing fails' tested
+with bare $everywhere $needed
+# shellcheck disable=SC2086
+with barer $everywhere make python3
+bare() { env -i "HOME=$scratch" "PATH=$PWD/$1" "PROGRAM=$program" RANDOM_CASES=20 PROCESS_CASES=5 "${@:2}" > log 2>&1; }
+
+# names_packages GOAL: whether make stops there with one sentence, which has these packages. It has no program to test.
+names_packages() {
+    ! bare barer make -C "$top" --no-print-directory PROGRAM=none "$1" &&
+        [ "$(grep -v '^make: ' log)" = "make needs more packages of Debian: sudo apt-get install $packages" ]
+}
+judge 'make without esbuild and node names their packages' names_packages all
+judge 'and make check does' names_packages check
+judge 'make try needs neither' eval 'bare barer make -n -C "$top" try && ! grep -q packages.sh log'
+
+# unnamed: prints the tests that were skipped for want of neither a package nor a permission.
+unnamed() { sed -nE 's/^[1-9][0-9]* skipped: //p' log | sed 's/; /\n/g' | grep -vE "Debian's packages? |needs such a processor|a user who may"; }
+
+judge 'nothing fails' bare bare "$tests/run" "${suites[@]}"
 judge 'the program and the library are tested' test "$(grep -cE '^(program|library): [1-9][0-9]* passed, 0 failed' log)" = 2
 judge 'something is skipped' grep -q '^[1-9][0-9]* skipped: ' log
-judge 'the packages that would be wanted are named' grep -q "^What was skipped wants these packages of Debian: .*\bnodejs\b.*\bpython3\b" log
 unlisted=$(sed -n 's/^What was skipped wants these packages of Debian: //p' log | tr ' ' '\n' | while read -r package; do
     grep -qE "^[^#]+: (.* )?${package//+/\\+}( |\$)" "$top/tools/packages.txt" || echo "$package"
 done | paste -sd ' ')

@@ -32,7 +32,8 @@ test_judge() {
     judge 'each of the two' test "$(grep -cE '^FAILED: .*(the_same_program|no_such_text)' log)" = 2
 }
 
-if wrong_versions 'what the judge of wrong bodies refuses'; then
+# `make check` proves nothing.
+if [ -n "${GATE-}" ]; then
     if command -v rt > /dev/null; then test_judge; else skip 'the judge of wrong bodies, which needs rt of the Rattle toolchain'; fi
 fi
 finish

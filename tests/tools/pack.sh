@@ -1,18 +1,12 @@
 #!/usr/bin/env bash
 # Tests tools/pack.py and its errors, the output of tools/pairs.py, the errors of `make release`, and the types and forms of web/ and of the
-# tools: `bash tests/tools/pack.sh`. The last line is 'N passed, M failed'. TREE names a directory with other `tools` and `web`, ONLY the
-# parts to run, and CASE the only one of many similar tests to run.
+# tools: `bash tests/tools/pack.sh PROGRAM PART..`. The last line is 'N passed, M failed'.
 set -u
 . "$(dirname "$0")/../lib/helpers.sh"
-fresh_numbers
-tree=${TREE-$top}
-
-# wanted NAME COMMAND..: judges a command under this name, unless CASE is a different one.
-wanted() { [ "${CASE-$1}" != "$1" ] || judge "$@"; }
 
 # A small `web`: a core of two modules, a command, and a page.
 mkdir -p small/{core,command,page/texts}
-printf '%s\n' '// What both doors use.' '' '/** @typedef {number} Size */' '' 'const step = 3;' '' '/**' ' * Adds.' ' * @param {number} n' ' */' \
+printf '%s\n' '// What both interfaces use.' '' '/** @typedef {number} Size */' '' 'const step = 3;' '' '/**' ' * Adds.' ' * @param {number} n' ' */' \
     'export function more(n) {' '    return n + step; // stays' '}' > small/core/count.js
 printf '%s\n' "import { more } from './count.js';" 'const [first, second] = [1, 2];' 'export class Twice {' \
     '    of(n) {' '        return more(more(n));' '    }' '}' > small/core/twice.js
@@ -34,11 +28,10 @@ printf '%s\n' "export const title = 'a \"title\"';" "export const small = 'small
     > small/page/texts/english.js
 echo 'p { color: black; }' > small/page/style.css
 head -c 100 "$vectors" > module
-echo 'wasm-opt 99' > module.txt
 echo 'who made what' > NOTICES
 
-# join DOOR OUT [WEB]: packs a door of the small `web`.
-join() { python3 -B "$tree/tools/pack.py" "$1" module "$2" --web "${3-small}" > log 2> errors; }
+# join INTERFACE OUT [WEB]: packs an interface of the small `web`.
+join() { python3 -B "$top/tools/pack.py" "$1" module "$2" --web "${3-small}" > log 2> errors; }
 
 # changed FILE COMMAND..: creates a copy `other` of the small `web` with a file changed by a command, which reads it from standard input.
 changed() {
@@ -49,13 +42,13 @@ changed() {
     "$@" < "small/$file" > "other/$file"
 }
 
-# refuses DOOR TEXT FILE COMMAND..: judges that with a changed file nothing is packed, and the error contains this text.
+# refuses INTERFACE TEXT FILE COMMAND..: judges that with a changed file nothing is packed, and the error contains this text.
 refuses() {
-    local door=$1 text=$2
+    local interface=$1 text=$2
     shift 2
     changed "$@"
     rm -f out
-    wanted "the join refuses $1: $text" eval '! join "$door" out other && [ ! -e out ] && grep -qF -- "$text" errors'
+    judge "the join refuses $1: $text" eval '! join "$interface" out other && [ ! -e out ] && grep -qF -- "$text" errors'
 }
 
 # after TEXT: appends a text; the function below prepends one.
@@ -64,7 +57,6 @@ before() { printf '%b\n' "$1"; cat; }
 
 test_command() {
     local end
-    missing node nodejs 'a joined command' && return
     end=$(tail -c 4 module | od -An -tx1 | tr -d ' ')
     judge 'a command is joined' join command cdscript
     judge 'it runs, and has the whole module' test "$(./cdscript a 'b c')" = "26 4 cdscript $end a b c"
@@ -73,7 +65,7 @@ test_command() {
     cp cdscript cdscript.js
     judge 'as node runs it' test "$(node cdscript.js x)" = "26 4 cdscript.js $end x"
     judge 'who requires it gets main' test "$(node -p 'Object.keys(require("./cdscript")).join()')" = main,start
-    judge 'comments are left out' eval '! grep -qE "What both doors|typedef|Adds|stays|^// " cdscript'
+    judge 'comments are left out' eval '! grep -qE "What both interfaces|typedef|Adds|stays|^// " cdscript'
     printf "Object.defineProperty(process.versions, 'node', { value: '16.20.2' });\n" > old.js
     node -r ./old.js cdscript > log 2> errors
     judge 'an older node is named in one line' test "$? $(cat log errors)" = '2 cdscript needs node 18 or later, and this is 16.20.2'
@@ -110,31 +102,30 @@ test_page() {
     echo '{ "compilerOptions": { "alwaysStrict": true } }' > other/tsconfig.json
     judge 'what editors are told changes no byte' eval 'join page told.html other && cmp -s page.html told.html'
     judge 'the mark before data stands there once' test "$(grep -c '^<plaintext' page.html)" = 1
-    missing node nodejs 'what a joined page has' && return
     judge 'it has the whole module' node "$tests/tools/packed_page.mjs" module page.html module 2> log
     judge 'it has the notices' node "$tests/tools/packed_page.mjs" notices page.html NOTICES 2> log
     judge 'its script is the program of its workers' node "$tests/tools/packed_page.mjs" worker page.html 2> log
     judge 'it has what its own text is made of, and the names of what made it' node "$tests/tools/packed_page.mjs" own page.html 2> log
 }
 
-# The doors of this tree, packed here, and then in a different directory at a different time, by a different user if possible.
+# The interfaces of this tree, packed here, and then in a different directory at a different time, by a different user if possible.
 test_two_builds() {
-    local door other=() user='this user'
+    local interface other=() user='this user'
     if [ "$(id -u)" = 0 ] && ! missing setpriv util-linux 'a build by another user'; then
         other=(setpriv --reuid=65534 --regid=65534 --clear-groups)
         user='another user'
     fi
     mkdir -p 'another place'
-    cp -r "$tree/tools" "$tree/web" module module.txt NOTICES 'another place'
+    cp -r "$top/tools" "$top/web" module NOTICES 'another place'
     chmod 755 . && chmod -R a+rX 'another place' && chmod 777 'another place'
-    for door in command page; do
-        python3 -B "$tree/tools/pack.py" "$door" module "this.$door"
+    for interface in command page; do
+        python3 -B "$top/tools/pack.py" "$interface" module "this.$interface"
     done
     sleep 1
-    for door in command page; do
+    for interface in command page; do
         (cd 'another place' && umask 077 &&
-            "${other[@]}" env TMPDIR=/tmp LC_ALL=C HOME=/ python3 -B tools/pack.py "$door" module "that.$door")
-        judge "$user makes the same $door in another directory" cmp "this.$door" "another place/that.$door"
+            "${other[@]}" env TMPDIR=/tmp LC_ALL=C HOME=/ python3 -B tools/pack.py "$interface" module "that.$interface")
+        judge "$user makes the same $interface in another directory" cmp "this.$interface" "another place/that.$interface"
     done
 }
 
@@ -155,12 +146,8 @@ test_refusals() {
     refuses page 'stands there 0 times, and not once' page/page.html sed '/stylesheet/d'
     refuses page 'stands there 2 times, and not once' page/page.html sed 's/^<meta.*/&&/'
     refuses page 'bytes, more than 400000' page/style.css sh -c 'yes "p { color: black; }" | head -n 60000'
-    mv module.txt moved
-    judge 'the join refuses a module of which nothing says what made it' \
-        eval '! join page out && grep -qF "module.txt: No such file" errors'
-    mv moved module.txt
     python=$(python3 -c 'import sys; print(sys.executable)')
-    judge 'without esbuild its package is named' eval '! PATH=/nothing "$python" -B "$tree/tools/pack.py" page module out --web small 2> errors &&
+    judge 'without esbuild its package is named' eval '! PATH=/nothing "$python" -B "$top/tools/pack.py" page module out --web small 2> errors &&
         grep -qF "package esbuild" errors'
 }
 
@@ -169,7 +156,7 @@ release_tree() {
     local name
     mkdir -p release/library/x86-64-v3 kit/rattle stubs
     cp -r "$top"/{Makefile,install.mk,dist.list,README.md,CONTRIBUTING.md,CHANGELOG.md,crates.txt,.gitignore,debian,docs,man,examples,include,python} release
-    cp -r "$tree"/{tools,web} release
+    cp -r "$top"/{tools,web} release
     while read -r name; do
         mkdir -p "kit/rattle/$name"
         echo 'a licence' > "kit/rattle/$name/LICENSE-MIT"
@@ -189,20 +176,19 @@ release_tree() {
         xargs sed -i -E 's/no licence has been chosen|no public release//I'
     mkdir release/completions
     : | tee release/completions/{_cdpatch,cdpatch.bash,cdpatch.fish,_cdscript,cdscript.bash} > release/completions/cdscript.fish
-    : | tee release/library/{libcdpatch.a,libcdpatch.so.1} > release/library/x86-64-v3/libcdpatch.so.1
+    : | tee release/library/{libcdpatch.a,libcdpatch.so.2} > release/library/x86-64-v3/libcdpatch.so.2
     # A stand-in for Debian's packages, which need existing libraries.
     printf '%s\n' '#!/bin/sh' ': > ../cdpatch_stand-in.deb' > stubs/dpkg-buildpackage
-    printf '\0asm\1\0\0\0' > release/library/cdpatch-wasm64.wasm
-    echo 'logic=proved functions=0' > release/library/cdpatch-wasm64.txt
+    printf '\0asm\1\0\0\0' > release/library/cdpatch.wasm
     (cd release && git init -q && git add . && commit && bash tools/notices.sh library/NOTICES &&
-        bash tools/lower.sh library/cdpatch-wasm64.wasm library/cdpatch.wasm && bash tools/web.sh library .)
+        python3 -B tools/pack.py command library/cdpatch.wasm cdscript && python3 -B tools/pack.py page library/cdpatch.wasm cdpatch.html)
 }
 
 commit() { git -c user.name=a -c user.email=a@localhost commit -aqm changed; }
 release() { make --no-print-directory -s -C "$1" release distdir="$PWD/made" "${@:2}" > log 2>&1; }
 
 # unfit TEXT COMMAND..: judges that after a command, and a commit of its changes, nothing is released, and one of the reasons has this text.
-unfit() { wanted "make release refuses: $1" is_unfit "$@"; }
+unfit() { judge "make release refuses: $1" is_unfit "$@"; }
 is_unfit() {
     rm -rf unfit made
     cp -r release unfit
@@ -211,14 +197,14 @@ is_unfit() {
     ! release unfit && grep -q "^unfit to be released: .*$1" log && [ -z "$(ls made)" ]
 }
 
-names_release() { bash release/tools/toolchain.sh > log && grep -qF "release 'a-kit' is none that was tried" log; }
+names_release() { bash release/tools/fit.sh toolchain > log && grep -qF "release 'a-kit' is none that was tried" log; }
 
 # Runs make dist in a tree in which no entry of the owner is filled in.
 warns_once() {
     rm -rf unfilled
     cp -r release unfilled
     sed -i 's/^\([a-z]*\):.*/\1:/' unfilled/tools/owner.txt
-    [ "$(bash unfilled/tools/dist.sh nothing 2>&1 > log | grep -c '^warning: ')" = 1 ]
+    [ "$(bash unfilled/tools/dist.sh nothing 2>&1 > log | grep -c '^unfit to be released: tools/owner.txt has no address, licence, key')" = 1 ]
 }
 
 # Whether each released file has a valid signature, and no other file has one.
@@ -236,28 +222,26 @@ signed() {
 test_release() {
     local version PATH=$PWD/stubs:$PATH
     missing git git 'make release' && return
-    missing make make 'make release' && return
-    missing wasm-opt binaryen 'make release' && return
     missing ssh-keygen openssh-client 'make release' && return
     version=$(sed -n 's/^## \([0-9.]*\) .*/\1/p' "$top/CHANGELOG.md" | head -n 1)
     LOGIC=$(grep -oE '`[0-9a-f]{16}`' "$top/README.md" | tr -d '`')
     export LOGIC GIT_CONFIG_GLOBAL=/dev/null
     judge 'a tree to be released is made' release_tree
     mkdir -p made
-    wanted 'make release makes what make dist makes' eval 'release release && [ -s made/cdpatch.html ] && (cd made && sha256sum --status -c ./*.sha256)'
-    wanted 'what is not signed is said' grep -q '^Nothing was signed' log
-    wanted 'systems for which nothing was built are said' eval \
+    judge 'make release makes what make dist makes' eval 'release release && [ -s made/cdpatch.html ] && (cd made && sha256sum --status -c ./*.sha256)'
+    judge 'what is not signed is said' grep -q '^Nothing was signed' log
+    judge 'systems for which nothing was built are said' eval \
         '{ [ -e made/cdpatch.html ] || release release; } && [ "$(grep "^Nothing was built" log | grep -o "(.*)" | paste -sd " ")" = "(make windows) (make arm64)" ]'
-    wanted 'what is fit to be released has no warning' eval '! grep "^warning" log'
-    wanted 'the address of the owner is in the package of the sources' eval \
+    judge 'what is fit to be released has no warning' eval '! grep "^warning" log'
+    judge 'the address of the owner is in the package of the sources' eval \
         '{ [ -e made/cdpatch.html ] || release release; } && grep -q "^Maintainer: .* <a@localhost>$" made/cdpatch_*.dsc'
-    wanted 'what make release signs is verified as INSTALL says' signed
-    wanted 'a release is not signed with another key than the owner has given' eval '! release release SIGN="$PWD/another" && [ ! -e made/cdpatch.html.sig ]'
+    judge 'what make release signs is verified as INSTALL says' signed
+    judge 'a release is not signed with another key than the owner has given' eval '! release release SIGN="$PWD/another" && [ ! -e made/cdpatch.html.sig ]'
     unfit 'changes that are not committed' touch docs/NEW.md
     unfit 'tools/owner.txt has no licence' sed -i 's/^licence:.*/licence:/' tools/owner.txt
     unfit 'tools/owner.txt has no toolchain' sed -i 's/^toolchain:.*/toolchain:/' tools/owner.txt
     unfit 'tools/owner.txt has no address, licence, key, toolchain, questions' sed -i 's/^\([a-z]*\):.*/\1:/' tools/owner.txt
-    wanted 'make dist warns once of what the owner has not filled in' warns_once
+    judge 'make dist warns once of what the owner has not filled in' warns_once
     unfit 'there is no LICENSE' rm LICENSE
     unfit 'README.md says that there is no licence, or no release' sed -i '1s/$/ No licence has been chosen yet./' README.md
     unfit 'debian/copyright says that there is no licence, or no release' sed -i '1s/$/ no licence has been chosen yet/' debian/copyright
@@ -265,39 +249,36 @@ test_release() {
     unfit 'CHANGELOG.md, is not of version 9.9.9' sed -i '0,/^## [0-9.]* /s//## 9.9.9 /' CHANGELOG.md
     unfit "is not of version $version with a date" sed -i '0,/^## [0-9.]* .*/s//## '"$version"' (soon)/' CHANGELOG.md
     unfit "is not of version $version with a date" sed -i '0,/^## /s//## Unreleased\n\n&/' CHANGELOG.md
-    LOGIC=0123456789abcdef unfit 'logic is not the one that docs/TRUST.md names' true
-    wanted "a toolchain's release that was not tried is named, and passes" names_release
-    unfit "verdict 'logic=proved'" sed -i s/proved/not-proved/ library/cdpatch-wasm64.txt
+    LOGIC=0123456789abcdef unfit "of the toolchain 'a-kit' is not the one that docs/TRUST.md names" true
+    judge "a toolchain's release that was not tried is named, and passes" names_release
     unfit 'the notices' sed -i 1d library/NOTICES
-    unfit 'cdpatch.wasm is not what' cp tools/fit.sh library/cdpatch.wasm
     unfit 'cdscript is not what these sources make' sed -i '$s/$/ /' cdscript
     unfit 'cdscript is not what these sources make' sed -i 's/is closed/is shut/' tools/pack.py
     unfit 'cdpatch.html is not what these sources make' sed -i 's/<title>/<title >/' cdpatch.html
     unfit 'cdpatch.html is not what these sources make' rm cdpatch.html
-    unfit 'other tools made it than tools/versions.txt names: esbuild' sed -i 's/wasm-opt .*/wasm-opt 117/' library/cdpatch.wasm.txt
     printf '%s\n' '#!/bin/sh' '[ "$1" != --version ] || { echo 0.18.0; exit; }' "exec $(command -v esbuild) \"\$@\"" > stubs/esbuild
     chmod +x stubs/esbuild
     unfit 'other tools made it than tools/versions.txt names: esbuild' true
     rm stubs/esbuild
 }
 
-made_pairs() { python3 -B "$tree/tools/pairs.py" | cmp - "$tree/web/core/encodings/pairs.js"; }
+made_pairs() { python3 -B "$top/tools/pairs.py" | cmp - "$top/web/core/encodings/pairs.js"; }
 
 test_pairs() {
     missing chromium chromium 'the pairs of bytes of other languages' && return
-    wanted 'the pairs of bytes of other languages are what three decoders make of them' made_pairs
+    judge 'the pairs of bytes of other languages are what three decoders make of them' made_pairs
 }
 
 typed_tools() {
-    mypy --strict --cache-dir=types "$tree"/tools/{contracts,frequencies,header_{numbers,pages},options,pack,pages,pairs,retarget}.py \
+    mypy --strict --cache-dir=types "$top"/tools/{contracts,frequencies,header,options,pack,pages,pairs,retarget}.py \
         "$tests/wrong/bodies.py" > log || { cat log; false; }
 }
 
 # lint DIRECTORY WORD..: runs eslint there. If node is not Debian's, Debian's eslint finds its parts by NODE_PATH.
 lint() {
-    (cd "$1" && NODE_PATH=/usr/share/nodejs eslint -f unix --rulesdir "$tree/tools/eslint" --rule 'import-cycle: error' --rule 'rooms: error' "${@:2}")
+    (cd "$1" && NODE_PATH=/usr/share/nodejs eslint -f unix --rulesdir "$top/tools/eslint" --rule 'import-cycle: error' --rule 'layers: error' "${@:2}")
 }
-lint_tools() { lint "$tree/tools" --no-eslintrc -c "$tree/web/.eslintrc.json" --env browser,node --parser-options sourceType:module . ; }
+lint_tools() { lint "$top/tools" --no-eslintrc -c "$top/web/.eslintrc.json" --env browser,node --parser-options sourceType:module . ; }
 
 # refuses_form TEXT FILE LINE: records an additional line of a module in web/ for which eslint must report this text. Each line of a module
 # is in a different copy of web/, so that eslint reads all of them in one run.
@@ -305,8 +286,7 @@ forms=() linted=()
 declare -A lines_of=()
 refuses_form() {
     local name="eslint refuses $2 with ${3%;}: $1" copy=$((lines_of[$2]))
-    [ "${CASE-$name}" = "$name" ] || return 0
-    [ -d "forms.$copy" ] || cp -r "$tree/web" "forms.$copy"
+    [ -d "forms.$copy" ] || cp -r "$top/web" "forms.$copy"
     printf '%s\n' "$3" >> "forms.$copy/$2"
     lines_of[$2]=$((copy + 1))
     linted+=("forms.$copy/$2")
@@ -320,11 +300,11 @@ judge_forms() {
     done
 }
 is_said() { grep -F "/$2:" forms.log | grep -qF "$1"; }
-# has_type FILE LINE: whether eslint refuses an additional line in the declarations of a room.
+# has_type FILE LINE: whether eslint refuses an additional line in the declarations of a layer.
 has_type() {
     rm -rf other
-    cp -r "$tree/web" other
-    lint other "$(dirname "$1")" > log && echo "$2" >> "other/$1" && ! lint other "$(dirname "$1")" > log && grep -qF 'in a higher room' log
+    cp -r "$top/web" other
+    lint other "$(dirname "$1")" > log && echo "$2" >> "other/$1" && ! lint other "$(dirname "$1")" > log && grep -qF 'in a higher layer' log
 }
 
 # of_header NAME: prints the number CDPATCH_NAME of the header.
@@ -344,34 +324,30 @@ lacks_numbers() {
 }
 has_number() {
     rm -rf other
-    cp -r "$tree/web" other
+    cp -r "$top/web" other
     echo 'export const LAST = 449849;' >> other/core/bytes.js
     ! lacks_numbers other core/bytes.js > log && grep -qF core/bytes.js log
 }
 
 test_forms() {
     missing eslint eslint 'the forms of web/' && return
-    wanted 'the numbers of cdpatch.h stand nowhere else in web/' lacks_numbers "$tree/web" .
-    wanted 'a number of cdpatch.h in the core is refused' has_number
-    wanted 'the forms of web/' lint "$tree/web" .
-    wanted "the forms of the tools' JavaScript" lint_tools
+    judge 'the numbers of cdpatch.h stand nowhere else in web/' lacks_numbers "$top/web" .
+    judge 'a number of cdpatch.h in the core is refused' has_number
+    judge 'the forms of web/' lint "$top/web" .
+    judge "the forms of the tools' JavaScript" lint_tools
     refuses_form './calls.js imports this module' core/module/arena.js "export { Calls } from './calls.js';"
     refuses_form './notices.js imports this module' page/ui/dom.js "import './notices.js';"
-    refuses_form '../texts/index.js is in a higher room' core/iso/files.js "import '../texts/index.js';"
-    refuses_form './module/index.js is in a higher room' core/bytes.js "import './module/index.js';"
-    refuses_form '../disc/disc.js is in a higher room' core/iso/files.js "/** @typedef {import('../disc/disc.js').Disc} Disc */"
-    refuses_form '../more/index.js is in a room that has no place in the order' core/iso/files.js "import '../more/index.js';"
-    refuses_form 'dataTrack is for the tasks of the core' command/help.js "import { dataTrack } from '../core/disc/index.js';"
-    refuses_form 'searchText is for the tasks of the core' page/disc/map.js "import { searchText } from '../../core/texts/index.js';"
-    refuses_form 'LineList is for the tasks of the core' page/disc/map.js "export { LineList } from '../../core/script/index.js';"
-    refuses_form 'Crew is for the tasks of the core' command/help.js "import { Crew } from '../core/crew/index.js';"
-    refuses_form '* is for the tasks of the core' npm/jobs.js "import * as sectors from '../core/sectors/index.js';"
-    refuses_form '* is for the tasks of the core' command/help.js "export * from '../core/texts/index.js';"
-    refuses_form '../tasks/index.js is in a higher room' core/texts/search.js "import '../tasks/index.js';"
-    wanted "eslint refuses a type of a higher room in a room's declarations" has_type core/crew/jobs.d.ts "export { Lines } from '../script/sector_lines.js';"
-    for file in core/tasks/merge.js:.. page/disc/map.js:../../core command/help.js:../core npm/jobs.js:../core; do
-        refuses_form 'What a room gives to others stands in its index.js' "${file%:*}" "import '${file#*:}/sectors/runs.js';"
-    done
+    refuses_form '../texts/index.js is in a higher layer' core/iso/files.js "import '../texts/index.js';"
+    refuses_form './module/index.js is in a higher layer' core/bytes.js "import './module/index.js';"
+    refuses_form '../disc/disc.js is in a higher layer' core/iso/files.js "/** @typedef {import('../disc/disc.js').Disc} Disc */"
+    refuses_form '../more/index.js is in a layer that has no place in the order' core/iso/files.js "import '../more/index.js';"
+    refuses_form 'Import views.js of that layer' command/help.js "import { dataTrack } from '../core/disc/index.js';"
+    refuses_form 'Import views.js of that layer' command/help.js "import { Pool } from '../core/pool/index.js';"
+    refuses_form 'Import views.js of that layer' npm/jobs.js "export * from '../core/sectors/index.js';"
+    refuses_form '../tasks/index.js is in a higher layer' core/texts/search.js "import '../tasks/index.js';"
+    judge "eslint refuses a type of a higher layer in a layer's declarations" has_type core/pool/jobs.d.ts "export { Lines } from '../script/sector_lines.js';"
+    refuses_form 'Import index.js of that layer' core/tasks/merge.js "import '../sectors/runs.js';"
+    refuses_form 'Import views.js of that layer' page/disc/map.js "import '../../core/sectors/runs.js';"
     refuses_form 'The core imports only of itself' core/sectors/runs.js "import '../../page/ui/dom.js';"
     refuses_form 'The core imports only of itself' core/bytes.js "import '../page/ui/dom.js';"
     refuses_form 'The core imports only of itself' core/iso/files.js "import '../../sentences/index.js';"
@@ -394,6 +370,10 @@ test_forms() {
     refuses_form '../disc/index.js imports this module' page/text/panel.js "import '../disc/index.js';"
     refuses_form 'The command imports only of itself, of the core, of the sentences and of node' command/help.js "import '../page/ui/dom.js';"
     refuses_form 'The command imports only of itself, of the core, of the sentences and of node' command/help.js "import 'os';"
+    for file in core/sectors/runs.js page/disc/map.js command/help.js; do
+        refuses_form 'Do not nest ternary expressions' $file "export const signOf = it => it < 0 ? -1 : it > 0 ? 1 : 0;"
+        refuses_form 'Set each field by its name' $file "export class Held { constructor(held) { Object.assign(this, held); } }"
+    done
     for file in core/bytes.js core/sectors/runs.js page/main.js page/ui/dom.js command/help.js; do
         refuses_form 'A dynamic import' $file "import('./x.js');"
     done
@@ -402,18 +382,10 @@ test_forms() {
 
 test_types() {
     missing mypy mypy 'the types of the tools' || judge 'the types of the tools' typed_tools
-    missing tsc node-typescript 'the types of web/' || judge 'the types of web/' tsc -p "$tree/web"
+    missing tsc node-typescript 'the types of web/' || judge 'the types of web/' tsc -p "$top/web"
 }
 
-test_all() {
-    local part
-    missing python3 python3 'what tools/pack.py packs' && return
-    missing esbuild esbuild 'what tools/pack.py packs' && return
-    for part in ${ONLY-refusals command page pairs two_builds release types forms}; do
-        "test_$part"
-    done
-    [ -n "${ONLY-}" ] || refuse_wrong tools build p
-}
-
-test_all
+for part in ${ONLY-${*:2}}; do
+    "test_$part"
+done
 finish

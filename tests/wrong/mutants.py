@@ -12,6 +12,7 @@ import multiprocessing
 import os
 import random
 import resource
+import shutil
 import subprocess
 import sys
 import tempfile
@@ -22,8 +23,13 @@ from operator import or_
 from pathlib import Path
 from typing import Any
 
-from tables import TOP, WRONG
-from versions import MODULE, NOTICES, TESTS, copied, in_cases, spent
+WRONG = Path(__file__).resolve().parent
+TESTS, TOP = WRONG.parent, WRONG.parents[1]
+MODULE = TOP / 'library/cdpatch.wasm'
+NOTICES = TOP / 'library/NOTICES'
+sys.path.insert(0, str(TOP / 'tools'))
+for variable, built in ('PROGRAM', 'cdpatch'), ('CDPATCH_PROGRAM', 'cdpatch'), ('CDPATCH_LIBRARY', 'library/libcdpatch.so.2'):
+    os.environ.setdefault(variable, str(TOP / built))
 
 SOURCES = {'core': 'web/core', 'page': 'web/page', 'cdscript': 'web/command', 'python': 'python/cdpatch'}
 USUAL = ['core', 'cdscript', 'python']
@@ -94,6 +100,24 @@ def of_python(suite: str) -> Iterator[Mutant]:
                     return sum(map(len, lines[:line - 1])) + len(lines[line - 1].encode()[:column].decode())
                 start, end = at(it.lineno, it.col_offset), at(it.end_lineno or 0, it.end_col_offset or 0)
                 yield Mutant(suite, str(file.relative_to(TOP)), it.lineno, start, end, made)
+
+
+def linked(source: str, copy: str) -> None:
+    """Links a file, which is faster than to copy it. A mutant replaces the link of the file that it changes."""
+    try:
+        os.link(source, copy)
+    except OSError:
+        shutil.copy(source, copy)
+
+
+def copied(source: Path, copy: Path) -> Path:
+    shutil.copytree(source, copy, copy_function=linked)
+    return copy
+
+
+def spent() -> float:
+    """The processor seconds of this process and of its children that have ended."""
+    return sum(it.ru_utime + it.ru_stime for it in map(resource.getrusage, (resource.RUSAGE_SELF, resource.RUSAGE_CHILDREN)))
 
 
 def run_test(words: list[str], room: Path, seconds: float, **more: str) -> bool:
@@ -172,7 +196,7 @@ def changed(mutant: Mutant, root: Path) -> None:
 def joined(web: Path, command: Path) -> Path:
     """Packs cdscript from a copy of web/."""
     import pack
-    command.write_text(str(pack.packed_door('command', web, MODULE, NOTICES)))
+    command.write_text(str(pack.packed_interface('command', web, MODULE, NOTICES)))
     command.chmod(0o755)
     return command
 
@@ -185,9 +209,9 @@ def first_other(right: Path, wrong: Path) -> int:
 def outcome(mutant: Mutant, room: Path) -> str:
     """Tries a mutant: 'killed' if a test fails, 'survived' if tests reach the change and pass, or 'unreached'."""
     if mutant.suite == 'python':
-        changed(mutant, copied(TOP / 'python', None, room / 'python'))
+        changed(mutant, copied(TOP / 'python', room / 'python'))
         return 'survived' if python_passes(room) else 'killed'
-    web = copied(TOP / 'web', None, room / 'web')
+    web = copied(TOP / 'web', room / 'web')
     changed(mutant, web)
     try:
         path = room / PLACES[mutant.suite] if mutant.suite in PLACES else joined(web, room / 'cdscript')
@@ -212,7 +236,13 @@ def python_passes(room: Path) -> bool:
 def passes(tests: list[Reached], room: Path, client: str, path: Path) -> bool:
     """Whether these test files and random cases pass. The page has no client for random cases."""
     return all(run_file(it.file, room, it.seconds, **{TOLD[client]: str(path)}) for it in tests) \
-        and (client == 'page' or not in_cases('random cases', client, path, room))
+        and (client == 'page' or cases_pass(client, path, room))
+
+
+def cases_pass(client: str, path: Path, room: Path) -> bool:
+    """Whether random cases pass on a client of tests/cases/clients.py."""
+    words = [sys.executable, '-B', str(TESTS / 'model/compare.py'), '--cases', '100', '--jobs', '1', f'--{client}', str(path)]
+    return subprocess.run(words, stdout=subprocess.DEVNULL, check=False, env={**os.environ, 'TMPDIR': str(room)}).returncode == 0
 
 
 def tried(mutant: Mutant) -> tuple[Mutant, str]:
@@ -229,7 +259,7 @@ def right_passes(suite: str, place: Path) -> bool:
     """Whether the right version passes. Keeps what each test file runs."""
     global RIGHT
     if suite == 'python':
-        copied(TOP / 'python', None, place / 'python')
+        copied(TOP / 'python', place / 'python')
         return python_passes(place)
     RIGHT = TOP / PLACES[suite] if suite in PLACES else joined(TOP / 'web', place / 'cdscript')
     files = sorted((TESTS / suite).glob('*.test.mjs'))

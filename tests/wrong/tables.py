@@ -1,4 +1,4 @@
-"""Reads tables of wrong versions and wrong bodies. A table consists of blocks, each of which begins with a line `[NAME]`. refused.txt records
+"""Reads tables of wrong bodies and wrong definitions. A table consists of blocks, each of which begins with a line `[NAME]`. refused.txt records
 which blocks were refused, by a checksum of the block and of all that it depends on."""
 
 from __future__ import annotations
@@ -16,7 +16,7 @@ WRONG = Path(__file__).resolve().parent
 TOP = WRONG.parents[1]
 RECORD = WRONG / 'refused.txt'
 HEAD = """\
-# Wrong bodies and wrong versions that were refused: for each table, a sum for each block, over the block and all that it was tried on.
+# Wrong bodies that were refused: for each table, a sum for each block, over the block and all that it was tried on.
 # `make must-fail` writes this file, and so do its parts alone. The gate tries every block whose sum is not here, and a fifth of the others.
 """
 

@@ -1,71 +1,21 @@
 // Parses the arguments of the command line.
 
-import { LAST_TRACK } from '../core/disc/index.js';
-import { ENCODINGS, encodingOf } from '../core/encodings/index.js';
-import { bytesOfHex } from '../core/hex_digits.js';
-import { LAST_BASE, LAST_BLOCK } from '../core/module/index.js';
 import { ownFault } from '../sentences/index.js';
-import { FORMS, OPTION_FORMS } from './forms.js';
-import { numberOf } from './numbers.js';
+import { FORMS, usageOf } from './forms.js';
+import { OPTIONS } from './options.js';
 import { didYouMean } from './suggesting.js';
 
-/** @typedef {import('./forms.js').Options} Options */
+/** @typedef {import('./options.js').OptionName} OptionName */
+/** @typedef {import('./options.js').Options} Options */
 /** @typedef {{ job: string, names: string[], options: Options }} Given */
-
-/** Pairs of options that exclude each other. */
-const EXCLUDING = [
-    ['encoding', 'table'], ['fields', 'skipDamaged'], ['fields', 'partial'], ['skipDamaged', 'partial'],
-    ['list', 'all'], ['list', 'inside'], ['list', 'loose'], ['base', 'first'], ['file', 'base'], ['file', 'track'], ['file', 'in'],
-    ['csv', 'po'], ...['list', 'file', 'all', 'inside', 'loose', 'fill', 'partial', 'track', 'base', 'output'].map(name => ['check', name]),
-    ['json', 'resume'],
-    ['every', 'lines'], ['every', 'min'],
-];
-
-/** Options of a job that need another option. */
-const NEEDING = [['replace', 'partial', 'list'], ['replace', 'file', 'list'],
-    ['texts', 'every', 'length'], ['texts', 'length', 'every'], ['texts', 'skip', 'every'], ['texts', 'limit', 'every']];
-
-/** Options that may be given several times. */
-const REPEATED = ['dat', 'in', 'list'];
 
 /** Other names of jobs. */
 const ALIASES = new Map([['repair', 'merge']]);
 
-/** The greatest distance of records, the most bytes of the text of one, and the most bytes before the first. */
-const MOST_EVERY = 1 << 20;
-const LONGEST_RECORD = 4096;
-const MOST_SKIPPED = 1e12;
-
-/** @type {Record<string, string>} */
-const SHORT_WORDS = { '-h': '--help', '-V': '--version' };
-
-/** @param {string} text */
-function fillOf(text) {
-    if (text === 'end') return text;
-    if (!/^([0-9A-Fa-f]{2})+$/.test(text)) throw ownFault(`--fill needs two hexadecimal digits for each byte, or end, not '${text}'`);
-    return bytesOfHex(text);
+/** @param {Options} options */
+function namesOf(options) {
+    return /** @type {OptionName[]} */ (Object.keys(options));
 }
-
-/** @param {string} name */
-function knownEncoding(name) {
-    const known = ENCODINGS.map(it => it.name).join(', ');
-    if (encodingOf(name) === null) throw ownFault(`unknown encoding '${name}'; known encodings: ${known}`);
-    return name;
-}
-
-/** @type {Record<string, (text: string) => string | number | Uint8Array>} the parsers of option values; other values are texts */
-const VALUES = {
-    base: text => numberOf(text.replace(/^\+(?=\d)/, ''), '--base', 0, LAST_BASE),
-    track: text => numberOf(text, '--track', 1, LAST_TRACK),
-    limit: text => numberOf(text, '--limit', 0, LAST_BLOCK),
-    every: text => numberOf(text, '--every', 1, MOST_EVERY),
-    length: text => numberOf(text, '--length', 1, LONGEST_RECORD),
-    skip: text => numberOf(text, '--skip', 0, MOST_SKIPPED),
-    min: text => numberOf(text, '--min', 1, LAST_BLOCK),
-    first: text => numberOf(text, '--first', 0, LAST_BASE),
-    fill: fillOf,
-    encoding: knownEncoding,
-};
 
 /**
  * Sorts the words of the command line into options and names.
@@ -82,7 +32,7 @@ function sorted(words) {
         else if (word === '-' || !word.startsWith('-')) names.push(word);
         else takeOption(options, word, left);
     }
-    return { options, names };
+    return { options: /** @type {Options} */ (options), names };
 }
 
 /**
@@ -92,20 +42,39 @@ function sorted(words) {
  */
 function takeOption(options, word, left) {
     const [, spelled = word, given] = /^([^=]*)(?:=(.*))?$/s.exec(word) || [];
-    const meant = SHORT_WORDS[spelled] || spelled;
-    const name = Object.keys(OPTION_FORMS).find(key => OPTION_FORMS[key].word === meant);
-    if (!name) {
-        const known = Object.values(OPTION_FORMS).map(({ word: it }) => it);
+    const found = Object.entries(OPTIONS).find(([, row]) => row.word === spelled || row.short === spelled);
+    if (found === undefined) {
+        const known = Object.values(OPTIONS).map(row => row.word);
         throw ownFault(`unknown option ${spelled}${didYouMean(spelled, known) || '; put names that begin with - after --'}`);
     }
-    const form = OPTION_FORMS[name];
-    const isFlag = form.value === '';
+    const [name, row] = found;
+    const isFlag = row.value === '';
     if (isFlag && given !== undefined) throw ownFault(`${spelled} does not accept a value`);
-    if (name in options && !REPEATED.includes(name)) throw ownFault(`${form.word} was given twice`);
+    if (name in options && !row.repeated) throw ownFault(`${row.word} was given twice`);
     const text = isFlag || given !== undefined ? given : left.next().value;
-    if (!isFlag && text === undefined) throw ownFault(`${form.word} needs ${form.value}`);
-    const value = isFlag || (name in VALUES ? VALUES[name](text) : text);
-    options[name] = REPEATED.includes(name) ? [...options[name] || [], value] : value;
+    if (!isFlag && text === undefined) throw ownFault(`${row.word} needs ${row.value}`);
+    const value = isFlag || (row.parse ? row.parse(text) : text);
+    options[name] = row.repeated ? [...options[name] || [], value] : value;
+}
+
+/**
+ * Throws a Fault if a job lacks one of the options, if an option needs another one, or if two exclude each other.
+ * @param {string} job
+ * @param {Options} options
+ */
+function checkOptions(job, options) {
+    const given = namesOf(options);
+    const foreign = given.find(name => name !== 'help' && !FORMS[job].options.includes(name));
+    if (foreign) throw ownFault(`${job} has no option ${OPTIONS[foreign].word}; see cdscript ${job} --help`);
+    const rows = given.map(name => OPTIONS[name]);
+    for (const { word, needs = {} } of options.check ? [] : rows) {
+        const other = /** @type {OptionName | undefined} */ (needs[job]);
+        if (other !== undefined && !(other in options)) throw ownFault(`${word} needs ${OPTIONS[other].word}`);
+    }
+    for (const { word, excludes = [] } of rows) {
+        const other = given.find(name => excludes.includes(name));
+        if (other !== undefined) throw ownFault(`${word} and ${OPTIONS[other].word} cannot be used together`);
+    }
 }
 
 /**
@@ -134,14 +103,6 @@ function checkNames(job, names, options) {
 }
 
 /**
- * The arguments of a job, in the notation of help.
- * @param {string[]} takes
- */
-export function usageOf(takes) {
-    return takes.map(name => name.endsWith('?') ? `[${name.slice(0, -1)}]` : name).join(' ');
-}
-
-/**
  * Parses a command line. Throws a Fault.
  * @param {string[]} words
  * @returns {Given}
@@ -152,21 +113,14 @@ export function argumentsOf(words) {
     if (given[0] === 'help' && given.length <= 2) options.help = true;
     const [word = '', ...names] = given[0] === 'help' ? given.slice(1) : given;
     const job = ALIASES.get(word) || word;
-    if (options.version || options.notices || (options.help && job === '')) return { job: '', names: [], options };
+    const isOwn = options.version || options.notices || options.forms || (options.help && job === '');
+    if (isOwn) return { job: '', names: [], options };
     if (job === '') throw ownFault('no job given; see cdscript --help');
+    if (['list', 'audit'].includes(job)) throw ownFault(`unknown job '${job}'; use cdscript info or cdpatch ${job}`);
     if (!Object.keys(FORMS).includes(job)) {
         throw ownFault(`unknown job '${job}'${didYouMean(job, Object.keys(FORMS))}; see cdscript --help`);
     }
-    const foreign = Object.keys(options).find(name => name !== 'help' && !FORMS[job].options.includes(name));
-    if (foreign) throw ownFault(`${job} has no option ${OPTION_FORMS[foreign].word}; see cdscript ${job} --help`);
-    for (const [its, one, other] of NEEDING) {
-        if (job !== its || !(one in options) || other in options || options.check) continue;
-        throw ownFault(`${OPTION_FORMS[one].word} needs ${OPTION_FORMS[other].word}`);
-    }
-    for (const [one, other] of EXCLUDING) {
-        if (!(one in options && other in options)) continue;
-        throw ownFault(`${OPTION_FORMS[one].word} and ${OPTION_FORMS[other].word} cannot be used together`);
-    }
+    checkOptions(job, options);
     if (!options.help) checkNames(job, names, options);
     return { job, names, options };
 }

@@ -1,133 +1,101 @@
-// The jobs that the program cdpatch has too: `list`, `audit`, `check`, and `apply`, with the program's messages, statuses, and limits.
+// The jobs that the program cdpatch has too: `check` and `apply`, with the program's output, statuses, and limits.
 
-import { sampledBase } from '../core/disc/index.js';
+import { bytesOfLines } from '../core/bytes.js';
+import { kindOfFile, sampledBase } from '../core/disc/views.js';
 import { Fault, failedBy } from '../core/faults.js';
-import { SECTOR_SIZE, STATUS } from '../core/module/index.js';
-import { BETWEEN_WRITTEN } from '../core/script/index.js';
-import { auditText, imageTooLong, listText } from '../core/sectors/index.js';
+import { STATUS } from '../core/module/index.js';
+import { BETWEEN_WRITTEN } from '../core/script/views.js';
+import { imageTooLong, surveyCounts } from '../core/sectors/views.js';
 import { applyScript, validScript } from '../core/tasks/index.js';
 import { ownFault, sentenceOf } from '../sentences/index.js';
-import { MESSAGES } from './messages.js';
 import { openTrackOf } from './opening.js';
 
 /** @typedef {import('../core/bytes.js').Piece} Piece */
-/** @typedef {import('../core/bytes.js').Reader} Reader */
+/** @typedef {import('../core/disc/disc.js').DiscFile} DiscFile */
+/** @typedef {Pick<import('../core/disc/disc.js').DiscImage, 'name' | 'reader' | 'base'>} Image */
 /** @typedef {import('../core/script/script.js').ReadScript} ReadScript */
 /** @typedef {import('./job.js').Job} Job */
 
 /**
- * A Fault with a message of the program, which is printed on standard output, as the program does.
- * @param {string | Uint8Array} text one of MESSAGES, or a line of the module
- * @param {string} [advice] is printed on standard error
- */
-function programFault(text, advice = '') {
-    const message = typeof text === 'string' ? `cdpatch: ${text}\n` : new TextDecoder().decode(text);
-    return new Fault('program', { sentence: message, advice });
-}
-
-/**
- * Wraps a job, so that its errors are reported as the program reports them.
- * @param {(job: Job) => Promise<number>} task
+ * The job that reads its script first, and prints an error of the script on standard output, as the program does.
+ * @param {(job: Job, script: ReadScript) => Promise<number>} task
  * @returns {(job: Job) => Promise<number>}
  */
-function asProgram(task) {
+function withScript(task) {
     return async job => {
+        let script;
         try {
-            return await task(job);
+            script = await validScript(job.calls, job.files.piecesOf(job.names[1]), job.options.long);
         } catch (error) {
-            if (!failedBy(error, 'program')) throw error;
-            job.files.removeUnfinished();
-            await job.output.write(new TextEncoder().encode(sentenceOf(error)));
-            if (error.facts.advice) job.say(error.facts.advice);
+            if (!failedBy(error, 'script/refused')) throw error;
+            await job.output.write(bytesOfLines([sentenceOf(error)]));
             return STATUS.FAILED;
         }
+        return task(job, script);
     };
 }
 
-/** The program's messages for an image that cannot be opened, read, or written. */
-const OF_IMAGES = { open: MESSAGES.no_image, read: MESSAGES.read_failed, make: MESSAGES.no_output, write: MESSAGES.write_failed };
-
-/** The program's messages for a script. */
-const OF_SCRIPTS = { ...OF_IMAGES, open: MESSAGES.no_script, read: MESSAGES.no_script };
+/** The kinds of files that are read as the program reads them: images, and files in which nothing else was recognised. */
+const AS_SECTORS = ['raw', 'audio', 'unknown', 'empty'];
 
 /**
- * Runs `tried`, and converts the error of a file or a script to a Fault with the program's message.
- * @template T
- * @param {typeof OF_IMAGES} messages
- * @param {() => T | Promise<T>} tried
- * @returns {Promise<T>}
+ * Throws a Fault if a file cannot be patched: it is too long, or recognised as something else than an image of 2352-byte sectors.
+ * @param {Job} job
+ * @param {DiscFile} file
  */
-async function withMessages(messages, tried) {
-    try {
-        return await tried();
-    } catch (error) {
-        if (failedBy(error, 'image-ended')) throw programFault(messages.read);
-        if (failedBy(error, 'script/refused')) throw new Fault('program', { sentence: `${sentenceOf(error)}\n` });
-        if (!failedBy(error, 'file')) throw error;
-        const { attempt = 'open' } = error.facts;
-        throw programFault(messages[attempt], attempt === 'make' ? sentenceOf(error) : '');
-    }
+async function assertSectors(job, { name, reader }) {
+    if (imageTooLong(reader.size)) throw new Fault('disc/other-file', { name, kind: 'long' });
+    const kind = await kindOfFile(job.calls, reader);
+    if (!AS_SECTORS.includes(kind)) throw new Fault('disc/other-file', { name, kind });
 }
+
+/** What can be done with an image of Mode 2. */
+const ONLY_MODE_1 = 'scripts do not patch: cdscript info tests it, and cdscript merge repairs it';
 
 /** The minimum number of addresses whose majority decides. */
 const FEWEST_ADDRESSES = 16;
 
 /**
- * Checks that blocks can be counted from 0 without `--base`, as the program counts them. Throws a Fault if most addresses give a different
- * base. If there are only a few addresses, and all give that base, prints a message.
+ * Checks an image without Mode 1 among its sampled sectors. If it has no Mode 1 sector at all, throws a Fault for an image of Mode 2, and
+ * prints a message for anything else.
+ * @param {Job} job
+ * @param {Image} image
+ * @param {number} soundMode2 how many sampled sectors of Mode 2 are sound
+ */
+async function checkWithoutMode1(job, { name, reader, base }, soundMode2) {
+    if (surveyCounts(await job.survey(reader, base)).mode1 > 0) return;
+    if (soundMode2 > 0) throw ownFault(`${name} is an image of Mode 2, which ${ONLY_MODE_1}`);
+    job.say(`no sector of ${name} is Mode 1, and scripts patch no others`);
+}
+
+/**
+ * Checks that blocks can be counted from 0 without `--base`, as the program counts them. Throws a Fault otherwise. If there are only a few
+ * addresses, and all give a different base, prints a message.
  * @param {Job} job
  * @param {string} name
- * @param {Reader} reader
+ * @param {Awaited<ReturnType<typeof sampledBase>>} addresses
  */
-async function checkBase(job, name, reader) {
-    const { base, agreeing, mode1 } = await withMessages(OF_IMAGES, () => sampledBase(job.calls, reader));
-    if (base <= 0 || 2 * agreeing <= mode1) return;
+function checkBase(job, name, { base, agreeing, mode1 }) {
+    if (job.options.base !== undefined || base <= 0 || 2 * agreeing <= mode1) return;
     const found = `most addresses in ${name} say that it begins with block ${base}`;
     if (mode1 >= FEWEST_ADDRESSES) throw ownFault(`${found}: use --base ${base}, or --base 0 to count from 0 anyway`);
     if (agreeing === mode1) job.say(`this image begins with block ${base}: use --base ${base}`);
 }
 
 /**
- * Opens the image of a job: a file as the program reads it, or the image of a cue sheet. Returns it with its base.
+ * Opens the image of a job: a file as the program reads it, or the image of a cue sheet.
  * @param {Job} job
- * @returns {Promise<{ reader: Reader, base: number }>}
+ * @returns {Promise<Image>}
  */
 async function openImage(job) {
     const [name] = job.names;
     const isSheet = /\.cue$/i.test(name);
-    if (isSheet) return (await openTrackOf(job, name, true)).image;
-    const { reader } = await withMessages(OF_IMAGES, () => job.files.image(name));
-    const { base } = job.options;
-    if (base === undefined && !imageTooLong(reader.size)) await checkBase(job, name, reader);
-    return { reader, base: base || 0 };
-}
-
-/**
- * @param {Job} job
- * @param {typeof listText} textOf
- * @param {'survey' | 'kinds'} task the survey of the sectors that it needs
- */
-async function report(job, textOf, task) {
-    const { reader, base } = await openImage(job);
-    if (imageTooLong(reader.size)) throw programFault(MESSAGES.long_image);
-    const survey = await withMessages(OF_IMAGES, () => job.survey(reader, base, task));
-    const { status, text } = textOf(job.calls, survey, reader.size % SECTOR_SIZE);
-    await job.output.write(text);
-    return status;
-}
-
-export const listJob = asProgram(job => report(job, listText, 'kinds'));
-
-export const auditJob = asProgram(job => report(job, auditText, 'survey'));
-
-/**
- * Reads the script of a job.
- * @param {Job} job
- * @returns {Promise<ReadScript>}
- */
-async function scriptNamed(job) {
-    const pieces = job.files.piecesOf(job.names[1]);
-    return withMessages(OF_SCRIPTS, () => validScript(job.calls, pieces, job.options.long));
+    const image = isSheet ? (await openTrackOf(job, name, true)).image : { ...await job.files.image(name), base: job.options.base || 0 };
+    if (!isSheet) await assertSectors(job, image);
+    const addresses = await sampledBase(job.calls, image.reader);
+    if (addresses.mode1 === 0) await checkWithoutMode1(job, image, addresses.soundMode2);
+    if (!isSheet) checkBase(job, name, addresses);
+    return image;
 }
 
 /**
@@ -143,33 +111,24 @@ function adviseBase(error) {
 /**
  * Applies the patches of the script, and prints their outcomes. Returns the status.
  * @param {Job} job
- * @param {{ reader: Reader, base: number }} image
+ * @param {Image} image
  * @param {ReadScript} script
  * @param {(piece: Piece) => void | Promise<void>} [take]
  */
 async function patch(job, image, script, take) {
-    const { carry } = job.options;
-    const taken = imageTooLong(image.reader.size) ? null : take; // an image that is too long is only reported
-    const how = { carry, near: BETWEEN_WRITTEN, take: taken };
-    const made = await withMessages(OF_IMAGES, () => applyScript(job, image, script, how, job.watch).catch(adviseBase));
-    if (made.status === STATUS.FAILED) throw programFault(made.text);
-    await job.output.write(made.text);
+    const how = { carry: job.options.carry, near: BETWEEN_WRITTEN, take };
+    const { status, text } = await applyScript(job, image, script, how, job.watch).catch(adviseBase);
+    await job.output.write(text);
     job.output.flush();
-    return made.status;
+    return status;
 }
 
-export const checkJob = asProgram(async job => {
-    const script = await scriptNamed(job);
-    return patch(job, await openImage(job), script);
-});
+export const checkJob = withScript(async (job, script) => patch(job, await openImage(job), script));
 
-export const applyJob = asProgram(async job => {
-    const script = await scriptNamed(job);
+export const applyJob = withScript(async (job, script) => {
     // The program makes OUT before it reads the image, which may be a pipe.
-    await withMessages(OF_IMAGES, () => job.files.begin(job.names[0]));
-    const out = await withMessages(OF_IMAGES, () => job.files.make(job.names[2]));
+    await job.files.begin(job.names[0]);
+    const out = await job.files.make(job.names[2]);
     const image = await openImage(job);
-    const status = await patch(job, image, script, piece => out.writePiece(job.watched(image.reader), piece));
-    await withMessages(OF_IMAGES, () => out.finish());
-    return status;
+    return patch(job, image, script, piece => out.writePiece(job.watched(image.reader), piece));
 });

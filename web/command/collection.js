@@ -1,15 +1,19 @@
 // Collects the files that `scan` examines.
 
-import { fstatSync, readFileSync, readdirSync, realpathSync, statSync } from 'node:fs';
+import { existsSync, fstatSync, readFileSync, readdirSync, realpathSync, statSync } from 'node:fs';
 import { dirname, join } from 'node:path';
-import { sheetsOf } from '../core/disc/index.js';
+import { LARGEST_SHEET, isSheetName, sheetsOf } from '../core/disc/views.js';
 import { Fault } from '../core/faults.js';
 import { reasonOf } from './failures.js';
+import { timeText } from './files.js';
 import { nameOfBytes, pathIn, pathOf } from './names.js';
 import { letSignalsIn } from './pausing.js';
 import { pathsOfSheet } from './sheet_files.js';
 
-/** @typedef {{ name: string, isNamed: boolean }} Wanted a file, and whether it was given by its name */
+/**
+ * A file, whether it was given by its name, and its real path, size, and time of change; null for what is not a regular file.
+ * @typedef {{ name: string, isNamed: boolean, real: string, state: import('./scan_list.js').FileState | null }} Wanted
+ */
 
 /** Standard input, as a name. */
 const INPUT = '-';
@@ -19,18 +23,14 @@ export class Collection {
     /**
      * @param {(text: string) => void} fault
      * @param {import('./job.js').Target} target which is excluded, wherever it is
-     * @param {string} lock the path of its lock, which is excluded too
      */
-    constructor(fault, { descriptor }, lock) {
+    constructor(fault, { descriptor }) {
         this.fault = fault;
-        this.lock = lock;
-        const { dev, ino } = fstatSync(descriptor, { bigint: true });
-        this.isTarget = (/** @type {string} */ name) => {
-            const found = statSync(pathOf(name), { bigint: true });
-            return found.dev === dev && found.ino === ino;
-        };
+        this.target = fstatSync(descriptor, { bigint: true });
         /** @type {Map<string, Wanted>} by the real path */
         this.found = new Map();
+        /** @type {Map<string, Wanted>} */
+        this.byName = new Map();
         /** @type {Set<string>} the real paths of the directories that were searched */
         this.searched = new Set();
         /** @type {string[]} links to directories */
@@ -47,8 +47,9 @@ export class Collection {
     /** @param {string} path that was given */
     addNamed(path) {
         return this.tried(path, () => {
-            if (path === INPUT) this.found.set(INPUT, { name: INPUT, isNamed: true });
-            else return statSync(pathOf(path)).isDirectory() ? this.addAll(path) : this.addFile(path, true);
+            if (path === INPUT) return void this.found.set(INPUT, { name: INPUT, isNamed: true, real: INPUT, state: null });
+            const stat = statSync(pathOf(path), { bigint: true });
+            return stat.isDirectory() ? this.addAll(path) : this.addFile({ name: path, isNamed: true, real: realPath(path) }, stat);
         });
     }
 
@@ -63,15 +64,19 @@ export class Collection {
         for (const { entry, name } of entries) {
             const path = pathIn(directory, name);
             if (entry.isDirectory()) await this.tried(path, () => this.addAll(path));
-            else if (entry.isFile() || entry.isSymbolicLink()) await this.tried(path, () => this.addEntry(path));
+            else if (entry.isFile()) await this.tried(path, () => this.addEntry(path, pathIn(real, name)));
+            else if (entry.isSymbolicLink()) await this.tried(path, () => this.addEntry(path));
         }
     }
 
-    /** @param {string} path of a file, or of a link to anything */
-    addEntry(path) {
-        const found = statSync(pathOf(path));
-        if (found.isFile()) this.addFile(path, false);
-        else if (found.isDirectory()) this.links.push(path);
+    /**
+     * @param {string} path of a file, or of a link to anything
+     * @param {string} [real] the real path of a file
+     */
+    addEntry(path, real) {
+        const stat = statSync(pathOf(path), { bigint: true });
+        if (stat.isFile()) this.addFile({ name: path, isNamed: false, real: real || realPath(path) }, stat);
+        else if (stat.isDirectory()) this.links.push(path);
     }
 
     /**
@@ -85,12 +90,55 @@ export class Collection {
     }
 
     /**
-     * @param {string} name
-     * @param {boolean} isNamed whether it was given by its name
+     * @param {Omit<Wanted, 'state'>} file
+     * @param {import('node:fs').BigIntStats} stat
      */
-    addFile(name, isNamed) {
-        const real = realPath(name);
-        if (real !== this.lock && !this.isTarget(real) && !this.found.has(real)) this.found.set(real, { name, isNamed });
+    addFile(file, stat) {
+        const isTarget = stat.dev === this.target.dev && stat.ino === this.target.ino;
+        if (isTarget || this.found.has(file.real)) return;
+        const wanted = { ...file, state: stat.isFile() ? { size: Number(stat.size), changed: timeText(stat) } : null };
+        this.found.set(file.real, wanted);
+        this.byName.set(file.name, wanted);
+    }
+
+    /**
+     * The real path of a file that may be gone.
+     * @param {string} name
+     */
+    realOf(name) {
+        const known = this.byName.get(name);
+        return known ? known.real : realName(name);
+    }
+
+    /**
+     * The bytes of a cue sheet; null for anything else, and if it cannot be read, which is reported when it is examined.
+     * @param {Wanted} file
+     */
+    bytesOfSheet({ name, state }) {
+        if (!isSheetName(name) || state === null || state.size > LARGEST_SHEET) return null;
+        try {
+            return readFileSync(pathOf(name));
+        } catch {
+            return null;
+        }
+    }
+
+    /**
+     * The files that a cue sheet names, and whether none is missing; no files for anything else.
+     * @param {Wanted} file
+     * @returns {{ names: string[], isWhole: boolean }}
+     */
+    filesNamedBy(file) {
+        const bytes = this.bytesOfSheet(file);
+        if (bytes === null) return { names: [], isWhole: false };
+        try {
+            const exists = (/** @type {string} */ path) => this.byName.has(path) || existsSync(pathOf(path));
+            const readings = pathsOfSheet(file.name, sheetsOf(bytes), exists);
+            const whole = readings.find(paths => !paths.includes(null));
+            return { names: [...new Set((whole || readings.flat()).flatMap(path => path || []))], isWhole: whole !== undefined };
+        } catch {
+            return { names: [], isWhole: false };
+        }
     }
 
     /**
@@ -107,29 +155,9 @@ export class Collection {
         }
     }
 
-    /** The collected files, cue sheets first, so that the files that they name are not examined twice. */
-    names() {
-        return [...this.found.values()].sort((a, b) => Number(isSheetName(b.name)) - Number(isSheetName(a.name)));
-    }
-}
-
-/** @param {string} name */
-export function isSheetName(name) {
-    return /\.cue$/i.test(name);
-}
-
-/**
- * The files that a sheet names; none if one is missing, or if the sheet cannot be read, which is reported when it is examined.
- * @param {string} name
- * @returns {string[]}
- */
-export function filesNamedBy(name) {
-    try {
-        const readings = pathsOfSheet(name, sheetsOf(readFileSync(pathOf(name))));
-        const whole = readings.find(paths => !paths.includes(null)) || [];
-        return /** @type {string[]} */ ([...new Set(whole)]);
-    } catch {
-        return [];
+    /** The collected files. */
+    wanted() {
+        return [...this.found.values()];
     }
 }
 
@@ -139,7 +167,7 @@ function realPath(name) {
 }
 
 /** @param {string} name of a file that may be gone */
-export function realName(name) {
+function realName(name) {
     try {
         return realPath(name);
     } catch {

@@ -6,6 +6,7 @@ const REASONS = {
     EACCES: 'no permission',
     EBADF: 'it is not open',
     EEXIST: 'it already exists',
+    EFTYPE: 'it is not a regular file',
     EINTR: 'interrupted',
     EIO: 'the disk or the drive has an error',
     EISDIR: 'it is a directory',
@@ -21,7 +22,7 @@ const REASONS = {
     EROFS: 'the disk is read-only',
 };
 
-/** @typedef {'open' | 'read' | 'make' | 'write'} Attempt */
+/** @typedef {'open' | 'read' | 'create' | 'write'} Attempt */
 
 /** @param {any} error */
 function codeOf(error) {
@@ -49,8 +50,7 @@ export function hasCode(error, code) {
  * @param {unknown} error
  */
 export function fileFault(attempt, name, error) {
-    const verb = attempt === 'make' ? 'create' : attempt;
-    return new Fault('file', { sentence: `cannot ${verb} ${name}: ${reasonOf(error)}`, attempt, file: name });
+    return new Fault('file', { sentence: `cannot ${attempt} ${name}: ${reasonOf(error)}`, file: name });
 }
 
 /**

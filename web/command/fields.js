@@ -1,7 +1,7 @@
 // Prints how many bytes of each field differ between two images: `diff --fields`.
 
 import { bytesOfLines } from '../core/bytes.js';
-import { FIELDS } from '../core/sectors/index.js';
+import { FIELDS } from '../core/sectors/views.js';
 import { FIELD_COUNT, findDifferences } from '../core/tasks/index.js';
 
 /** @typedef {import('../core/tasks/compare.js').Differing} Differing */

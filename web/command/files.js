@@ -1,20 +1,20 @@
 // The files of a run: images as readers, scripts in pieces, and new files.
 
-import { closeSync, constants, fstatSync, open, read, readFileSync, readSync } from 'node:fs';
+import { constants, fstatSync, open, openSync, read, readFileSync, readSync, statSync } from 'node:fs';
 import { inMemory } from '../core/faults.js';
 import { MOST_SECTORS, SECTOR_SIZE } from '../core/module/index.js';
 import { ownFault } from '../sentences/index.js';
-import { hasCode, tryFile } from './failures.js';
+import { fileFault, hasCode, tryFile } from './failures.js';
 import { pathOf } from './names.js';
-import { NewFile } from './new_file.js';
+import { NewFile, closeFile, writeFully } from './new_file.js';
 import { later, letSignalsIn, pause } from './pausing.js';
 import { STREAM_STEP, readerOfPieces } from './pieces.js';
 
 /** @typedef {import('../core/bytes.js').Reader} Reader */
 /** @typedef {import('../core/disc/disc.js').DiscFile} DiscFile */
 
-/** A stream is read to its end, but not much further than the longest image. */
-const LONGEST_STREAM = MOST_SECTORS * SECTOR_SIZE + 1;
+/** The most bytes of a stream, which is held in memory: those of the longest image. */
+const LONGEST_STREAM = MOST_SECTORS * SECTOR_SIZE;
 
 /**
  * Reads once from where the last read ended, and returns the number of bytes read. A pipe that is empty for the moment is tried again. On
@@ -64,8 +64,10 @@ function diskReader(name, descriptor, size, start) {
         size,
         async read(at, length, room) {
             await letSignalsIn();
-            return tryFile('read', name, () => readFully(length, (bytes, done) =>
+            const found = await tryFile('read', name, () => readFully(length, (bytes, done) =>
                 readSync(descriptor, bytes, done, length - done, start + at + done), room));
+            if (found.length > 0 || length === 0 || at >= size) return found;
+            throw fileFault('read', name, `it has become shorter, and ends at byte ${at}`);
         },
         lent: (at, length) => ({ descriptor, at: start + at, length }),
     };
@@ -85,11 +87,20 @@ function readSoFar(descriptor) {
 }
 
 /**
- * The time at which a file was changed, or '' if it is not a valid date.
- * @param {{ mtime: Date }} stat
+ * The time at which a file was changed, or '' if it is not a valid date. It is always from a BigIntStats: others round it.
+ * @param {import('node:fs').BigIntStats} stat
  */
 export function timeText({ mtime }) {
     return Number.isNaN(mtime.getTime()) ? '' : mtime.toISOString();
+}
+
+/** @param {string} name of a file that may not exist */
+function isDevice(name) {
+    try {
+        return statSync(pathOf(name), { bigint: true }).isCharacterDevice();
+    } catch {
+        return false;
+    }
 }
 
 /** The files of one run. */
@@ -101,8 +112,10 @@ export class Files {
     constructor(input, onmake = () => {}) {
         this.input = input;
         this.onmake = onmake;
-        /** @type {number[]} */
-        this.open = [];
+        /** @type {Map<number, string>} the names of the files that are read, by descriptor */
+        this.open = new Map();
+        /** @type {import('./new_file.js').Warn} */
+        this.warn = () => {};
         /** @type {Map<string, DiscFile>} */
         this.images = new Map();
         /** @type {Map<string, number>} the descriptors of images of which nothing was read yet */
@@ -120,7 +133,7 @@ export class Files {
      */
     async opened(name, flags = constants.O_RDONLY) {
         const descriptor = await tryFile('open', name, () => later(callback => open(pathOf(name), flags, callback)));
-        this.open.push(descriptor);
+        this.open.set(descriptor, name);
         return descriptor;
     }
 
@@ -155,9 +168,9 @@ export class Files {
         const known = this.images.get(name);
         if (known) return known;
         const descriptor = await this.opened(name, constants.O_RDONLY | (constants.O_NONBLOCK || 0));
-        const stat = await tryFile('read', name, () => fstatSync(descriptor));
+        const stat = await tryFile('read', name, () => fstatSync(descriptor, { bigint: true }));
         if (!stat.isFile()) throw ownFault(`${name} is not a regular file, and only the cue sheet names it: give its name as IMAGE`);
-        const file = { name, reader: diskReader(name, descriptor, stat.size, 0) };
+        const file = { name, reader: diskReader(name, descriptor, Number(stat.size), 0) };
         this.changed.set(name, timeText(stat));
         this.images.set(name, file);
         return file;
@@ -170,16 +183,17 @@ export class Files {
      * @returns {Promise<Reader>}
      */
     async readerOf(name, descriptor) {
-        const stat = await tryFile('read', name, () => fstatSync(descriptor));
+        const stat = await tryFile('read', name, () => fstatSync(descriptor, { bigint: true }));
         const start = descriptor === this.input ? readSoFar(descriptor) : 0;
         if (stat.isFile()) this.changed.set(name, timeText(stat));
-        if (stat.isFile() && stat.size > 0 && start !== null) return diskReader(name, descriptor, Math.max(stat.size - start, 0), start);
+        const size = Number(stat.size);
+        if (stat.isFile() && size > 0 && start !== null) return diskReader(name, descriptor, Math.max(size - start, 0), start);
         const pieces = [];
         let taken = 0;
         for await (const piece of this.piecesOf(name, descriptor)) {
             pieces.push(piece);
             taken += piece.length;
-            if (taken > LONGEST_STREAM) break;
+            if (taken > LONGEST_STREAM) throw ownFault(`${name} is too long for a pipe: write it to a file first`, { file: name });
         }
         return readerOfPieces(pieces);
     }
@@ -201,10 +215,21 @@ export class Files {
     /** @param {string} name of a file that must not exist */
     async make(name) {
         this.onmake();
-        const file = await tryFile('make', name, () => new NewFile(name, it => this.unfinished.delete(it)));
-        this.open.push(file.descriptor);
+        const file = await tryFile('create', name, () => new NewFile(name, it => this.unfinished.delete(it), text => this.warn(text)));
         this.unfinished.add(file);
         return file;
+    }
+
+    /**
+     * Opens a device such as /dev/null for writing; null if the name is not that of a device. Nothing in it can be lost.
+     * @param {string} name
+     */
+    async device(name) {
+        if (!isDevice(name)) return null;
+        const descriptor = await tryFile('open', name, () => openSync(name, 'w'));
+        this.open.set(descriptor, name);
+        const write = (/** @type {Uint8Array} */ bytes) => tryFile('write', name, () => writeFully(descriptor, bytes));
+        return { descriptor, write };
     }
 
     /** Completes the new files. */
@@ -220,6 +245,7 @@ export class Files {
     /** Removes unfinished files, and closes all files. */
     close() {
         this.removeUnfinished();
-        for (const descriptor of this.open.splice(0)) closeSync(descriptor);
+        this.open.forEach((name, descriptor) => closeFile(descriptor, name, this.warn));
+        this.open.clear();
     }
 }

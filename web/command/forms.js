@@ -1,84 +1,39 @@
-// The jobs and options of the command line, with their help texts.
+// The jobs of the command line, with their help texts.
 
-import { ENCODINGS } from '../core/encodings/index.js';
-import { LAST_BASE } from '../core/module/index.js';
-import { applyJob, auditJob, checkJob, listJob } from './as_program.js';
+import { applyJob, checkJob } from './as_program.js';
 import { extractJob, mergeJob, rawJob, userJob } from './images.js';
 import { infoJob } from './informing.js';
 import { filesJob, findJob, showJob } from './looking.js';
+import { OPTIONS } from './options.js';
 import { replaceFileJob, replaceJob } from './replacing.js';
 import { scanJob } from './scanning.js';
 import { diffJob, rebuildsJob, undoJob } from './scripts.js';
 import { textsJob } from './texting.js';
 
 /** @typedef {import('./job.js').Job} Job */
+/** @typedef {import('./options.js').OptionName} OptionName */
 /**
  * A job: the function that does it and returns the status, its arguments, and its help. Of the arguments, a name that ends in `?` is
- * optional, a name that ends in `..` may occur several times, and those in brackets are optional together. `instead` has the arguments with
- * an option, and `own` the help of options that do something different in this job. A line feed in `does` begins a new line.
- * @typedef {{ job: (job: Job) => Promise<number>, takes: string[], instead?: Record<string, string[]>, options: string[], says: string,
- *     does: string, example: string, own?: Record<string, string> }} Form
+ * optional, a name that ends in `..` may occur several times, and those in brackets are optional together; `words` are arguments that are
+ * not files. `instead` has the arguments with an option, and `own` the help of options that do something different in this job. A line feed
+ * in `does` begins a new line. `ends` has the meaning of each status.
+ * @typedef {{ job: (job: Job) => Promise<number>, takes: string[], words?: string[], instead?: Record<string, string[]>,
+ *     options: OptionName[], says: string, does: string, ends?: Record<number, string>, example: string,
+ *     own?: Partial<Record<OptionName, string>> }} Form
  */
-/** @typedef {{ word: string, value: string, does: string }} OptionForm an option; `value` is '' if it takes none */
-
-/** @type {Record<string, OptionForm>} */
-export const OPTION_FORMS = {
-    base: { word: '--base', value: 'N', does: `the block number of the first sector, 0 to ${LAST_BASE}` },
-    track: { word: '--track', value: 'N', does: 'use track N, a data track, instead of the first data track' },
-    encoding: { word: '--encoding', value: 'NAME', does: `the encoding of text: ${ENCODINGS.map(({ name }) => name).join(', ')}` },
-    table: { word: '--table', value: 'FILE', does: "a game's own table of characters (.tbl)" },
-    fill: { word: '--fill', value: 'HEX', does: 'pad with these bytes, such as 20 or 8140; the word end means the byte that ends text' },
-    all: { word: '--all', value: '', does: 'replace every occurrence (at most 1000000)' },
-    inside: { word: '--inside', value: '', does: 'also replace hits that may begin in the middle of a character' },
-    loose: { word: '--loose', value: '', does: 'ignore case and the width of characters' },
-    list: { word: '--list', value: 'FILE', does: 'read translations from this table or PO file; may be repeated' },
-    file: { word: '--file', value: 'FILE', does: 'use this ordinary file instead of an image' },
-    check: { word: '--check', value: '', does: 'check lists without an image' },
-    po: { word: '--po', value: '', does: 'print a gettext PO file instead of TSV' },
-    csv: { word: '--csv', value: '', does: 'print CSV, for spreadsheets, instead of TSV' },
-    lines: { word: '--lines', value: '', does: 'print a row for each line of text, without its line ending' },
-    in: { word: '--in', value: 'PATH', does: 'search only this file or directory; may be repeated' },
-    every: { word: '--every', value: 'N', does: 'print a row for each record of the file: one begins every N bytes' },
-    length: { word: '--length', value: 'N', does: 'the size in bytes of the text field that begins each record' },
-    skip: { word: '--skip', value: 'N', does: 'how many bytes precede the first record; the default is 0' },
-    min: { word: '--min', value: 'N', does: 'print text of N characters or more; the default is 2' },
-    limit: { word: '--limit', value: 'N', does: 'print the first N hits; the default is 1000' },
-    first: { word: '--first', value: 'BLOCK', does: 'another name for --base' },
-    carry: { word: '--carry', value: '', does: 'patch damaged sectors too, and keep their damage' },
-    long: { word: '--long', value: '', does: 'accept a script with more patches or bytes than cdpatch does' },
-    skipDamaged: { word: '--skip-damaged', value: '', does: 'leave out blocks that are damaged in NEW' },
-    partial: { word: '--partial', value: '', does: 'leave out differences that a script cannot express' },
-    fields: { word: '--fields', value: '', does: 'print the fields that differ instead of a script' },
-    output: { word: '-o', value: 'FILE', does: 'write to this new file; - is standard output' },
-    dat: { word: '--dat', value: 'FILE', does: 'a list of known dumps (Logiqx XML); may be repeated' },
-    json: { word: '--json', value: '', does: 'print one JSON object per line, with all hashes; see cdscript(1)' },
-    resume: { word: '--resume', value: 'FILE', does: 'append to this list; check only files that are new or changed' },
-    help: { word: '--help', value: '', does: 'print help' },
-    version: { word: '--version', value: '', does: 'print the version' },
-    notices: { word: '--notices', value: '', does: 'print the licences of third-party code' },
-};
-
-/**
- * The options that were given, by their names in OPTION_FORMS.
- * @typedef {{ base?: number, track?: number, limit?: number, first?: number, fill?: Uint8Array | 'end', encoding?: string, table?:
- *     string, output?: string, carry?: boolean, long?: boolean, skipDamaged?: boolean, partial?: boolean, all?: boolean, inside?: boolean,
- *     loose?: boolean, file?: string, list?: string[], check?: boolean, po?: boolean, csv?: boolean, lines?: boolean, in?: string[], min?:
- *     number, every?: number, length?: number, skip?: number, fields?: boolean, help?: boolean, version?: boolean, notices?: boolean,
- *     dat?: string[], json?: boolean, resume?: string }} Options
- */
-
-const FROM_0 = 'The first sector is block 0 unless --base or a cue sheet says otherwise. ';
+const FROM_0 = 'The first sector is block 0 unless --base or a cue sheet says otherwise.';
 
 /** @type {Record<string, Form>} */
 export const FORMS = {
     'info': {
         job: infoJob, takes: ['IMAGE'], options: ['dat', 'json', 'base', 'track'], says: 'Identify a file, and report what it contains',
-        does: 'Prints tracks, kinds of sectors, base, findings, and SHA-1, or what to do with a file that is not a raw image. ' +
-            'Status: 0 no findings; 1 findings, or not in the DAT; 2 failed',
+        does: 'Prints the verdict, tracks, kinds of sectors, base, what is wrong with which sectors, and SHA-1, or what to do with a ' +
+            'file that is not a raw image.',
+        ends: { 0: 'no findings', 1: 'findings, or not in the DAT', 2: 'failed' },
         example: 'cdscript info game.cue',
     },
     'scan': {
-        job: scanJob, takes: ['PATH..'], options: ['dat', 'json', 'resume', 'output'],
+        job: scanJob, takes: ['PATH..'], options: ['dat', 'missing', 'json', 'resume', 'output'],
         says: 'Check all images of a collection',
         does: 'Prints a line for each file, with tabs between these columns:\n' +
             '1 name\n' +
@@ -93,93 +48,91 @@ export const FORMS = {
             '9 modification time\n' +
             '10 CRC32\n' +
             '11 MD5\n' +
-            'Columns that were not tested or not computed have -. PATH is an image, a cue sheet, or a directory. Status: 0 ' +
-            'no findings; 1 findings, or not in the DAT; 2 a file could not be read',
+            'Columns that were not tested or not computed have -. PATH is an image, a cue sheet, or a directory.',
+        ends: { 0: 'no findings', 1: 'findings, or not in the DAT', 2: 'a file could not be read' },
         example: 'cdscript scan /games --dat redump.dat --resume games.tsv',
-    },
-    'list': {
-        job: listJob, takes: ['IMAGE'], options: ['track', 'base'], says: "List an image's sectors by kind",
-        does: 'Prints each run of sectors of one kind (nosync, mode0, mode1, mode2, or other), like cdpatch list. ' + FROM_0 +
-            'Status: 0 done; 2 failed',
-        example: 'cdscript list game.bin',
-    },
-    'audit': {
-        job: auditJob, takes: ['IMAGE'], options: ['track', 'base'], says: "Report what is wrong with an image's sectors",
-        does: 'Prints a line for each Mode 1 sector with a wrong address, EDC, or parity, like cdpatch audit. ' + FROM_0 +
-            'Status: 0 no findings; 1 findings; 2 failed',
-        example: 'cdscript audit --base 150 track02.bin',
     },
     'check': {
         job: checkJob, takes: ['IMAGE', 'SCRIPT'], options: ['track', 'base', 'carry', 'long'],
         says: "Report what a script's patches would do to an image",
-        does: 'Prints what would happen to each patch, like cdpatch check. No file is written. ' + FROM_0 +
-            'Status: 0 all accepted; 1 some refused; 2 failed',
+        does: 'Prints what would happen to each patch, like cdpatch check. No file is written. ' +
+            FROM_0,
+        ends: { 0: 'all accepted', 1: 'some refused', 2: 'failed' },
         example: 'cdscript check game.cue english.txt',
     },
     'apply': {
         job: applyJob, takes: ['IMAGE', 'SCRIPT', 'OUT'], options: ['track', 'base', 'carry', 'long'],
         says: 'Apply a script to an image, and write a new file',
-        does: 'Prints what happened to each patch, like cdpatch apply. OUT must not exist. It is IMAGE with all accepted ' +
-            'patches applied. ' + FROM_0 +
-            'Status: 0 all applied; 1 some refused; 2 failed',
+        does: 'Prints what happened to each patch, like cdpatch apply. OUT must not exist. It is IMAGE with all accepted patches ' +
+            'applied. ' +
+            FROM_0,
+        ends: { 0: 'all applied', 1: 'some refused', 2: 'failed' },
         example: 'cdscript apply game.cue english.txt english.bin',
     },
     'files': {
         job: filesJob, takes: ['IMAGE'], options: ['track', 'base', 'output'], says: 'List the files on a disc',
-        does: 'Prints the first block, the size in bytes, and the path of each file, separated by tabs. Status: 0 done; 1 a ' +
-            'part of the file system could not be read; 2 failed',
+        does: 'Prints the first block, the size in bytes, and the path of each file, separated by tabs.',
+        ends: { 0: 'done', 1: 'a part of the file system could not be read', 2: 'failed' },
         example: 'cdscript files game.cue -o files.tsv',
     },
     'find': {
-        job: findJob, takes: ['IMAGE', 'TEXT'], instead: { file: ['TEXT'] },
+        job: findJob, takes: ['IMAGE', 'TEXT'], words: ['TEXT'], instead: { file: ['TEXT'] },
         options: ['encoding', 'table', 'loose', 'limit', 'file', 'track', 'base', 'output'],
         says: 'Find text in the user data of a disc',
         does: 'Prints block, offset, length in bytes, file with the offset in it, and the surrounding text, separated by tabs. ' +
-            'Without --encoding it tries the encodings of Japanese discs. With --file, the block is "-", and the offset ' +
-            'counts from the start of the file. Status: 0 found; 1 not found; 2 failed',
+            'Without --encoding it tries the encodings of Japanese discs. With --file, the block is "-", and the offset counts ' +
+            'from the start of the file.',
+        ends: { 0: 'found', 1: 'not found', 2: 'failed' },
         example: "cdscript find game.cue 'press start' --encoding CP932",
     },
     'texts': {
         job: textsJob, takes: ['IMAGE'], instead: { file: [] },
-        options: ['encoding', 'table', 'in', 'min', 'lines', 'every', 'length', 'skip', 'limit', 'csv', 'po', 'list', 'file', 'track',
-            'base', 'output'],
+        options: ['encoding', 'table', 'end', 'in', 'min', 'lines', 'every', 'length', 'skip', 'limit', 'csv', 'po', 'list', 'file',
+            'track', 'base', 'output'],
         own: { limit: 'print the first N records' },
         says: 'Print a table of all text on a disc',
-        does: 'Its columns are block, offset, bytes, room, encoding, file, text, and new. Write translations in the column ' +
-            'new, for `replace --list`. A PO file has an entry for each distinct string. --list fills in the translations of ' +
-            'an earlier list. Strings that are unlikely to be text are left out. Without --encoding it looks for text in the ' +
-            'encodings of Japanese discs. With --file, the block is "-", and the offset counts from the start of the file. ' +
-            'With --every and --length it prints a row for each record of one file, with a further column named fill: what ' +
-            'pads a shorter translation. Status: 0 done; 1 none found; 2 failed',
+        does: 'Its columns are block, offset, bytes, room, encoding, file, text, and new. Write translations in the column new, for ' +
+            '`replace --list`. A PO file has an entry for each distinct string. --list fills in the translations of an earlier ' +
+            'list. Strings that are unlikely to be text are left out. Without --encoding it looks for text in the encodings of ' +
+            'Japanese discs. With --file, the block is "-", and the offset counts from the start of the file. With --every and ' +
+            '--length it prints a row for each record of one file, with a further column named fill: what pads a shorter ' +
+            'translation.',
+        ends: { 0: 'done', 1: 'none found', 2: 'failed' },
         example: 'cdscript texts game.cue -o texts.tsv',
     },
     'show': {
-        job: showJob, takes: ['IMAGE', 'BLOCK', 'OFFSET?'], options: ['encoding', 'table', 'track', 'base', 'output'],
+        job: showJob, takes: ['IMAGE', 'BLOCK', 'OFFSET?'], words: ['BLOCK', 'OFFSET'],
+        options: ['encoding', 'table', 'track', 'base', 'output'],
         says: 'Show the user data of a block as hex and text',
         does: 'With OFFSET it shows 128 bytes, starting with the row of that byte.',
         example: 'cdscript show game.cue 1234 512',
     },
     'extract': {
-        job: extractJob, takes: ['IMAGE', 'PATH', 'OUT'], options: ['track', 'base'], says: 'Extract a file from a disc',
-        does: 'PATH is a path that `cdscript files` prints. Status: 0 done; 1 some of its sectors are not Mode 1; 2 failed',
+        job: extractJob, takes: ['IMAGE', 'PATH', 'OUT'], words: ['PATH'], options: ['track', 'base'], says: 'Extract a file from a disc',
+        does: 'PATH is a path that `cdscript files` prints.',
+        ends: { 0: 'done', 1: 'some of its sectors are not Mode 1', 2: 'failed' },
         example: 'cdscript extract game.cue /DATA/TEXT.BIN text.bin',
     },
     'replace': {
-        job: replaceJob, takes: ['IMAGE', '[BLOCK OFFSET]', 'OLD', 'NEW'],
+        job: replaceJob, takes: ['IMAGE', '[BLOCK OFFSET]', 'OLD', 'NEW'], words: ['BLOCK', 'OFFSET', 'OLD', 'NEW'],
         instead: { check: ['LIST..'], file: ['OUT'], list: ['IMAGE'] },
-        options: ['encoding', 'table', 'loose', 'fill', 'all', 'inside', 'list', 'file', 'check', 'partial', 'track', 'base', 'output'],
+        options: ['encoding', 'table', 'end', 'loose', 'fill', 'all', 'inside', 'list', 'file', 'check', 'partial', 'track', 'base',
+            'output'],
         says: 'Write a script that replaces text',
-        does: 'Without BLOCK and OFFSET it searches for OLD, which must occur exactly once unless --all is given. A shorter ' +
-            'NEW is padded with spaces (00 for hex) or with --fill. A longer NEW is refused. --list reads a table with the ' +
-            'columns block, offset, text, and new (room and encoding are optional), or a PO file from `texts --po`. --check ' +
-            'tests whether the translations of lists fit and can be encoded. With --file, --list is required: OUT, which ' +
-            'must not exist yet, becomes a copy of FILE with the translations. Status: 0 done; 1 some places are left out ' +
-            '(they are listed) or not tested; 2 failed',
+        does: 'Without BLOCK and OFFSET it searches for OLD, which must occur exactly once unless --all is given. A shorter NEW is ' +
+            'padded with spaces (00 for hex) or with --fill. A longer NEW is refused. --list reads a table with the columns ' +
+            'block, offset, text, and new (room and encoding are optional), or a PO file from `texts --po`. --check tests whether ' +
+            'the translations of lists fit and can be encoded. With --file, --list is required: OUT, which must not exist yet, ' +
+            'becomes a copy of FILE with the translations.',
+        ends: { 0: 'done', 1: 'some places are left out (they are listed) or not tested', 2: 'failed' },
         example: "cdscript replace game.cue 'press start' 'Start' -o english.txt",
-        own: { partial: 'leave out the rows of the list that do not fit' },
+        own: {
+            end: 'the byte that ends each text: --fill end writes it, and no new text replaces the last of it',
+            partial: 'leave out the rows of the list that do not fit',
+        },
     },
     'replace-file': {
-        job: replaceFileJob, takes: ['IMAGE', 'PATH', 'FILE'], options: ['fill', 'track', 'base', 'output'],
+        job: replaceFileJob, takes: ['IMAGE', 'PATH', 'FILE'], words: ['PATH'], options: ['fill', 'track', 'base', 'output'],
         own: { fill: 'pad with this byte, such as 20' },
         says: 'Write a script that replaces a file on a disc',
         does: 'FILE may be as long as all sectors of the old file together. The size in the directory is updated, and the rest ' +
@@ -190,16 +143,20 @@ export const FORMS = {
     'diff': {
         job: diffJob, takes: ['OLD', 'NEW'], options: ['skipDamaged', 'partial', 'fields', 'track', 'base', 'output'],
         says: 'Write a script that turns OLD into NEW',
-        does: 'Differences that a script cannot express are listed, and no script is written unless --partial is given. ' +
-            'Status: 0 done; 1 some blocks are left out or, with --fields, differ; 2 failed',
+        does: 'Differences that a script cannot express are listed, and no script is written unless --partial is given.',
+        ends: { 0: 'done', 1: 'some blocks are left out or, with --fields, differ', 2: 'failed' },
         example: 'cdscript diff game.bin english.bin -o english.txt',
     },
     'merge': {
         job: mergeJob, takes: ['OLD', 'OTHER..', 'OUT'], options: ['dat', 'json', 'track', 'base'],
         says: 'Repair an image from other dumps of the same disc',
-        does: 'OUT is OLD with its damaged sectors replaced by sound ones from the OTHERs. `repair` is another name for this ' +
-            'job. Status: 0 all tested sectors are sound; 1 some sectors are damaged or lost in all dumps, or differ and ' +
-            'cannot be tested, or got a copy that may be of a different version, or have a wrong address; 2 failed',
+        does: 'OUT is OLD with its damaged and lost sectors replaced by sound ones from the OTHERs. `repair` is another name for ' +
+            'this job.',
+        ends: {
+            0: 'all tested sectors are sound, or a DAT verifies OUT',
+            1: 'not everything could be repaired or confirmed (the lines say what)',
+            2: 'failed',
+        },
         example: 'cdscript merge first.bin second.bin third.bin repaired.bin',
     },
     'rebuilds': {
@@ -212,20 +169,44 @@ export const FORMS = {
     'undo': {
         job: undoJob, takes: ['IMAGE', 'SCRIPT'], options: ['base', 'track', 'carry', 'long', 'output'],
         says: 'Write a script that undoes another script',
-        does: 'IMAGE is the image as it was before SCRIPT was applied. Status: 0 done; 1 some changes cannot be undone (they ' +
-            'are listed); 2 failed',
+        does: 'IMAGE is the image as it was before SCRIPT was applied.',
+        ends: { 0: 'done', 1: 'some changes cannot be undone (they are listed)', 2: 'failed' },
         example: 'cdscript undo game.cue english.txt -o back.txt',
         own: { carry: 'SCRIPT is applied with --carry' },
     },
     'raw': {
-        job: rawJob, takes: ['ISO', 'OUT'], options: ['base', 'first'], says: 'Convert an ISO image to a raw image',
-        does: 'OUT must not exist. It has 2352 bytes per sector.',
+        job: rawJob, takes: ['IMAGE', 'OUT'], options: ['base', 'first'], says: 'Convert an ISO image to a raw image',
+        does: 'OUT must not exist. It has 2352 bytes per sector. IMAGE may also have 2448 bytes per sector: its subchannels are left out.',
         example: 'cdscript raw game.iso game.bin',
     },
     'user': {
         job: userJob, takes: ['IMAGE', 'OUT'], options: ['track', 'base'], says: 'Extract the user data of an image as an ISO image',
-        does: 'OUT must not exist. It has 2048 bytes per sector. Status: 0 done; 1 some sectors are not Mode 1, or there is a ' +
-            'tail; 2 failed',
+        does: 'OUT must not exist. It has 2048 bytes per sector.',
+        ends: { 0: 'done', 1: 'some sectors are not Mode 1, or there is a tail', 2: 'failed' },
         example: 'cdscript user game.cue game.iso',
     },
 };
+
+/**
+ * The arguments of a job, in the notation of help.
+ * @param {string[]} takes
+ */
+export function usageOf(takes) {
+    return takes.map(name => name.endsWith('?') ? `[${name.slice(0, -1)}]` : name).join(' ');
+}
+
+/**
+ * The arguments of each form of a job, in the notation of help.
+ * @param {string} job
+ */
+export function usagesOf(job) {
+    const { takes, instead = {} } = FORMS[job];
+    const usages = [usageOf(takes)];
+    for (const [name, taken] of Object.entries(instead)) {
+        const { word, value, needs = {} } = OPTIONS[/** @type {OptionName} */ (name)];
+        const other = OPTIONS[/** @type {OptionName} */ (needs[job])];
+        const words = [word, value, ...other ? [other.word, other.value] : [], usageOf(taken)];
+        usages.push(words.filter(it => it !== '').join(' '));
+    }
+    return usages;
+}

@@ -56,7 +56,7 @@ export function dumpText(found) {
 }
 
 /**
- * Prints the verdict of DATs on a new file. Returns whether it is a bad dump.
+ * Prints the verdict of DATs on a new file. Returns its dump, null if the DATs do not have it.
  * @param {Job} job
  * @param {KnownDumps} known
  * @param {string} name
@@ -66,7 +66,7 @@ export function dumpText(found) {
 export function sayKnown(job, known, name, size, hashes) {
     const found = known.find(size, hashes, basename(name));
     job.say(`${name}: ${found ? dumpText(found) : `${sentenceOf(known.remarkOfOther(size))}; its SHA-1 is ${hashes.sha1}`}`);
-    return found !== null && found.isBad;
+    return found;
 }
 
 /** Counts the files that are verified, are bad dumps, and are not in the DAT. */
@@ -80,13 +80,12 @@ export class Verdicts {
     }
 
     /**
-     * Counts a file. A file that is not an image is counted as unknown only if a dump has its size.
+     * Counts a file.
      * @param {{ isBad: boolean } | null} found its dump in the DAT, or null
-     * @param {number} size
-     * @param {boolean} isImage
+     * @param {boolean} isExpected whether the DAT should have it
      */
-    add(found, size, isImage) {
-        if (found === null) this.unknown += Number(isImage || this.known.hasSize(size));
+    add(found, isExpected) {
+        if (found === null) this.unknown += Number(isExpected);
         else if (found.isBad) this.bad += 1;
         else this.verified += 1;
     }

@@ -1,44 +1,47 @@
 // Formats the texts of `help`.
 
-import { usageOf } from './arguments.js';
-import { FORMS, OPTION_FORMS } from './forms.js';
+import { FORMS, usagesOf } from './forms.js';
+import { OPTIONS, OWN_OPTIONS } from './options.js';
+
+/** @typedef {import('./options.js').OptionName} OptionName */
 
 /** The lines of a text: up to 79 columns, and 54 next to an option. */
 const LINE = /\S.{0,78}(?= |$)/g;
 const BESIDE_OPTION = /\S.{0,53}(?= |$)/g;
 const COLUMN = 25;
 
-/** @type {Record<string, string>} */
-const BOTH_WORDS = { help: '-h, --help', version: '-V, --version' };
-
 /**
- * @param {string} name of an option
+ * @param {OptionName} name
  * @param {string} [own] what it does here
  */
 function optionRow(name, own) {
-    const { word, value, does } = OPTION_FORMS[name];
-    const spelled = word.startsWith('--') ? `    ${word}` : word;
-    const option = BOTH_WORDS[name] || `${spelled} ${value}`;
-    return `  ${option}`.padEnd(COLUMN) + ((own || does).match(BESIDE_OPTION) || []).join(`\n${' '.repeat(COLUMN)}`);
+    const { word, short, value, does } = OPTIONS[name];
+    const spelled = word.startsWith('--') ? `${short ? `${short},` : '   '} ${word}` : word;
+    return `  ${spelled} ${value}`.padEnd(COLUMN) + ((own || does).match(BESIDE_OPTION) || []).join(`\n${' '.repeat(COLUMN)}`);
+}
+
+/**
+ * @param {OptionName[]} options
+ * @returns {OptionName[]}
+ */
+function withHelp(options) {
+    return [...options, 'help'];
 }
 
 /** @param {string} job */
 function jobHelp(job) {
-    const { takes, instead = {}, options, says, does, example, own = {} } = FORMS[job];
-    const spelled = (/** @type {string} */ name) => `${OPTION_FORMS[name].word} ${OPTION_FORMS[name].value}`;
-    // `replace --file` needs a list too.
-    const given = (/** @type {string} */ name) => name === 'file' && 'list' in instead ? ['file', 'list'] : [name];
-    const others = Object.entries(instead).map(([name, taken]) => `${[...given(name).map(spelled), usageOf(taken)].join(' ')}`.trim());
-    const usage = [usageOf(takes), ...others].map((taken, i) => `${i === 0 ? 'Usage:' : '      '} cdscript ${job} [OPTIONS] ${taken}`);
-    const rows = [...options, 'help'].map(name => optionRow(name, own[name]));
-    const lines = does.split(/\n| (?=Status: )/).flatMap(part => part.match(LINE) || []);
+    const { options, says, does, ends = {}, example, own = {} } = FORMS[job];
+    const usage = usagesOf(job).map((taken, i) => `${i === 0 ? 'Usage:' : '      '} cdscript ${job} [OPTIONS] ${taken}`);
+    const statuses = Object.entries(ends).map(([status, meaning]) => `${status} ${meaning}`).join('; ');
+    const rows = withHelp(options).map(name => optionRow(name, own[name]));
+    const lines = [...does.split('\n'), statuses && `Status: ${statuses}`].flatMap(part => part.match(LINE) || []);
     return [says, '', ...lines, '', ...usage, '', 'Example:', `  ${example}`, '', 'Options:', ...rows];
 }
 
 /** @param {string} version */
 function wholeHelp(version) {
     const jobs = Object.keys(FORMS).map(job => `  ${job.padEnd(14)}${FORMS[job].says}`);
-    const rows = ['help', 'version', 'notices'].map(name => optionRow(name));
+    const rows = OWN_OPTIONS.map(name => optionRow(name));
     return ['Inspect, translate, and repair raw CD images', '',
         'Usage: cdscript JOB [OPTIONS] ARGUMENTS', '', 'Jobs:', ...jobs, '', 'Options:', ...rows, '',
         'The first argument of a job is a raw image (2352 bytes per sector) or its cue',
@@ -55,4 +58,24 @@ function wholeHelp(version) {
  */
 export function helpText(job, version) {
     return `${(job === '' ? wholeHelp(version) : jobHelp(job)).join('\n')}\n`;
+}
+
+/**
+ * An option for the programs that generate pages and completions.
+ * @param {OptionName} name
+ * @param {string} [own] what it does here
+ */
+function optionObject(name, own) {
+    const { word, short = '', value, does, values = [], repeated = false } = OPTIONS[name];
+    const isLong = word.startsWith('--');
+    return { short: isLong ? short : word, long: isLong ? word : '', value, does: own || does, repeated, values };
+}
+
+/** All jobs and options as JSON. */
+export function formsText() {
+    const jobs = Object.entries(FORMS).map(([name, { says, words = [], options, own = {}, ends = {} }]) => ({
+        name, says, forms: usagesOf(name), words, found: ends[1] || '',
+        options: withHelp(options).map(it => optionObject(it, own[it])),
+    }));
+    return `${JSON.stringify({ name: 'cdscript', jobs, options: OWN_OPTIONS.map(name => optionObject(name)) })}\n`;
 }

@@ -1,10 +1,10 @@
 // The jobs that write images: `merge`, `raw`, `user`, and `extract`.
 
 import { bytesOfLines } from '../core/bytes.js';
-import { kindOfFile } from '../core/disc/index.js';
+import { SUBCHANNEL_SIZE, kindOfFile } from '../core/disc/views.js';
 import { LAST_BASE, USER_SIZE, kindName } from '../core/module/index.js';
-import { blocksIn } from '../core/sectors/index.js';
-import { extractFile, passUser, repairTrack } from '../core/tasks/index.js';
+import { blocksIn } from '../core/sectors/views.js';
+import { extractFile, passUser, passWithoutSubchannels, repairTrack } from '../core/tasks/index.js';
 import { blocksText, ownFault, sentenceOf } from '../sentences/index.js';
 import { ALL_HASHES, RunningHashes, sayKnown } from './hashes.js';
 import { jsonLine, mergeObject } from './json_lines.js';
@@ -21,9 +21,9 @@ import { MOST_UNTESTED, linesOfRuns, nameOfUntested, sayOfRuns, untestedTexts, v
 /** @typedef {import('./job.js').Job} Job */
 
 const BLOCKS_WITH_ADDRESS = LAST_BASE + 1;
-const OTHER_EDC = 'the EDC in OLD is different: perhaps the dumps are of different versions';
+const NOT_CONFIRMED = 'has neither its data nor its EDC: perhaps the dumps are of different versions';
 
-/** At most this many places with the same damage in all dumps are listed, since each is also listed as damaged in all. */
+/** At most this many places with the same damage in all dumps are listed, since each is also listed as damaged. */
 const MOST_ALIKE = 10;
 
 /**
@@ -35,11 +35,11 @@ function repairLines({ taken, damaged, alike, disputed, wrongAddress, differing,
     const numbers = [taken, damaged, disputed].map(blocksIn).concat(different.reduce((sum, count) => sum + count, 0));
     const inBoth = differing.flatMap((runs, other) => runs.map(run => ({ ...run, other })));
     const sameDamage = `alike ${blocksIn(alike)}, damaged with the same bytes in all dumps:`;
-    const notTaken = { true: 'sound only with the address of a different block', false: 'damaged in all' };
+    const notTaken = { true: 'sound only with the address of a different block', false: 'damaged, without a sound copy' };
     return [
         ...linesOfRuns(taken, ({ first, last, other }) => `${first}-${last} from ${others[other].name}`),
         ...linesOfRuns(damaged, ({ first, last, elsewhere }) => `${first}-${last} ${notTaken[`${elsewhere}`]}`),
-        ...linesOfRuns(lost, ({ first, last, why }) => `${first}-${last} not ${why === 'mode2' ? 'mode2' : 'mode1'} in any`),
+        ...linesOfRuns(lost, ({ first, last }) => `${first}-${last} lost, without a sound copy`),
         ...unlikeLines(unlike),
         ...linesOfRuns(disputed, ({ first, last }) => `${first}-${last} sound in several dumps, but with different contents`),
         ...linesOfRuns(inBoth, ({ first, last, other }) =>
@@ -89,20 +89,22 @@ function sayOtherRange(job, image, other, { common, missing, beyond }, out) {
 
 /**
  * Explains why nothing is repaired.
- * @param {Repair} repair
  * @param {Refusal} refused
  * @param {string[]} names of the image and of the others, as given
  */
-function refusedText({ different, sectors }, refused, [name, ...others]) {
+function refusedText(refused, [name, ...others]) {
+    if (refused.why === 'untested') return `${name} has no sector whose codes can show damage, so it cannot be repaired`;
     const other = others[refused.other];
     if (refused.why === 'apart') {
         const [own, first] = refused.first;
         return `${name} begins with block ${own}, ${other} with block ${first}: they are not the same part of a disc`;
     }
-    const sound = `${different[refused.other]} of ${sectors} sectors are sound in ${name} and in ${other}, and differ`;
-    const { shift } = refused;
+    const { shift, sound, untested, common } = refused;
+    const soundText = `${sound} of ${common} sectors are sound in ${name} and in ${other}, and differ`;
+    const untestedText = `${untested} of ${common} sectors were not tested in ${name}, and are different in ${other}`;
+    const counts = [...sound > 0 ? [soundText] : [], ...untested > 0 ? [untestedText] : []].join('; ');
     const why = shift ? shiftText(shift, shift.isOther ? other : name) : 'one of them is patched, shifted, or of a different disc';
-    return `${sound}: ${why}`;
+    return `${counts}: ${why}`;
 }
 
 /**
@@ -141,7 +143,7 @@ export async function mergeJob(job) {
     const seen = (/** @type {Uint8Array} */ bytes) => void (hash && hash.update(bytes));
     const repair = await repairTrack(job, opened, dumps, piece => out.writePiece(image.reader, piece, seen), job.watch);
     const { refused, doubtful, untested } = repair;
-    if (refused) throw ownFault(refusedText(repair, refused, [name, ...more]));
+    if (refused) throw ownFault(refusedText(refused, [name, ...more]));
     sayOtherFiles(job, opened);
     repair.ranges.forEach((ranges, i) => sayOtherRange(job, image, others[i], ranges, out.name));
     others.filter((_, i) => repair.tails[i]).forEach(other =>
@@ -150,26 +152,43 @@ export async function mergeJob(job) {
     await job.output.write(job.options.json && made.hashes ? jsonLine(mergeObject({ ...made, hashes: made.hashes }, known, repair, others))
         : bytesOfLines(repairLines(repair, others).map(visible)));
     untestedTexts(untested, opened.disc.sheet !== null).forEach(text => job.say(text));
-    const isBad = known !== null && made.hashes !== null && sayKnown(job, known, made.name, made.size, made.hashes);
-    sayOfRuns(job, doubtful, it => `${blocksText([it])}: copied from ${others[it.other].name}, but ${OTHER_EDC}`);
-    if (isBad) return 1;
+    const dump = known && made.hashes && sayKnown(job, known, made.name, made.size, made.hashes);
+    sayOfRuns(job, doubtful, it => `${blocksText([it])}: copied from ${others[it.other].name}, but ${name} ${NOT_CONFIRMED}`);
+    if (dump) return Number(dump.isBad);
     return Number([repair.damaged, doubtful, repair.wrongAddress, repair.lost, repair.unlike].some(runs => runs.length > 0));
+}
+
+/**
+ * The number of sectors in an image. Throws a Fault if it is not whole.
+ * @param {import('../core/disc/disc.js').DiscFile} image
+ * @param {number} size of a sector
+ */
+function sectorsIn({ name, reader }, size) {
+    const count = reader.size / size;
+    if (!Number.isInteger(count)) throw ownFault(`${name} has ${reader.size} bytes, which is not a multiple of ${size}`);
+    return count;
 }
 
 /** @param {Job} job */
 export async function rawJob(job) {
-    const { first = 0, base = first } = job.options;
+    const { first, base = first } = job.options;
     const out = await job.files.make(job.names[1]);
-    const { name, reader } = await job.files.image(job.names[0]);
+    const image = await job.files.image(job.names[0]);
+    const { name, reader } = image;
     const kind = await kindOfFile(job.calls, reader);
-    const count = reader.size / USER_SIZE;
+    if (kind === 'subchannels') {
+        sectorsIn(image, SUBCHANNEL_SIZE);
+        if (base !== undefined) throw ownFault(`${name} has addresses, so it needs no --base`);
+        await passWithoutSubchannels(job.watched(reader), bytes => out.write(bytes));
+        return 0;
+    }
     const what = sentenceOf({ code: 'kind/what', facts: { kind } });
-    if (!['iso', 'audio', 'unknown'].includes(kind)) throw ownFault(`${name} is ${what}, not an ISO image`);
-    if (!Number.isInteger(count)) throw ownFault(`${name} has ${reader.size} bytes, which is not a multiple of ${USER_SIZE}`);
-    if (base + count > BLOCKS_WITH_ADDRESS) {
+    if (!['iso', 'audio', 'unknown'].includes(kind)) throw ownFault(`${name} is ${what}, not an ISO image or one with subchannels`);
+    const count = sectorsIn(image, USER_SIZE);
+    if ((base || 0) + count > BLOCKS_WITH_ADDRESS) {
         throw ownFault(`${name} continues after block ${BLOCKS_WITH_ADDRESS - 1}, the last one with an address`);
     }
-    await job.crew.share('raw', [reader], {}, { base, units: [USER_SIZE] }, bytes => out.write(bytes));
+    await job.pool.share('raw', [reader], {}, { base: base || 0, units: [USER_SIZE] }, bytes => out.write(bytes));
     return 0;
 }
 
@@ -188,7 +207,7 @@ export async function userJob(job) {
     const out = await job.files.make(job.names[1]);
     const { part } = await openTrackOf(job, job.names[0]);
     const how = { base: part.base };
-    const has = sayOthers(job, await passUser(job.crew, part.reader, part.sectors * USER_SIZE, how, user => out.write(user)));
+    const has = sayOthers(job, await passUser(job.pool, part.reader, part.sectors * USER_SIZE, how, user => out.write(user)));
     if (part.base > 0) job.say(`to convert it back: cdscript raw --base ${part.base}`);
     if (part.tail === 1) job.say('the byte after the last sector is left out');
     if (part.tail > 1) job.say(`the ${part.tail} bytes after the last sector are left out`);

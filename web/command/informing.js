@@ -2,16 +2,16 @@
 
 import { basename } from 'node:path';
 import { bytesOfLines, joinedBytes } from '../core/bytes.js';
-import { fileIn, kindOfFile } from '../core/disc/index.js';
-import { SECTOR_KIND } from '../core/module/index.js';
-import { MODE2, isDamagedMode2, listText, mode2Runs, wrongRuns } from '../core/sectors/index.js';
-import { findingsIn, otherSummary, summaryOf, unsurveyedTracks } from '../core/tasks/index.js';
-import { sentenceOf } from '../sentences/index.js';
+import { fileIn, openChosen } from '../core/disc/views.js';
+import { RECORD, RECORD_SIZE, SECTOR_KIND } from '../core/module/index.js';
+import { MODE2, addToRuns, findingOf, isDamaged, isDamagedMode2, listText, mode2Runs, wrongRuns } from '../core/sectors/views.js';
+import { examineDisc, otherSummary, summaryByDat, summaryOf, unsurveyedTracks, verdictOf } from '../core/tasks/index.js';
+import { sentenceOf, verdictText } from '../sentences/index.js';
 import { ALL_HASHES, SHA1_ONLY, Verdicts, dumpText } from './hashes.js';
-import { fileObject, infoObject, jsonLine } from './json_lines.js';
-import { openDiscOf } from './opening.js';
+import { fileObject, infoObject, jsonLine, missingObject } from './json_lines.js';
+import { namingSheet, siblingsOf, surveyedIn } from './opening.js';
 import { linesOfRuns, untestedTexts, visible } from './printed.js';
-import { foundInFiles, hashesOf } from './surveying.js';
+import { readingOnce } from './surveying.js';
 
 /** @typedef {import('../core/disc/disc.js').Disc} Disc */
 /** @typedef {import('../core/disc/disc.js').DiscTrack} DiscTrack */
@@ -21,6 +21,7 @@ import { foundInFiles, hashesOf } from './surveying.js';
 /** @typedef {import('./job.js').Job} Job */
 /** @typedef {{ found: boolean, lines: string[], objects: Uint8Array[] }} Informed whether something is wrong, and the lines to print */
 /** @typedef {import('../core/tasks/file_summary.js').FileFound} FileFound */
+/** @typedef {import('../core/tasks/file_summary.js').FileSummary} FileSummary */
 
 const WITH_CDSCRIPT = '`cdscript raw` writes the raw image, and `cdscript user` the ISO image.';
 
@@ -31,10 +32,10 @@ const NOTHING_PIPED = 'Standard input is empty or closed: give the name of a fil
  * @param {Disc} disc
  * @param {DiscTrack} track
  */
-function trackText(disc, { number, type, file, block, sectors, part }) {
+function trackText(disc, { number, type, file, fileName, block, sectors, part }) {
     const blocks = block === null || sectors === null ? '' : ` blocks ${block}-${block + sectors - 1}`;
     const kind = type || (part === null ? 'no data' : 'data');
-    return `track ${number} ${kind}${blocks} in ${file < 0 ? 'a missing file' : disc.files[file].name}`;
+    return `track ${number} ${kind}${blocks} in ${file < 0 ? `the missing file ${fileName}` : disc.files[file].name}`;
 }
 
 /**
@@ -64,27 +65,53 @@ function lostText({ first, last, why }, used) {
 }
 
 /**
+ * What is damaged in a Mode 1 sector, as `cdpatch audit` prints it; '' if nothing is.
+ * @param {Job} job
+ * @param {Uint8Array} record
+ */
+function damageOfMode1({ calls }, record) {
+    if (!isDamaged(record, 0)) return '';
+    const codes = Uint8Array.from(record);
+    codes[RECORD.ADDRESS] = 0;
+    return findingOf(calls, 0, codes);
+}
+
+/**
+ * What is damaged in a Mode 2 sector; '' if nothing is.
+ * @param {number} found
+ */
+function damageOfMode2(found) {
+    if (!isDamagedMode2(found)) return '';
+    const codes = Object.entries({ subheader: MODE2.SUBHEADER, edc: MODE2.EDC, parity: MODE2.PARITY });
+    return codes.filter(([, code]) => (found & code) !== 0).map(([name]) => name).join(' ');
+}
+
+/**
  * The lines about the Mode 2 sectors of an image.
  * @param {FileFound['surveys'][0]} found
  */
-function mode2Lines({ survey, mode2: { sectors, tested, damaged, elsewhere }, mode2Found }) {
-    const wrong = mode2Runs(mode2Found, survey.block, it => (it & MODE2.ADDRESS) !== 0);
+function mode2Lines({ survey: { block }, mode2: { sectors, tested, damaged, elsewhere }, mode2Found }) {
+    const moved = mode2Runs(mode2Found, block, it => (it & MODE2.ADDRESS) !== 0);
     return [
         tested > 0 ? `mode2 ${sectors} damaged ${damaged} address ${elsewhere}`
             : `mode2 ${sectors}: Mode 2 sectors cannot be audited or patched; PlayStation discs have them`,
-        ...wrongLines('mode2', mode2Runs(mode2Found, survey.block, isDamagedMode2), wrong),
+        ...wrongLines('mode2', Array.from(mode2Found, damageOfMode2), moved, block),
     ];
 }
 
 /**
  * The lines that list sectors of a kind.
  * @param {string} kind
- * @param {import('../core/sectors/runs.js').Run[]} damaged
+ * @param {string[]} damage what is damaged in each sector, '' in others
  * @param {import('../core/sectors/runs.js').Run[]} elsewhere those with a wrong address
+ * @param {number} block of the first sector
  */
-function wrongLines(kind, damaged, elsewhere) {
+function wrongLines(kind, damage, elsewhere, block) {
+    /** @type {(import('../core/sectors/runs.js').Run & { what: string })[]} */
+    const damaged = [];
+    damage.forEach((what, i) => what !== '' && addToRuns(damaged, { first: block + i, last: block + i, what }));
     return [
-        ...linesOfRuns(damaged, ({ first, last }) => `${first}-${last} ${kind} damaged`),
+        ...linesOfRuns(damaged, ({ first, last, what }) => `${first}-${last} ${kind} damaged: ${what}`),
         ...linesOfRuns(elsewhere, ({ first, last }) => `${first}-${last} ${kind} with a wrong address`),
     ];
 }
@@ -99,9 +126,11 @@ function wrongLines(kind, damaged, elsewhere) {
 function surveyLines(job, disc, found) {
     const { image, survey, mode1, damaged, elsewhere, mode2, lost, untested, used, lack } = found;
     const list = new TextDecoder().decode(listText(job.calls, survey, image.tail).text).trimEnd();
-    const wrong = wrongRuns(survey, new Uint8Array(0));
+    const { block, records } = survey;
+    const damage = Array.from({ length: records.length / RECORD_SIZE }, (_, i) =>
+        damageOfMode1(job, records.subarray(i * RECORD_SIZE, (i + 1) * RECORD_SIZE)));
     const lines = [`base ${image.base}`, ...list.split('\n'), `mode1 ${mode1} damaged ${damaged} address ${elsewhere}`,
-        ...wrongLines('mode1', wrong.damaged, wrong.elsewhere)];
+        ...wrongLines('mode1', damage, wrongRuns(survey, new Uint8Array(0)).elsewhere, block)];
     if (mode2.sectors > 0) lines.push(...mode2Lines(found));
     const others = mode2.tested > 0 ? untested : untested.filter(({ kind }) => kind !== SECTOR_KIND.MODE2);
     lines.push(...untestedTexts(others, disc.sheet !== null));
@@ -110,15 +139,22 @@ function surveyLines(job, disc, found) {
 }
 
 /**
- * The lines about data that is not surveyed, and about a disc without data.
+ * The lines about data that is not surveyed.
  * @param {Disc} disc
  */
 function unsurveyedLines(disc) {
-    const others = unsurveyedTracks(disc);
-    const sizes = others.map(({ number, type }) => `track ${number} has ${type.replace(/.*\//, '')} bytes a sector`);
-    const lines = sizes.map(it => `${it}: it cannot be audited or patched`);
-    const hasData = others.length > 0 || disc.tracks.some(({ image }) => image !== null);
-    return hasData ? lines : ['no data track: audio cannot be audited or patched'];
+    const sizes = unsurveyedTracks(disc).map(({ number, type }) => `track ${number} has ${type.replace(/.*\//, '')} bytes a sector`);
+    return sizes.map(it => `${it}: it cannot be audited or patched`);
+}
+
+/**
+ * The lines of the verdicts on the files of a disc, and on missing ones.
+ * @param {FileSummary[]} files
+ * @param {number} missing how many tracks are in missing files
+ */
+function verdictLines(files, missing) {
+    const lines = files.map(({ name, verdict }) => `verdict${files.length > 1 ? ` ${name}` : ''}: ${verdictText(verdict)}`);
+    return missing === 0 ? lines : [...lines, `verdict: ${verdictText(verdictOf({ surveys: [], tail: 0, missing }))}`];
 }
 
 /**
@@ -132,20 +168,20 @@ function fileLines({ name, reader: { size } }, hashes, verdicts, isImage) {
     const line = `file ${name} bytes ${size} sha1 ${hashes.sha1}`;
     if (verdicts === null) return [line];
     const found = verdicts.known.find(size, hashes, basename(name));
-    verdicts.add(found, size, isImage);
+    verdicts.add(found, isImage || verdicts.known.hasSize(size));
     return [line, found ? dumpText(found) : sentenceOf(verdicts.known.remarkOfOther(size))];
 }
 
 /**
  * The lines of a disc, and whether something is wrong with it.
  * @param {Job} job
+ * @param {Disc} disc
  * @param {Verdicts | null} verdicts
  * @returns {Promise<Informed>}
  */
-async function discLines(job, verdicts) {
-    const disc = await openDiscOf(job, job.names[0]);
+async function discLines(job, disc, verdicts) {
     const tracks = disc.tracks.map(track => trackText(disc, track));
-    const found = await foundInFiles(job, disc, needsOf(job, verdicts));
+    const found = await examineDisc(disc, await surveyedIn(job, disc), readingOnce(job, needsOf(job, verdicts)));
     const files = found.flatMap(({ file, hashes, tail }) => [
         ...fileLines(file, hashes, verdicts, true), ...tail > 0 ? [`tail ${tail}: ${file.name} is cut within a sector`] : []]);
     const surveys = found.flatMap(it => it.surveys);
@@ -153,12 +189,14 @@ async function discLines(job, verdicts) {
         const [first, ...more] = surveyLines(job, disc, it);
         return [surveys.length > 1 ? `track ${it.number} ${first}` : first, ...more];
     });
-    const isWrong = found.some(it => findingsIn(it) > 0);
-    const isMissing = disc.tracks.some(({ file }) => file < 0);
-    const objects = found.map((it, i) => jsonLine(infoObject(summaryOf(disc, it, i, job.files.changed.get(it.file.name) || ''), it.surveys,
-        disc.tracks.filter(({ file }) => file === i), verdicts && verdicts.known)));
-    const all = [...files, ...tracks, ...lines, ...unsurveyedLines(disc)];
-    return { found: isWrong || isMissing || surveys.length === 0, lines: all, objects };
+    const known = verdicts && verdicts.known;
+    const summaries = found.map(it => summaryByDat(summaryOf(disc, it, job.files.changed.get(it.file.name) || ''), known,
+        basename(it.file.name)));
+    const objects = found.map((it, i) => infoObject(summaries[i], it.surveys, disc.tracks.filter(({ file }) => file === i), known));
+    const missing = disc.tracks.filter(({ file }) => file < 0);
+    const isFound = missing.length > 0 || summaries.some(({ verdict }) => verdict.status > 0);
+    return { found: isFound, lines: [...verdictLines(summaries, missing.length), ...files, ...tracks, ...lines, ...unsurveyedLines(disc)],
+        objects: [...objects, ...missing.map(missingObject)].map(jsonLine) };
 }
 
 /**
@@ -192,23 +230,23 @@ function needsOf(job, verdicts) {
 async function otherLines(job, file, kind, what, verdicts) {
     const advices = advicesFor(job.names[0], kind);
     if (verdicts === null && !job.options.json) return { found: true, lines: advices, objects: [] };
-    const hashes = await hashesOf(file.reader, needsOf(job, verdicts));
+    const { hashes } = await readingOnce(job, needsOf(job, verdicts))(file, []);
     const lines = verdicts === null ? [] : fileLines(file, hashes, verdicts, false);
     const { name, reader: { size } } = file;
-    const summary = otherSummary({ name, size, changed: job.files.changed.get(name) || '', hashes }, kind, what);
+    const other = otherSummary({ name, size, changed: job.files.changed.get(name) || '', hashes }, kind, what);
+    const summary = summaryByDat(other, verdicts && verdicts.known, basename(name));
     const object = { ...fileObject(summary, verdicts && verdicts.known), tracks: [], parts: [] };
-    return { found: true, lines: [...lines, ...advices], objects: [jsonLine(object)] };
+    return { found: summary.verdict.level !== 'sound', lines: [...lines, ...advices], objects: [jsonLine(object)] };
 }
 
 /** @param {Job} job */
 export async function infoJob(job) {
     const file = await job.files.image(job.names[0]);
-    const kind = await kindOfFile(job.calls, file.reader);
+    const { kinds: [kind], disc } = await namingSheet(openChosen(job.calls, [file], siblingsOf(job)));
     const known = await job.knownDumps();
     const verdicts = known && new Verdicts(known);
-    const isDisc = kind === 'raw' || kind === 'audio' || kind === 'cue';
     const what = sentenceOf({ code: 'kind/what', facts: { kind } });
-    const { found, lines, objects } = isDisc ? await discLines(job, verdicts) : await otherLines(job, file, kind, what, verdicts);
+    const { found, lines, objects } = await (disc ? discLines(job, disc, verdicts) : otherLines(job, file, kind, what, verdicts));
     await job.output.write(job.options.json ? joinedBytes(objects) : bytesOfLines([`${job.names[0]}: ${what}`, ...lines].map(visible)));
     if (verdicts) job.say(verdicts.text());
     return Number(found || (verdicts !== null && verdicts.status > 0));

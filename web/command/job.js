@@ -1,10 +1,10 @@
 // The context of a job: its arguments, files, output, messages, calls of libcdpatch, and threads.
 
 import { gunzipSync } from 'node:zlib';
-import { watchedReader } from '../core/bytes.js';
-import { KnownDumps } from '../core/disc/index.js';
+import { KnownDumps } from '../core/disc/views.js';
 import { Fault, failedBy } from '../core/faults.js';
-import { Calls, SECTOR_SIZE, sectorCount } from '../core/module/index.js';
+import { Calls, SECTOR_SIZE, hasVectors, sectorCount } from '../core/module/index.js';
+import { watchedReader } from '../core/readers/views.js';
 import { CollectedSurvey } from '../core/tasks/index.js';
 import { ownFault, sentenceOf } from '../sentences/index.js';
 import { visible } from './printed.js';
@@ -23,6 +23,7 @@ let compiled = null;
 
 /** The module of libcdpatch, which is compiled once. */
 export function compiledModule() {
+    if (!hasVectors()) throw new Fault('no-vectors', {});
     if (compiled === null) compiled = new WebAssembly.Module(gunzipSync(Buffer.from(JOINED.module, 'base64')));
     return compiled;
 }
@@ -51,7 +52,7 @@ export class Job {
         this.calls = new Calls(compiledModule());
         /** Shows the progress of a task that does not share its work. */
         this.watch = { progress: (/** @type {number} */ done, /** @type {number} */ all) => messages.progress(done, all) };
-        this.crew = new Threads(compiledModule(), this.calls, this.watch.progress);
+        this.pool = new Threads(compiledModule(), this.calls, this.watch.progress);
     }
 
     /**
@@ -78,7 +79,7 @@ export class Job {
      */
     async target() {
         const { output = '-' } = this.options;
-        return output === '-' ? this.output : this.files.make(output);
+        return output === '-' ? this.output : await this.files.device(output) || this.files.make(output);
     }
 
     /**
@@ -112,12 +113,11 @@ export class Job {
      * Surveys all sectors of an image.
      * @param {Reader} reader
      * @param {number} base
-     * @param {'survey' | 'kinds'} [job] what to find out
      * @param {import('../core/sectors/survey.js').SurveyArgs} [args]
      */
-    async survey(reader, base, job = 'survey', args = {}) {
+    async survey(reader, base, args = {}) {
         const collected = new CollectedSurvey(base);
-        await this.crew.share(job, [reader], args, { base }, answer => collected.add(answer));
+        await this.pool.share('survey', [reader], args, { base }, answer => collected.add(answer));
         return collected.whole();
     }
 }

@@ -3,7 +3,7 @@
 import { basename } from 'node:path';
 import { bytesOfLines } from '../core/bytes.js';
 import { SECTOR_KIND } from '../core/module/index.js';
-import { blocksIn, wrongRuns } from '../core/sectors/index.js';
+import { blocksIn, wrongRuns } from '../core/sectors/views.js';
 import { nameOfUntested } from './printed.js';
 
 /** @typedef {import('../core/disc/dat.js').Hashes} Hashes */
@@ -32,8 +32,10 @@ export function jsonLine(object) {
  */
 function hashKeys({ name, size, hashes: { crc32, md5, sha1 } }, known) {
     const found = known && known.find(size, { crc32, md5, sha1 }, basename(name));
-    const verdict = found === null ? 'unknown' : found.isBad ? 'bad' : 'verified';
-    const dat = known === null ? null : { verdict, name: found && found.name, others: found ? found.others : 0 };
+    const quality = found && found.isBad ? 'bad' : 'verified';
+    const verdict = found === null ? 'unknown' : quality;
+    const dat = known === null ? null
+        : { verdict, name: found && found.name, game: found && (found.game || null), others: found ? found.others : 0 };
     return { name, bytes: size, crc32, md5, sha1, dat };
 }
 
@@ -43,12 +45,12 @@ function hashKeys({ name, size, hashes: { crc32, md5, sha1 } }, known) {
  * @param {KnownDumps | null} known
  */
 export function fileObject(file, known) {
-    const { changed, kind, sectors, tail, short, tested, addressed, damaged, elsewhere, lost, untested, findings } = file;
+    const { changed, kind, sectors, tail, short, tested, addressed, damaged, elsewhere, lost, untested, verdict } = file;
     const isSurveyed = sectors !== null;
     return {
         ...hashKeys(file, known), changed: changed || null, kind, sectors: isSurveyed ? Object.fromEntries(sectors) : null, tail, short,
         damaged: tested > 0 ? damaged : null, wrongAddress: addressed > 0 ? elsewhere : null, lost: isSurveyed ? lost : null,
-        untested: isSurveyed ? untested : null, findings: tested + findings > 0 ? findings : null,
+        untested: isSurveyed ? untested : null, findings: tested + verdict.total > 0 ? verdict.total : null, verdict: verdict.level,
     };
 }
 
@@ -78,6 +80,15 @@ export function infoObject(file, surveys, tracks, known) {
     });
     const trackOf = (/** @type {DiscTrack} */ { number, type, block, sectors }) => ({ number, type: type || null, block, sectors });
     return { ...fileObject(file, known), tracks: tracks.map(trackOf), parts };
+}
+
+/**
+ * The object of a track in a missing file, for `info`.
+ * @param {DiscTrack} track
+ */
+export function missingObject({ number, type, block, fileName }) {
+    const tracks = [{ number, type: type || null, block, sectors: null }];
+    return { name: fileName, kind: 'missing', tracks, findings: 1, verdict: 'damage' };
 }
 
 /**

@@ -10,9 +10,6 @@ import { encodingsOf } from './searching.js';
 /** @typedef {import('../core/tasks/table.js').ImportedTable} ImportedTable */
 /** @typedef {import('./job.js').Job} Job */
 
-/** How many of the characters that only new texts have are listed. */
-const MOST_CHARACTERS = 100;
-
 /**
  * The files of some names.
  * @param {Job} job
@@ -40,9 +37,18 @@ async function encodingsForRows(job) {
  */
 function sayOverlooked(job, { codes, glyphs, fuzzy }) {
     sayOfRuns(job, codes, facts => sentenceOf({ code: 'list/code-left', facts }));
-    const facts = { glyphs: glyphs.slice(0, MOST_CHARACTERS), count: glyphs.length };
-    if (glyphs.length > 0) job.say(sentenceOf({ code: 'list/new-characters', facts }));
+    if (glyphs.length > 0) job.say(sentenceOf({ code: 'list/new-characters', facts: { characters: glyphs } }));
     if (fuzzy > 0) job.say(sentenceOf({ code: 'list/fuzzy', facts: { count: fuzzy } }));
+}
+
+/**
+ * Reports what can be done if new texts have characters that the encoding lacks.
+ * @param {Job} job
+ * @param {ImportedTable['left']} left
+ */
+function sayOfLacking(job, left) {
+    if (!left.some(({ why }) => why.code === 'text/no-character')) return;
+    job.say('if the font of the game can show a character that the encoding lacks, a table of characters (--table) gives it a code');
 }
 
 /**
@@ -53,6 +59,7 @@ function sayOverlooked(job, { codes, glyphs, fuzzy }) {
  */
 export function sayOfLists(job, { left, ...made }, output) {
     sayOfRuns(job, left, facts => sentenceOf({ code: 'list/row-left', facts }));
+    sayOfLacking(job, left);
     sayOverlooked(job, made);
     if (left.length === 0 || job.options.partial) return;
     const [rows, them] = left.length === 1 ? ['1 row does', 'it'] : [`${left.length} rows do`, 'them'];

@@ -2,12 +2,12 @@
 
 import { bytesOfLines } from '../core/bytes.js';
 import { hexText } from '../core/hex_digits.js';
-import { filesLines } from '../core/iso/index.js';
+import { filesLines } from '../core/iso/views.js';
 import { USER_SIZE, kindName } from '../core/module/index.js';
-import { FIELDS, addressIn, addressText, findingOf } from '../core/sectors/index.js';
+import { FIELDS, addressIn, addressText, findingOf } from '../core/sectors/views.js';
 import { sectorsOfRange } from '../core/tasks/index.js';
-import { FilesAlong, LONGEST_CHARACTER, LOOKED_BACK, bytesAround, bytesInside, charactersFrom } from '../core/texts/index.js';
-import { contextsOf, shownPlace, shownCell } from '../core/texts/index.js';
+import { FilesAlong, LONGEST_CHARACTER, LOOKED_BACK, bytesAround, bytesInside, charactersFrom } from '../core/texts/views.js';
+import { contextsOf, shownPlace, shownCell } from '../core/texts/views.js';
 import { ownFault, sentenceOf } from '../sentences/index.js';
 import { placeGiven } from './numbers.js';
 import { openTrackOf } from './opening.js';
@@ -173,7 +173,8 @@ async function sectorLines(job, opened, sector, place) {
     const found = findingOf(job.calls, place.block, job.calls.survey(sector, place.block));
     const contents = await opened.contents();
     sayNoVolume(job, contents);
-    const [kind, edc] = [kindName(job.calls.kind(sector)), hexText(sector.subarray(FIELDS.edc, FIELDS.zeros))];
+    const kind = kindName(job.calls.kind(sector));
+    const edc = hexText(sector.subarray(FIELDS.edc, FIELDS.zeros));
     return [
         `block ${place.block} address ${addressText(addressIn(sector, 0))} ${kind} edc ${edc}`,
         ...found === '' ? [] : [`wrong: ${found}`],

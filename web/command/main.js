@@ -9,8 +9,7 @@ import { isLimited, runAgain } from './again.js';
 import { argumentsOf } from './arguments.js';
 import { Files } from './files.js';
 import { FORMS } from './forms.js';
-import { helpText } from './help.js';
-import { MESSAGES } from './messages.js';
+import { formsText, helpText } from './help.js';
 import { hasOddBytes, wordsOfProcess } from './names.js';
 import { visible } from './printed.js';
 import { Job } from './job.js';
@@ -21,6 +20,9 @@ import { serveThread } from './threads.js';
 /** @typedef {import('./arguments.js').Given} Given */
 /** @typedef {import('./job.js').Streams} Streams */
 
+/** The program's message about arguments that are not valid UTF-8. */
+const NO_TEXT = 'the words are not text';
+
 const STANDARD = { input: 0, output: 1, errors: 2 };
 /** @type {('SIGHUP' | 'SIGINT' | 'SIGTERM')[]} */
 const END_SIGNALS = ['SIGHUP', 'SIGINT', 'SIGTERM'];
@@ -30,14 +32,20 @@ function versionText(number) {
     return [10000, 100, 1].map(unit => Math.floor(number / unit) % 100).join('.');
 }
 
+/** @type {(job: string, options: Given['options'], version: string) => string} */
+function textOf(job, options, version) {
+    if (options.version) return `${version}\n`;
+    return options.forms ? formsText() : helpText(job, version);
+}
+
 /**
- * Prints help, the version or the notices.
+ * Prints help, the version, the forms, or the notices.
  * @param {Given} given
  * @param {Job} job
  */
 async function printHelp({ job: name, options }, job) {
     const version = `cdscript ${versionText(job.calls.version())}`;
-    const text = options.version ? `${version}\n` : helpText(name, version);
+    const text = textOf(name, options, version);
     await job.output.write(options.notices ? gunzipSync(Buffer.from(JOINED.notices, 'base64')) : new TextEncoder().encode(text));
     return STATUS.DONE;
 }
@@ -45,7 +53,6 @@ async function printHelp({ job: name, options }, job) {
 /** @param {unknown} error */
 function messageOf(error) {
     if (!(error instanceof Error)) return String(error);
-    if (failedBy(error, 'no-memory')) return MESSAGES.no_memory;
     if (error instanceof Fault) return visible(sentenceOf(error));
     return `internal error: ${(error.stack || '').split('\n').map(visible).join('\n')}`;
 }
@@ -69,12 +76,13 @@ export async function main(words, streams = STANDARD, files = new Files(streams.
     const messages = new Messages(streams.errors);
     let job = null;
     try {
-        if (words.some(word => word.includes('\uFFFD'))) throw ownFault(MESSAGES.no_text);
+        if (words.some(word => word.includes('\uFFFD'))) throw ownFault(NO_TEXT);
         const given = argumentsOf(words);
-        if (words.some(word => hasOddBytes(word) && !isNameRead(word, given))) throw ownFault(MESSAGES.no_text);
-        const { help, version, notices } = given.options;
+        if (words.some(word => hasOddBytes(word) && !isNameRead(word, given))) throw ownFault(NO_TEXT);
+        const { help, version, notices, forms } = given.options;
         job = new Job(given, streams, files, messages);
-        const status = help || version || notices ? await printHelp(given, job) : await FORMS[given.job].job(job);
+        files.warn = text => messages.say(visible(text));
+        const status = help || version || notices || forms ? await printHelp(given, job) : await FORMS[given.job].job(job);
         job.output.flush();
         await files.finish();
         return status;
@@ -82,7 +90,7 @@ export async function main(words, streams = STANDARD, files = new Files(streams.
         if (!failedBy(error, 'reader-ended')) messages.say(messageOf(error));
         return STATUS.FAILED;
     } finally {
-        if (job !== null) job.crew.close();
+        if (job !== null) job.pool.close();
         files.close();
     }
 }

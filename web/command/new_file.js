@@ -6,7 +6,7 @@ import { closeSync, fchmodSync, fstatSync, fsync, fsyncSync, linkSync, lstatSync
 import { realpathSync, renameSync, statSync, unlinkSync, writeSync } from 'node:fs';
 import { basename, dirname } from 'node:path';
 import { READ_SIZE, bytesOfPieces } from '../core/bytes.js';
-import { fileFault, hasCode, tryFile } from './failures.js';
+import { fileFault, hasCode, reasonOf, tryFile } from './failures.js';
 import { isNoFileOfWindows, pathIn } from './names.js';
 import { later, letSignalsIn } from './pausing.js';
 
@@ -36,12 +36,32 @@ function assertNew(name) {
     throw Object.assign(new Error(), { code: 'EEXIST' });
 }
 
-/** @param {string} place */
-function forget(place) {
+/** @typedef {(text: string) => void} Warn prints a message about a failure that leaves the result of the job as it is */
+
+/**
+ * Removes a temporary file, which may be gone already.
+ * @param {string} place
+ * @param {Warn} warn
+ */
+function forget(place, warn) {
     try {
         unlinkSync(place);
-    } catch {
-        // It is gone already, or its directory can't be written any more.
+    } catch (error) {
+        if (!hasCode(error, 'ENOENT')) warn(`cannot remove ${place}: ${reasonOf(error)}`);
+    }
+}
+
+/**
+ * Closes a file whose bytes no longer matter, or which was only read.
+ * @param {number} descriptor
+ * @param {string} name
+ * @param {Warn} warn
+ */
+export function closeFile(descriptor, name, warn) {
+    try {
+        closeSync(descriptor);
+    } catch (error) {
+        warn(`cannot close ${name}: ${reasonOf(error)}`);
     }
 }
 
@@ -54,21 +74,24 @@ function placeBeside(name) {
  * Replaces the bytes of a file. Whatever happens, it has the old bytes or the new bytes, and a symbolic link still leads to it.
  * @param {string} name
  * @param {Uint8Array} bytes
+ * @param {Warn} warn
  */
-export function replaceFile(name, bytes) {
+export function replaceFile(name, bytes, warn) {
     const real = realpathSync(name);
     const place = placeBeside(real);
     const descriptor = openSync(place, 'wx');
     try {
-        fchmodSync(descriptor, statSync(real).mode & 0o7777);
-        writeFully(descriptor, bytes);
-        syncFile(descriptor);
+        try {
+            fchmodSync(descriptor, statSync(real).mode & 0o7777);
+            writeFully(descriptor, bytes);
+            syncFile(descriptor);
+        } finally {
+            closeSync(descriptor);
+        }
         renameSync(place, real);
     } catch (error) {
-        forget(place);
+        forget(place, warn);
         throw error;
-    } finally {
-        closeSync(descriptor);
     }
 }
 
@@ -87,30 +110,32 @@ function syncFile(descriptor) {
 /**
  * Opens a file with a temporary name beside its own name. Returns null if the file system has no hard links.
  * @param {string} name
+ * @param {Warn} warn
  */
-function openedBeside(name) {
+function openedBeside(name, warn) {
     const place = placeBeside(name);
     const descriptor = openSync(place, 'wx');
     try {
         linkSync(place, `${place}-`);
-        unlinkSync(`${place}-`);
-        return { place, descriptor };
     } catch {
-        closeSync(descriptor);
-        forget(place);
+        closeFile(descriptor, place, warn);
+        forget(place, warn);
         return null;
     }
+    forget(`${place}-`, warn);
+    return { place, descriptor };
 }
 
 /**
  * Opens a file that must not exist.
  * @param {string} name
+ * @param {Warn} warn
  */
-function openedNew(name) {
+function openedNew(name, warn) {
     if (process.platform === 'win32' && isNoFileOfWindows(name)) throw Object.assign(new Error(), { code: 'ENXIO' });
     assertNew(name);
     const isName = basename(name) !== '' && !/[/\\]$/.test(name);
-    return isName && openedBeside(name) || { place: name, descriptor: openSync(name, 'wx') };
+    return isName && openedBeside(name, warn) || { place: name, descriptor: openSync(name, 'wx') };
 }
 
 /** A new output file; it is deleted on failure unless it was finished. */
@@ -118,13 +143,17 @@ export class NewFile {
     /**
      * @param {string} name of a file that must not exist
      * @param {(file: NewFile) => void} finished
+     * @param {Warn} warn
      */
-    constructor(name, finished) {
-        const { place, descriptor } = openedNew(name);
+    constructor(name, finished, warn) {
+        const { place, descriptor } = openedNew(name, warn);
         this.name = name;
         this.place = place;
         this.descriptor = descriptor;
         this.finished = finished;
+        this.warn = warn;
+        /** @type {{ dev: bigint, ino: bigint } | null} what identifies the file once it is closed */
+        this.closed = null;
         this.unsynced = 0;
         this.room = new Uint8Array(READ_SIZE);
         /** @type {Promise<unknown> | null} the last sync: resolves to null, or to the error */
@@ -175,25 +204,35 @@ export class NewFile {
         if (error && !hasCode(error, 'EINVAL')) throw fileFault('write', this.name, error);
     }
 
+    /** Closes the complete file. On a network disk, only this may report that bytes were not written. */
+    close() {
+        const { dev, ino } = fstatSync(this.descriptor, { bigint: true });
+        this.closed = { dev, ino };
+        closeSync(this.descriptor);
+    }
+
     /** Waits until the complete file is on the disk, and gives it its name. Throws a Fault if another file has got that name meanwhile. */
     async finish() {
         await this.synced();
         this.sync();
         await this.synced();
+        await tryFile('write', this.name, () => this.close());
         if (this.place !== this.name) {
-            await tryFile('make', this.name, () => linkSync(this.place, this.name));
-            forget(this.place);
+            await tryFile('create', this.name, () => linkSync(this.place, this.name));
+            forget(this.place, this.warn);
         }
         this.finished(this);
     }
 
-    /** Removes the file, unless the name with which it was opened now belongs to a different file. */
+    /** Closes and removes the file, unless the name with which it was opened now belongs to a different file. */
     remove() {
         try {
-            const [own, found] = [fstatSync(this.descriptor, { bigint: true }), lstatSync(this.place, { bigint: true })];
-            if (own.dev === found.dev && own.ino === found.ino) forget(this.place);
+            const own = this.closed || fstatSync(this.descriptor, { bigint: true });
+            const found = lstatSync(this.place, { bigint: true });
+            if (own.dev === found.dev && own.ino === found.ino) forget(this.place, this.warn);
         } catch {
             // It is gone already.
         }
+        if (this.closed === null) closeFile(this.descriptor, this.name, this.warn);
     }
 }

@@ -1,19 +1,16 @@
 // Opens the first argument of a job: a raw image, or a cue sheet and the files that it names.
 
 import { dirname } from 'node:path';
-import { readBytes, wholeOf } from '../core/bytes.js';
-import { kindOfFile, openDisc, sheetsOf } from '../core/disc/index.js';
+import { readBytes } from '../core/bytes.js';
+import { openDisc } from '../core/disc/views.js';
 import { failedBy } from '../core/faults.js';
 import { SECTOR_KIND, SECTOR_SIZE } from '../core/module/index.js';
-import { imageTooLong } from '../core/sectors/index.js';
-import { openTrack } from '../core/tasks/index.js';
+import { openTrack, surveyedTrack, surveyedTracks } from '../core/tasks/index.js';
 import { ownFault } from '../sentences/index.js';
 import { tryFile } from './failures.js';
-import { MESSAGES } from './messages.js';
 import { pathsOfSheet } from './sheet_files.js';
 
 /** @typedef {import('../core/disc/disc.js').Disc} Disc */
-/** @typedef {import('../core/disc/disc.js').DiscFile} DiscFile */
 /** @typedef {import('../core/disc/disc.js').DiscImage} DiscImage */
 /** @typedef {import('./job.js').Job} Job */
 
@@ -21,28 +18,23 @@ import { pathsOfSheet } from './sheet_files.js';
 const VOLUME_BLOCK = 16;
 
 /**
- * Opens the disc of a raw image or of a cue sheet. Throws a Fault if a file is too long, and any error of `openDisc`.
+ * Opens the disc of a raw image or of a cue sheet. Throws any error of `openDisc`.
  * @param {Job} job
  * @param {string} name
  */
 export async function openDiscOf(job, name) {
     const file = await job.files.image(name);
-    const kind = await kindOfFile(job.calls, file.reader);
-    const others = kind === 'cue' ? await filesOfSheet(job, file) : [];
-    const disc = await openNamedFiles(job, [file, ...others]);
-    const long = disc.files.find(({ reader }) => imageTooLong(reader.size));
-    if (long) throw ownFault(`${long.name}: ${MESSAGES.long_image}`, { file: long.name });
-    return disc;
+    return namingSheet(openDisc(job.calls, [file], siblingsOf(job)));
 }
 
 /**
- * Opens a disc. The message about a missing file names the cue sheet, as the user gave only its name.
- * @param {Job} job
- * @param {DiscFile[]} files
+ * Waits for the opening of a disc. The message about a missing file names the cue sheet, as the user gave only its name.
+ * @template T
+ * @param {Promise<T>} opening
  */
-async function openNamedFiles(job, files) {
+export async function namingSheet(opening) {
     try {
-        return await openDisc(job.calls, files);
+        return await opening;
     } catch (error) {
         if (!failedBy(error, 'disc/missing-files')) throw error;
         const { sheet, file } = error.facts;
@@ -51,16 +43,17 @@ async function openNamedFiles(job, files) {
 }
 
 /**
- * The existing files that a cue sheet names. The core chooses among them.
+ * Returns a function that opens the existing files that a cue sheet names.
  * @param {Job} job
- * @param {DiscFile} sheet
+ * @returns {import('../core/disc/disc.js').Siblings}
  */
-async function filesOfSheet(job, { name, reader }) {
-    const sheets = sheetsOf(await wholeOf(reader));
-    const paths = await tryFile('read', dirname(name), () => pathsOfSheet(name, sheets));
-    const opened = [];
-    for (const path of new Set(paths.flat())) if (path !== null) opened.push(await job.files.imageOfSheet(path));
-    return opened;
+export function siblingsOf(job) {
+    return async ({ name }, readings) => {
+        const paths = await tryFile('read', dirname(name), () => pathsOfSheet(name, readings));
+        const opened = [];
+        for (const path of new Set(paths.flat())) if (path !== null) opened.push(await job.files.imageOfSheet(path));
+        return opened;
+    };
 }
 
 /**
@@ -83,7 +76,7 @@ function sayOtherTracks(job, { tracks }, track, whole) {
  * @param {Job} job
  * @param {DiscImage} image
  */
-export function sayUnknownBase(job, { name, base, addressed }) {
+function sayUnknownBase(job, { name, base, addressed }) {
     if (addressed === base) return;
     const why = addressed === null ? 'do not give its first block' : 'begin before block 0';
     job.say(`the addresses in ${name} ${why}, so its first sector counts as block ${base}; see --base`);
@@ -109,9 +102,33 @@ async function sayMode2(job, { reader, base, sectors }) {
  * @param {boolean} [whole] whether the job examines the whole image, not only the track
  */
 export async function openTrackOf(job, name, whole = false) {
-    const opened = openTrack(await openDiscOf(job, name), job.options);
+    return openTrackIn(job, await openDiscOf(job, name), whole);
+}
+
+/**
+ * The data track of a job in an open disc, with the same reports.
+ * @param {Job} job
+ * @param {Disc} disc
+ * @param {boolean} [whole]
+ */
+async function openTrackIn(job, disc, whole = false) {
+    const opened = openTrack(disc, job.options);
     sayOtherTracks(job, opened.disc, opened.track, whole);
     if (!whole) await sayMode2(job, opened.part);
     if (job.options.base === undefined) sayUnknownBase(job, opened.image);
     return opened;
+}
+
+/**
+ * The tracks of a disc to survey: the one that an option selects, or all. Reports an unknown base.
+ * @param {Job} job
+ * @param {Disc} disc
+ */
+export async function surveyedIn(job, disc) {
+    const { track, base } = job.options;
+    const isChosen = (track !== undefined || base !== undefined) && disc.tracks.some(({ image }) => image !== null);
+    if (isChosen) return [surveyedTrack(await openTrackIn(job, disc, true))];
+    const surveyed = surveyedTracks(disc);
+    surveyed.filter(({ isAudio }) => !isAudio).forEach(({ image }) => sayUnknownBase(job, image));
+    return surveyed;
 }

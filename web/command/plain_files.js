@@ -1,7 +1,6 @@
 // The option --file: a file that is not an image, in place of IMAGE.
 
 import { PieceCutter } from '../core/bytes.js';
-import { imageTooLong } from '../core/sectors/index.js';
 import { importIntoFile, openPlainFile } from '../core/tasks/index.js';
 import { ownFault } from '../sentences/index.js';
 import { importOptions, sayOfLists } from './listing.js';
@@ -11,24 +10,13 @@ import { openTrackOf } from './opening.js';
 /** @typedef {import('./job.js').Job} Job */
 
 /**
- * Opens the file of --file. Throws a Fault if it is longer than what is read of a pipe.
- * @param {Job} job
- * @param {string} name
- */
-async function plainFile(job, name) {
-    const file = await job.files.image(name);
-    if (file.reader.lent || !imageTooLong(file.reader.size)) return file;
-    throw ownFault(`${name} is too long for a pipe: write it to a file first`, { file: name });
-}
-
-/**
  * Opens the file of --file, or the data track of the first argument.
  * @param {Job} job
  * @returns {Promise<Pick<OpenedTrack, 'part' | 'contents'> & Partial<OpenedTrack>>}
  */
 export async function openTextsOf(job) {
     const { file } = job.options;
-    return file === undefined ? openTrackOf(job, job.names[0]) : openPlainFile(await plainFile(job, file));
+    return file === undefined ? openTrackOf(job, job.names[0]) : openPlainFile(await job.files.image(file));
 }
 
 /**
@@ -41,7 +29,7 @@ export async function replaceInFileJob(job, name, lists) {
     const { output } = job.options;
     if (output !== undefined) throw ownFault('with --file, replace writes OUT, and does not accept -o');
     const out = await job.files.make(job.names[0]);
-    const file = await plainFile(job, name);
+    const file = await job.files.image(name);
     const { changes, ...made } = await importIntoFile(openPlainFile(file), await importOptions(job, lists), job.watch);
     sayOfLists(job, made, 'file');
     if (changes === null || changes.length === 0) throw ownFault('no row fits, so no file was written');

@@ -1,14 +1,14 @@
 // Texts that several jobs print.
 
 import { SECTOR_KIND, kindName } from '../core/module/index.js';
-import { blocksIn, joinedRuns } from '../core/sectors/index.js';
+import { blocksIn, joinedRuns } from '../core/sectors/views.js';
 import { blocksText } from '../sentences/index.js';
 
 /** @typedef {import('../core/disc/lost.js').KindRun} KindRun */
 /** @typedef {import('../core/sectors/runs.js').Run} BlockRun */
 /** @typedef {import('./job.js').Job} Job */
 
-export { visible } from '../core/texts/index.js';
+export { visible } from '../core/texts/views.js';
 
 /** The maximum number of listed runs of blocks. If there are more, their number is printed. */
 const MOST_NAMED = 1000;
@@ -64,6 +64,7 @@ export function nameOfUntested(kind) {
  * @param {string} what the sectors are
  */
 function untestedText(runs, what) {
-    const [blocks, count] = [blocksText(joinedRuns(runs), MOST_UNTESTED), blocksIn(runs)];
+    const blocks = blocksText(joinedRuns(runs), MOST_UNTESTED);
+    const count = blocksIn(runs);
     return count === 0 ? [] : [`not tested ${count}: ${blocks} ${count === 1 ? 'is' : 'are'} ${what}`];
 }

@@ -1,10 +1,10 @@
 // The jobs that write scripts for a text or a file: `replace` and `replace-file`. The core applies each script before it is written.
 
-import { fillerOf, usualBytes } from '../core/encodings/index.js';
+import { fillerOf, usualBytes } from '../core/encodings/views.js';
 import { Fault } from '../core/faults.js';
 import { hexText } from '../core/hex_digits.js';
 import { assertHasRoom, filledUp, findTextAt, replaceFile, replaceHits } from '../core/tasks/index.js';
-import { contextOf, unitsAlike } from '../core/texts/index.js';
+import { contextOf, unitsAlike } from '../core/texts/views.js';
 import { ownFault, sentenceOf } from '../sentences/index.js';
 import { checkListsJob, replaceListJob } from './listing.js';
 import { entriesAtPath } from './looking.js';

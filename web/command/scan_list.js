@@ -1,30 +1,26 @@
 // The list that `scan` writes. It can continue where an earlier run was interrupted.
 
-import { closeSync, ftruncateSync, openSync, readFileSync, readSync, statSync } from 'node:fs';
+import { closeSync, fstatSync, ftruncateSync, openSync, readFileSync, readSync, statSync } from 'node:fs';
 import { basename } from 'node:path';
 import { bytesOfLines } from '../core/bytes.js';
-import { COLUMN, NOT_IN_DAT, NOT_TESTED, NO_DAT, NO_IMAGE, lacksHash, nameOfListed, saidOfDump, saidOfFile } from '../core/tasks/index.js';
-import { BAD_DUMP, ownFault, sentenceOf } from '../sentences/index.js';
+import { COLUMN, NOT_TESTED, NO_DAT, NO_IMAGE, lacksHash, nameOfListed, saidOfFile } from '../core/tasks/index.js';
+import { ownFault, sentenceOf } from '../sentences/index.js';
 import { hasCode, tryFile } from './failures.js';
 import { timeText } from './files.js';
-import { lockList } from './list_lock.js';
 import { pathOf } from './names.js';
 import { letSignalsIn } from './pausing.js';
 import { replaceFile, writeFully } from './new_file.js';
 
 /** @typedef {import('../core/disc/dat.js').KnownDumps} KnownDumps */
 /** @typedef {import('./hashes.js').Needs} Needs */
-/** @typedef {import('./hashes.js').Verdicts} Verdicts */
 /** @typedef {import('./job.js').Job} Job */
+/** @typedef {{ size: number, changed: string }} FileState the size of a file, and the time of its change, '' if that is not valid */
 
 const LINE_FEED = 0x0A;
 
-/**
- * Matches a line of a list. Lines of earlier versions may have `0` instead of `-`, may lack the prefix NO_IMAGE, and end after the seventh
- * column.
- */
-const LISTED = new RegExp(['^[^\\t]+', '[^\\t]*', '(?:\\d+|-)', '(?:\\d+|-)', '(?:\\d+|-)', '[0-9a-f]{40}',
-    '[^\\t]+(?:', '\\d+', '(?:[-0-9T:.+]+Z|-)', '(?:[0-9a-f]{8}|-)', '(?:[0-9a-f]{32}|-))?$'].join('\\t'));
+/** Matches a line of a list. */
+const LISTED = new RegExp(['^[^\\t]+', '[^\\t]*', '(?:\\d+|-)', '(?:\\d+|-)', '(?:\\d+|-)', '[0-9a-f]{40}', '[^\\t]+', '\\d+',
+    '(?:[-0-9T:.+]+Z|-)', '(?:[0-9a-f]{8}|-)', '(?:[0-9a-f]{32}|-)$'].join('\\t'));
 
 /** Each line of a list has fewer bytes: a name has at most 4095 bytes, each of which becomes at most ten. */
 const LONGEST_LINE = 1 << 17;
@@ -41,34 +37,40 @@ function isListed(line) {
  */
 function saidOfRow(row, known) {
     const own = basename(nameOfListed(row[COLUMN.NAME]));
-    if (row.length <= COLUMN.BYTES) return saidOfDump(known.findSha1(row[COLUMN.SHA1], own), sentenceOf);
     return saidOfFile(known, { size: Number(row[COLUMN.BYTES]), hashes: hashesOfRow(row), own }, sentenceOf);
+}
+
+/**
+ * The columns of lines.
+ * @param {Uint8Array} bytes of whole lines
+ */
+function rowsOf(bytes) {
+    return new TextDecoder().decode(bytes).split('\n').slice(0, -1).map(line => line.split('\t'));
 }
 
 /** @param {string[]} row */
 function hashesOfRow(row) {
-    const [sha1, crc32 = '', md5 = ''] = [COLUMN.SHA1, COLUMN.CRC32, COLUMN.MD5].map(i => row[i] === NOT_TESTED ? '' : row[i]);
+    const [sha1, crc32, md5] = [COLUMN.SHA1, COLUMN.CRC32, COLUMN.MD5].map(i => row[i] === NOT_TESTED ? '' : row[i]);
     return { sha1, crc32, md5 };
 }
 
-/**
- * Whether a line is by a version that did not test Mode 2 sectors.
- * @param {string[]} row
- */
-function lacksMode2(row) {
-    return row[COLUMN.ELSEWHERE] === NOT_TESTED && /(?:^|,)mode2 /.test(row[COLUMN.KINDS]);
+/** @param {string[]} row */
+function stateOf(row) {
+    const stat = statSync(pathOf(nameOfListed(row[0])), { bigint: true });
+    return { size: Number(stat.size), changed: timeText(stat) };
 }
 
 /**
  * The state of the file of a line: it is `gone`, it is the `same` by size and time, or it may have changed (`other`).
  * @param {string[]} row
  * @param {Needs} needs
+ * @param {FileState | null} [known]
  */
-function fateOf(row, needs) {
+function fateOf(row, needs, known) {
     try {
-        const stat = statSync(pathOf(nameOfListed(row[0])));
-        const isSame = row[COLUMN.BYTES] === `${stat.size}` && row[COLUMN.CHANGED] === (timeText(stat) || NOT_TESTED);
-        return isSame && !lacksHash(needs, hashesOfRow(row)) && !lacksMode2(row) ? 'same' : 'other';
+        const { size, changed } = known || stateOf(row);
+        const isSame = row[COLUMN.BYTES] === `${size}` && row[COLUMN.CHANGED] === (changed || NOT_TESTED);
+        return isSame && !lacksHash(needs, hashesOfRow(row)) ? 'same' : 'other';
     } catch (error) {
         return hasCode(error, 'ENOENT') || hasCode(error, 'ENOTDIR') ? 'gone' : 'other';
     }
@@ -78,15 +80,19 @@ function fateOf(row, needs) {
 export class ResumedList {
     /**
      * @param {string} name
-     * @param {string} lock the place of its lock
+     * @param {import('./files.js').Files} files
      */
-    constructor(name, lock) {
+    constructor(name, files) {
         this.name = name;
-        this.lock = lock;
+        this.files = files;
         this.descriptor = openSync(name, 'a+');
+        // To read a pipe could take for ever.
+        if (!fstatSync(this.descriptor).isFile()) throw Object.assign(new Error(), { code: 'EFTYPE' });
         this.size = 0;
-        /** @type {string[][]} the columns of the lines of earlier runs */
+        /** @type {string[][]} the columns of the lines */
         this.rows = [];
+        /** @type {Set<string>} the names in lines whose files no longer exist */
+        this.gone = new Set();
     }
 
     /** The bytes of the file; only its beginning if it does not begin with a line of a list. */
@@ -102,16 +108,16 @@ export class ResumedList {
      * file has any other content.
      * @param {Uint8Array} bytes
      */
-    goOn(bytes) {
+    async goOn(bytes) {
         this.size = bytes.lastIndexOf(LINE_FEED) + 1;
-        const lines = new TextDecoder().decode(bytes.subarray(0, this.size)).split('\n').slice(0, -1);
-        if (bytes.length > 0 && (this.size === 0 || !lines.every(line => LISTED.test(line)))) {
-            this.close();
+        const rows = rowsOf(bytes.subarray(0, this.size));
+        if (bytes.length > 0 && (this.size === 0 || !rows.every(row => LISTED.test(row.join('\t'))))) {
+            await this.close();
             const advice = 'give --resume a list that scan wrote, or a new file';
             throw ownFault(`${this.name} was not written by cdscript scan, and was left unchanged; ${advice}`);
         }
         if (this.size < bytes.length) ftruncateSync(this.descriptor, this.size);
-        this.rows = lines.map(line => line.split('\t'));
+        this.rows = rows;
     }
 
     /** The names in the list. */
@@ -129,9 +135,9 @@ export class ResumedList {
     }
 
     /**
-     * Removes the lines of files that may have changed, if these files are examined again. Returns the number of files that no longer
-     * exist, whose lines are kept.
-     * @param {Set<string>} wanted the names of the files that are examined
+     * Removes the lines of files that may have changed, if these files are examined again. Lines of files that no longer exist are kept.
+     * @param {Map<string, FileState | null>} wanted the files that are examined, by their names in the list, with their states, as far as
+     *     they are known
      * @param {Needs} needs
      */
     async dropOld(wanted, needs) {
@@ -139,10 +145,10 @@ export class ResumedList {
         const fates = [];
         for (const row of this.rows) {
             await letSignalsIn();
-            fates.push(fateOf(row, needs));
+            fates.push(fateOf(row, needs, wanted.get(row[0])));
         }
+        this.rows.forEach((row, i) => void (fates[i] === 'gone' && this.gone.add(row[COLUMN.NAME])));
         await this.replace(this.rows.filter((row, i) => fates[i] !== 'other' || !wanted.has(row[0])));
-        return fates.filter(it => it === 'gone').length;
     }
 
     /**
@@ -156,15 +162,12 @@ export class ResumedList {
         return changed;
     }
 
-    /**
-     * Counts the verdicts of the DAT on the files of all lines.
-     * @param {Verdicts} verdicts
-     */
-    count(verdicts) {
-        for (const row of this.rows) {
-            const found = row[COLUMN.SAID] === NOT_IN_DAT ? null : { isBad: row[COLUMN.SAID].startsWith(BAD_DUMP) };
-            if (row[COLUMN.SAID] !== NO_DAT) verdicts.add(found, Number(row[COLUMN.BYTES]), !isOther(row));
-        }
+    /** The files of all lines that the DAT was asked about, and whether each still exists. */
+    counted() {
+        return this.rows.filter(row => row[COLUMN.SAID] !== NO_DAT).map(row => ({
+            name: nameOfListed(row[COLUMN.NAME]), size: Number(row[COLUMN.BYTES]), hashes: hashesOfRow(row), kinds: row[COLUMN.KINDS],
+            isThere: !this.gone.has(row[COLUMN.NAME]),
+        }));
     }
 
     /**
@@ -175,12 +178,19 @@ export class ResumedList {
         if (rows.length === this.rows.length && rows.every((row, i) => row === this.rows[i])) return;
         const bytes = bytesOfLines(rows.map(row => row.join('\t')));
         await tryFile('write', this.name, () => {
-            replaceFile(this.name, bytes);
-            const descriptor = openSync(this.name, 'a+');
-            this.close();
-            this.descriptor = descriptor;
+            const old = this.descriptor;
+            replaceFile(this.name, bytes, this.files.warn);
+            this.descriptor = openSync(this.name, 'a+');
+            closeSync(old);
         });
-        [this.rows, this.size] = [rows, bytes.length];
+        this.rows = rows;
+        this.size = bytes.length;
+    }
+
+    /** Puts the lines in the order of the names in them. */
+    async sort() {
+        const nameOf = (/** @type {string[]} */ row) => row[COLUMN.NAME];
+        await this.replace([...this.rows].sort((a, b) => Number(nameOf(a) > nameOf(b)) - Number(nameOf(a) < nameOf(b))));
     }
 
     /** @param {Uint8Array} bytes of whole lines */
@@ -194,10 +204,12 @@ export class ResumedList {
                 throw error;
             }
         });
+        this.rows.push(...rowsOf(bytes));
     }
 
-    close() {
-        closeSync(this.descriptor);
+    /** Closes the list. On a network disk, only this may report that lines were not written. */
+    async close() {
+        await tryFile('write', this.name, () => closeSync(this.descriptor));
     }
 }
 
@@ -214,11 +226,9 @@ export async function resumedList(job) {
     const { resume, output } = job.options;
     if (resume === undefined) return null;
     if (output !== undefined) throw ownFault('--resume and -o cannot be used together');
-    await tryFile('open', resume, () => closeSync(openSync(resume, 'a+')));
+    const list = await tryFile('open', resume, () => new ResumedList(resume, job.files));
+    await list.goOn(await tryFile('read', resume, () => list.bytes()));
+    // From now on, a signal waits for the end of `replaceFile`.
     job.files.onmake();
-    const lock = lockList(resume);
-    job.files.unfinished.add(lock);
-    const list = await tryFile('open', resume, () => new ResumedList(resume, lock.place));
-    list.goOn(await tryFile('read', resume, () => list.bytes()));
     return list;
 }

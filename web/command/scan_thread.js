@@ -1,18 +1,16 @@
 // A thread of `scan`, which examines one image after the other without the help of other threads.
 
 import { parentPort } from 'node:worker_threads';
-import { kindOfFile } from '../core/disc/index.js';
 import { Fault } from '../core/faults.js';
-import { otherSummary, summaryOf } from '../core/tasks/index.js';
+import { NO_IMAGE, examineFile } from '../core/tasks/index.js';
 import { sentenceOf } from '../sentences/index.js';
 import { Files } from './files.js';
-import { openDiscOf } from './opening.js';
+import { namingSheet, siblingsOf, surveyedIn } from './opening.js';
 import { untestedTexts } from './printed.js';
 import { Job, takeModule } from './job.js';
-import { foundInFiles, hashesOf } from './surveying.js';
+import { readingOnce } from './surveying.js';
 
 /** @typedef {import('../core/disc/disc.js').Disc} Disc */
-/** @typedef {import('../core/disc/disc.js').DiscFile} DiscFile */
 /** @typedef {import('../core/tasks/file_summary.js').FileSummary} FileSummary */
 /** @typedef {import('./hashes.js').Needs} Needs */
 /** @typedef {import('../core/tasks/file_summary.js').FileFound} FileFound */
@@ -29,21 +27,6 @@ import { foundInFiles, hashesOf } from './surveying.js';
 function keptMessages(notes) {
     const messages = { say: (/** @type {string} */ note) => void notes.push(note), progress() {}, hideProgress() {} };
     return /** @type {import('./stdout.js').Messages} */ (/** @type {unknown} */ (messages));
-}
-
-/**
- * The answer for a file that is not part of a disc.
- * @param {Job} job
- * @param {DiscFile} file
- * @param {import('../core/facts.js').FileKind} kind
- * @param {Needs} needs
- * @returns {Promise<Answer>}
- */
-async function otherFile(job, { name, reader }, kind, needs) {
-    const what = sentenceOf({ code: 'kind/what', facts: { kind } });
-    const [hashes, changed] = [await hashesOf(reader, needs), job.files.changed.get(name) || ''];
-    const file = otherSummary({ name, size: reader.size, changed, hashes }, kind, what);
-    return { files: [file], notes: [], missing: [], fault: '', other: what };
 }
 
 /**
@@ -70,18 +53,17 @@ export async function scanOne(name, needs) {
     /** @type {string[]} */
     const notes = [];
     const job = new Job({ job: 'scan', names: [name], options: {} }, { input: 0, output: 1, errors: 2 }, files, keptMessages(notes));
-    job.crew.isAlone = true;
+    job.pool.isAlone = true;
+    files.warn = text => job.say(text);
     try {
-        const opened = await files.image(name);
-        const kind = await kindOfFile(job.calls, opened.reader);
-        if (kind !== 'raw' && kind !== 'audio' && kind !== 'cue') return await otherFile(job, opened, kind, needs);
-        const disc = await openDiscOf(job, name);
-        const absent = disc.tracks.filter(({ file }) => file < 0);
-        const missing = absent.map(({ number }) => `track ${number} of ${name} is in a missing file`);
-        const found = await foundInFiles(job, disc, needs);
-        found.forEach(it => sayUntested(job, disc, it));
-        const summaries = found.map((it, i) => summaryOf(disc, it, i, files.changed.get(it.file.name) || ''));
-        return { files: summaries, notes, missing, fault: '', other: '' };
+        const { disc, found, summaries, missing } = await namingSheet(examineFile(job.calls, await files.image(name), {
+            siblings: siblingsOf(job), read: readingOnce(job, needs), tracksOf: it => surveyedIn(job, it),
+            changeOf: it => files.changed.get(it.name) || '', whatIs: kind => sentenceOf({ code: 'kind/what', facts: { kind } }),
+        }));
+        const other = disc === null ? summaries[0].kinds.slice(NO_IMAGE.length) : '';
+        if (disc !== null) found.forEach(it => sayUntested(job, disc, it));
+        const absent = missing.map(({ number, fileName }) => `track ${number} of ${name} is in the missing file ${fileName}`);
+        return { files: summaries, notes, missing: absent, fault: '', other };
     } catch (error) {
         if (!(error instanceof Fault)) throw error;
         const sentence = sentenceOf(error);

@@ -1,60 +1,32 @@
-// The job `scan`: examines each image of a collection, and writes its lines as soon as it is done.
+// The job `scan`: examines each image of a collection, and writes its lines in the order of the names.
 
 import { cpus } from 'node:os';
 import { basename } from 'node:path';
 import { bytesOfLines, joinedBytes } from '../core/bytes.js';
-import { NO_IMAGE, listedColumns, listedName } from '../core/tasks/index.js';
+import { NO_IMAGE, listedColumns, listedName, otherSummary, summaryByDat } from '../core/tasks/index.js';
 import { sentenceOf } from '../sentences/index.js';
-import { Collection, filesNamedBy, isSheetName, realName } from './collection.js';
-import { ALL_HASHES, SHA1_ONLY, Verdicts } from './hashes.js';
+import { Collection } from './collection.js';
+import { Games, gameLines, gamesObject } from './games.js';
+import { ALL_HASHES, RunningHashes, SHA1_ONLY, Verdicts } from './hashes.js';
 import { fileObject, jsonLine } from './json_lines.js';
-import { compiledModule } from './job.js';
 import { resumedList } from './scan_list.js';
-import { scanOne } from './scan_thread.js';
-import { begunThread } from './threads.js';
+import { LinesInOrder, unitsOf } from './scan_order.js';
+import { Scanners } from './scanners.js';
 
 /** @typedef {import('../core/disc/dat.js').KnownDumps} KnownDumps */
 /** @typedef {import('./job.js').Job} Job */
 /** @typedef {import('./job.js').Target} Target */
 /** @typedef {import('./scan_list.js').ResumedList} ResumedList */
 /** @typedef {import('./scan_thread.js').Answer} Answer */
-/** @typedef {import('./collection.js').Wanted} Wanted */
-/** @typedef {import('./hashes.js').Needs} Needs */
-/** @typedef {{ scan(name: string): Promise<Answer>, close(): void }} Scanner */
+/** @typedef {import('./scan_order.js').Unit} Unit */
+/** @typedef {import('../core/tasks/file_summary.js').FileSummary} FileSummary */
+/** @typedef {Pick<FileSummary, 'name' | 'size' | 'hashes' | 'kinds'>} Counted a file that a DAT may know */
 
-/**
- * A thread that examines images. Without threads, and after the thread has failed, the current thread does this. It also does if there is
- * only one file, for which the start of a thread would take longer than it helps.
- * @param {Needs} needs
- * @param {boolean} isOnly
- * @returns {Scanner}
- */
-function newScanner(needs, isOnly) {
-    const thread = isOnly ? null : begunThread({ module: compiledModule(), scans: true });
-    let isGone = false;
-    /** @type {(answer: Answer) => void} */
-    let settle = () => {};
-    /** @type {(error: unknown) => void} */
-    let fail = () => {};
-    if (thread) {
-        thread.worker.on('message', answer => settle(answer));
-        thread.worker.on('error', error => {
-            isGone = true;
-            fail(error);
-        });
-    }
-    return {
-        async scan(name) {
-            if (thread === null || !await thread.begun || isGone) return scanOne(name, needs);
-            return new Promise(resolve => {
-                settle = resolve;
-                fail = error => resolve({ files: [], notes: [], missing: [], fault: `${name}: ${error}`, other: '' });
-                thread.worker.postMessage({ name, needs }, []);
-            });
-        },
-        close: () => void (thread && thread.worker.terminate()),
-    };
-}
+/** How many files are begun before the first of them is done. The answers of the others are kept until then. */
+const AHEAD = 256;
+
+/** The words of the line of a cue sheet. */
+const SHEET = sentenceOf({ code: 'kind/what', facts: { kind: 'cue' } });
 
 /** The results for a collection so far. */
 class Scan {
@@ -67,9 +39,17 @@ class Scan {
         this.job = job;
         this.target = target;
         this.known = known;
+        this.collection = new Collection(text => this.fault(text), target);
+        /** @type {LinesInOrder | null} null for a list that is continued, which is put in order at the end */
+        this.order = null;
+        const least = known ? known.needs : SHA1_ONLY;
+        this.needs = job.options.json ? ALL_HASHES : least;
         this.verdicts = known && new Verdicts(known);
+        this.games = known && new Games(known);
         /** @type {Set<string>} the names in a list that is continued */
         this.done = new Set();
+        /** @type {Set<string>} the names of cue sheets in it, whose lines say nothing of the files that they name */
+        this.doneSheets = new Set();
         /** @type {{ name: string, what: string }[]} files in directories that are not part of a disc */
         this.others = [];
         this.status = 0;
@@ -84,28 +64,78 @@ class Scan {
     }
 
     /**
-     * @param {Wanted} wanted
-     * @param {Answer} answer
+     * Reports what was found in a unit, and writes the lines whose turn it is.
+     * @param {Unit} unit
+     * @param {Answer | null} answer null if it was reported before
      */
-    async print({ name: wanted, isNamed }, { files, notes, missing, fault, other }) {
-        notes.forEach(note => this.job.say(note));
-        if (other !== '') this.tellOther(wanted, isNamed, other);
-        if (fault !== '') this.fault(fault);
-        missing.forEach(text => this.fault(text));
-        const fresh = files.filter(({ name }) => !this.told.has(realName(name)));
-        fresh.forEach(({ name }) => this.told.add(realName(name)));
-        const unlisted = fresh.filter(({ name }) => !this.done.has(listedName(name)));
-        const bytes = this.job.options.json ? joinedBytes(unlisted.map(it => jsonLine(fileObject(it, this.known))))
-            : bytesOfLines(unlisted.map(it => listedColumns(it, this.known, basename(it.name), sentenceOf).join('\t')));
-        unlisted.forEach(it => this.count(it));
-        if (fresh.some(({ findings }) => findings > 0)) this.status = Math.max(this.status, 1);
+    async take(unit, answer) {
+        const lines = this.linesOf([...answer === null ? [] : this.report(unit, answer), ...this.sheetOf(unit)]);
+        const bytes = joinedBytes(this.order === null ? [...lines.values()] : this.order.add(unit, lines));
         if (bytes.length > 0) await this.target.write(bytes);
         this.job.output.flush();
     }
 
-    /** @param {import('../core/tasks/file_summary.js').FileSummary} file that a DAT may know */
-    count({ name, size, hashes, kinds }) {
-        if (this.verdicts) this.verdicts.add(this.verdicts.known.find(size, hashes, basename(name)), size, !kinds.startsWith(NO_IMAGE));
+    /**
+     * Prints the messages about a unit, and returns the files that were found in it.
+     * @param {Unit} unit
+     * @param {Answer} answer
+     */
+    report({ wanted: { name, isNamed } }, { files, notes, missing, fault, other }) {
+        notes.forEach(note => this.job.say(note));
+        if (other !== '') this.tellOther(name, isNamed, other);
+        if (fault !== '') this.fault(fault);
+        missing.forEach(text => this.fault(text));
+        return files;
+    }
+
+    /**
+     * A cue sheet itself, if the DAT lists it by its name or by its bytes.
+     * @param {Unit} unit
+     */
+    sheetOf({ wanted }) {
+        const bytes = this.known === null ? null : this.collection.bytesOfSheet(wanted);
+        if (bytes === null || this.known === null) return [];
+        const hash = new RunningHashes(this.needs);
+        hash.update(bytes);
+        const { name, state } = wanted;
+        const file = { name, size: bytes.length, changed: state ? state.changed : '', hashes: hash.digest() };
+        const isListed = this.known.sheets.has(basename(name)) || this.known.dumpOf(file.size, file.hashes) !== null;
+        return isListed ? [otherSummary(file, 'cue', SHEET)] : [];
+    }
+
+    /**
+     * The lines of those files that were not reported before, by their names in the list.
+     * @param {FileSummary[]} files
+     * @returns {Map<string, Uint8Array>}
+     */
+    linesOf(files) {
+        const fresh = files.filter(({ name }) => !this.told.has(this.collection.realOf(name)))
+            .map(it => summaryByDat(it, this.known, basename(it.name)));
+        fresh.forEach(({ name }) => this.told.add(this.collection.realOf(name)));
+        this.status = Math.max(this.status, ...fresh.map(({ verdict }) => verdict.status));
+        const unlisted = fresh.filter(({ name }) => !this.done.has(listedName(name)));
+        unlisted.forEach(it => this.count(it));
+        return new Map(unlisted.map(it => [listedName(it.name), this.lineOf(it)]));
+    }
+
+    /** @param {FileSummary} file */
+    lineOf(file) {
+        if (this.job.options.json) return jsonLine(fileObject(file, this.known));
+        return bytesOfLines([listedColumns(file, this.known, basename(file.name), sentenceOf).join('\t')]);
+    }
+
+    /**
+     * Counts a file that a DAT may know. A file that is not an image is counted as unknown only if a dump has its size, or its name and it
+     * is a cue sheet.
+     * @param {Counted} file
+     * @param {boolean} [isThere] whether it still exists
+     */
+    count({ name, size, hashes, kinds }, isThere = true) {
+        if (this.known === null || this.verdicts === null || this.games === null) return;
+        const own = basename(name);
+        const isExpected = !kinds.startsWith(NO_IMAGE) || this.known.hasSize(size) || this.known.sheets.has(own);
+        this.verdicts.add(this.known.find(size, hashes, own), isExpected);
+        if (isThere) this.games.add(size, hashes);
     }
 
     /**
@@ -120,23 +150,28 @@ class Scan {
     }
 
     /**
-     * Whether a file has been reported: it is in the list, or it was examined as a file of a sheet.
-     * @param {string} name
+     * Whether a file has been reported: it is in the list, or it was examined as a file of a sheet; or all files that a sheet names are in
+     * the list, which then count as reported, as in a run that was not interrupted.
+     * @param {Unit} unit
      */
-    isTold(name) {
-        return this.done.has(listedName(name)) || this.told.has(realName(name));
-    }
-
-    /**
-     * Whether all files that a sheet names are in the list. If so, they count as reported, as in a run that was not interrupted.
-     * @param {string} name
-     */
-    isSheetTold(name) {
-        const named = this.done.size > 0 && isSheetName(name) ? filesNamedBy(name) : [];
-        if (named.length === 0 || !named.every(it => this.done.has(listedName(it)))) return false;
-        named.forEach(it => this.told.add(realName(it)));
+    isTold({ wanted: { name, real }, named, isWhole }) {
+        const own = listedName(name);
+        if ((this.done.has(own) && !this.doneSheets.has(own)) || this.told.has(real)) return true;
+        if (named.length === 0 || !isWhole || !named.every(it => this.done.has(listedName(it)))) return false;
+        named.forEach(it => this.told.add(this.collection.realOf(it)));
         return true;
     }
+}
+
+/**
+ * The files to examine, and those that sheets among them name, by their names in a list, with their states, as far as they are known.
+ * @param {Unit[]} units
+ */
+function statesOf(units) {
+    /** @type {Map<string, import('./scan_list.js').FileState | null>} */
+    const states = new Map(units.flatMap(it => it.named).map(name => [listedName(name), null]));
+    units.forEach(({ wanted: { name, state } }) => states.set(listedName(name), state));
+    return states;
 }
 
 /** @param {Job} job */
@@ -144,49 +179,62 @@ export async function scanJob(job) {
     const known = await job.knownDumps();
     const list = await resumedList(job);
     const scan = new Scan(job, list || await job.target(), known);
-    const collection = new Collection(text => scan.fault(text), scan.target, list ? list.lock : '');
-    await collection.addPaths(job.names);
-    const names = collection.names();
-    const sheets = names.filter(({ name }) => isSheetName(name));
-    const needs = job.options.json ? ALL_HASHES : known ? known.needs : SHA1_ONLY;
-    const scanners = Array.from({ length: Math.min(cpus().length || 1, names.length) }, () => newScanner(needs, names.length === 1));
+    await scan.collection.addPaths(job.names);
+    const units = unitsOf(scan.collection);
+    const scanners = new Scanners(scan.needs, Math.min(cpus().length || 1, units.length), units.length === 1);
     try {
-        if (list) await goOn(scan, list, names, needs);
-        for (const some of [sheets, names.slice(sheets.length)]) await scanAll(scan, some, scanners);
+        if (list) await list.dropOld(statesOf(units), scan.needs);
+        if (list) await goOn(scan, list, units);
+        else scan.order = new LinesInOrder(units);
+        await scanAll(scan, units, scanners);
+        if (list) await list.sort();
     } finally {
-        scanners.forEach(scanner => scanner.close());
-        if (list) list.close();
+        scanners.close();
+        if (list) await list.close();
     }
     sayOthers(job, scan.others);
-    if (scan.verdicts === null) return scan.status;
+    if (scan.verdicts === null || scan.games === null) return scan.status;
+    if (known && known.games.length > 0) await tellGames(job, scan.games, scan.target);
     job.say(scan.verdicts.text());
     return Math.max(scan.status, scan.verdicts.status);
 }
 
 /**
+ * Reports which games are whole.
+ * @param {Job} job
+ * @param {Games} games
+ * @param {Target} target
+ */
+async function tellGames(job, games, target) {
+    const { json, missing = false } = job.options;
+    const found = games.found();
+    if (json) await target.write(jsonLine(gamesObject(found, missing)));
+    else gameLines(found, missing).forEach(line => job.say(line));
+}
+
+/**
  * Continues a list, and reports its contents as a run that was not interrupted: the verdict of the DAT on each line, and the files that
- * were given by their names and are not images. Removes the lines of files that may have changed, so that these are examined again.
+ * were given by their names and are not images.
  * @param {Scan} scan
  * @param {ResumedList} list
- * @param {Wanted[]} names
- * @param {Needs} needs
+ * @param {Unit[]} units
  */
-async function goOn(scan, list, names, needs) {
-    const wanted = names.flatMap(({ name }) => isSheetName(name) ? [name, ...filesNamedBy(name)] : [name]);
-    const absent = await list.dropOld(new Set(wanted.map(listedName)), needs);
+async function goOn(scan, list, units) {
+    const absent = list.gone.size;
     const [files, lines] =
         absent === 1 ? ['1 file no longer exists', 'its line is'] : [`${absent} files no longer exist`, 'their lines are'];
     if (absent > 0) scan.job.say(`${list.name}: ${files}, but ${lines} kept`);
     scan.done = list.done();
+    const others = list.others();
+    scan.doneSheets = new Set([...others].filter(([, what]) => what === SHEET).map(([name]) => name));
     if (list.hasFindings()) scan.status = Math.max(scan.status, 1);
     const changed = scan.known === null ? 0 : await list.lookUp(scan.known);
     const rows = changed === 1 ? '1 line' : `${changed} lines`;
     if (changed > 0) scan.job.say(`${list.name}: the seventh column was updated from the DAT; ${rows} changed`);
-    if (scan.verdicts) list.count(scan.verdicts);
-    const others = list.others();
-    for (const { name } of names.filter(it => it.isNamed)) {
+    list.counted().forEach(it => scan.count(it, it.isThere));
+    for (const { name } of units.map(it => it.wanted).filter(it => it.isNamed)) {
         const what = others.get(listedName(name));
-        if (what !== undefined) scan.tellOther(name, true, what);
+        if (what !== undefined && what !== SHEET) scan.tellOther(name, true, what);
     }
 }
 
@@ -204,15 +252,38 @@ function sayOthers(job, others) {
 }
 
 /**
- * @param {Scan} scan
- * @param {Wanted[]} names
- * @param {Scanner[]} scanners
+ * Yields units with their answers, in order. Of the units that follow, only some are begun.
+ * @param {Unit[]} units
+ * @param {(unit: Unit) => Promise<Answer | null>} begin
  */
-async function scanAll(scan, names, scanners) {
-    const left = names.values();
-    await Promise.all(scanners.map(async scanner => {
-        for (const wanted of left) {
-            if (!scan.isTold(wanted.name) && !scan.isSheetTold(wanted.name)) await scan.print(wanted, await scanner.scan(wanted.name));
+async function* answered(units, begin) {
+    /** @type {Promise<Answer | null>[]} */
+    const begun = [];
+    for (const [i, unit] of units.entries()) {
+        while (begun.length < AHEAD && i + begun.length < units.length) begun.push(begin(units[i + begun.length]));
+        const answer = await begun.shift();
+        yield { unit, answer: answer || null };
+    }
+}
+
+/**
+ * Examines all files. A file that cue sheets name is examined by itself if they have left it out.
+ * @param {Scan} scan
+ * @param {Unit[]} units
+ * @param {Scanners} scanners
+ */
+async function scanAll(scan, units, scanners) {
+    const begin = (/** @type {Unit} */ unit) => {
+        const answer = scan.isTold(unit) ? Promise.resolve(null) : scanners.scan(unit.wanted.name);
+        answer.catch(() => {}); // it is thrown when its turn comes
+        return answer;
+    };
+    const takeAll = async (/** @type {Unit[]} */ some) => {
+        for await (const { unit, answer } of answered(some, begin)) {
+            await scan.take(unit, answer);
+            unit.files.forEach(it => void (it.sheets -= 1));
+            await takeAll(unit.files.filter(it => it.sheets === 0));
         }
-    }));
+    };
+    await takeAll(units.filter(it => it.sheets === 0));
 }

@@ -1,9 +1,9 @@
 // The jobs that write scripts for whole images: `diff`, `rebuilds`, and `undo`. The core applies the scripts that it writes.
 
 import { failedBy } from '../core/faults.js';
-import { RECORD_SIZE } from '../core/module/index.js';
-import { LineList, ScriptParts, scriptForBase } from '../core/script/index.js';
-import { blocksIn, isDamaged } from '../core/sectors/index.js';
+import { RECORD_SIZE, SECTOR_KIND } from '../core/module/index.js';
+import { LineList, ScriptParts, scriptForBase } from '../core/script/views.js';
+import { blocksIn, isDamaged, kindRuns } from '../core/sectors/views.js';
 import { compareTrack, openTrack, undoScript } from '../core/tasks/index.js';
 import { blocksText, ownFault, sentenceOf } from '../sentences/index.js';
 import { differingFields } from './fields.js';
@@ -109,8 +109,12 @@ export async function diffJob(job) {
 export async function rebuildsJob(job) {
     const target = await job.target();
     const { image } = await openTrackOf(job, job.names[0], true);
-    const { block, records } = await job.survey(image.reader, image.base);
-    const [script, lines] = [new ScriptParts(), new LineList()];
+    const survey = await job.survey(image.reader, image.base);
+    const { block, records } = survey;
+    const mode2 = blocksIn([...kindRuns(survey)].filter(({ kind }) => kind === SECTOR_KIND.MODE2));
+    if (mode2 > 0) job.say(`not tested, since a script cannot rebuild them: Mode 2 sectors, ${mode2} in all; cdscript merge repairs them`);
+    const script = new ScriptParts();
+    const lines = new LineList();
     for (let at = 0; at < records.length; at += RECORD_SIZE) {
         if (isDamaged(records, at)) lines.rebuild(block + at / RECORD_SIZE);
     }
@@ -153,7 +157,7 @@ export async function undoJob(job) {
     const opened = await openTrackOf(job, job.names[0], true);
     const { image } = opened;
     const script = job.files.piecesOf(job.names[1]);
-    const engine = { calls: job.calls, crew: job.crew.crew(image.sectors, UNDOING_THREADS) };
+    const engine = { calls: job.calls, pool: job.pool.pool(image.sectors, UNDOING_THREADS) };
     const made = await undoScript(engine, opened, script, job.options, job.watch).catch(scriptFailed);
     if (made.script === null) throw ownFault(whyNoUndo(made, image));
     if (made.refused > 0) job.say(refusedText(made.refused, image.name));

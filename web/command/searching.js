@@ -1,7 +1,7 @@
 // Finds texts in a data track, in a given encoding or in the usual ones.
 
 import { wholeOf } from '../core/bytes.js';
-import { SEARCHED, encodingOf, linesLeftOut, tableEncoding, tableTextOf } from '../core/encodings/index.js';
+import { SEARCHED, encodingOf, linesLeftOut, tableInTurns, tableTextOf, withEnd } from '../core/encodings/views.js';
 import { findText } from '../core/tasks/index.js';
 import { sentenceOf } from '../sentences/index.js';
 
@@ -14,22 +14,23 @@ import { sentenceOf } from '../sentences/index.js';
  * @param {Job} job
  * @param {string} text
  */
-export function tableSaid(job, text) {
-    const own = tableEncoding(text);
+export async function tableSaid(job, text) {
+    const own = await tableInTurns(text);
     const note = linesLeftOut(own);
     if (note !== null) job.sayOnce(sentenceOf(note));
     return own;
 }
 
 /**
- * The encodings in which a text is searched for: the encoding or the table of the options, or else the usual encodings.
+ * The encodings in which a text is searched for: the encoding or the table of the options, or else the usual encodings; with the byte of
+ * the options that ends texts.
  * @param {Job} job
  * @returns {Promise<Encoding[]>}
  */
 export async function encodingsOf(job) {
-    const { options: { encoding, table }, files } = job;
-    if (table !== undefined) return [tableSaid(job, tableTextOf(await wholeOf((await files.image(table)).reader)))];
-    return encoding === undefined ? SEARCHED : [/** @type {Encoding} */ (encodingOf(encoding))];
+    const { options: { encoding, table, end }, files } = job;
+    if (table !== undefined) return [withEnd(await tableSaid(job, tableTextOf(await wholeOf((await files.image(table)).reader))), end)];
+    return (encoding === undefined ? SEARCHED : [/** @type {Encoding} */ (encodingOf(encoding))]).map(it => withEnd(it, end));
 }
 
 /**

@@ -1,48 +1,55 @@
 // Finds the files that a cue sheet names, only in the directory of the sheet and below it.
 
-import { readdirSync, realpathSync } from 'node:fs';
+import { existsSync, readdirSync, realpathSync } from 'node:fs';
 import { dirname, join } from 'node:path';
-import { nameOfBytes, pathIn, pathOf } from './names.js';
+import { isNoFileOfWindows, nameOfBytes, pathIn, pathOf } from './names.js';
 
 /** @typedef {import('../core/disc/cue.js').Sheet} Sheet */
 
-/** Directories, each of which is read once. */
+/** Directories. Each is read at most once. */
 class Directories {
-    /** @param {string} top the directory that contains all others */
-    constructor(top) {
+    /**
+     * @param {string} top the directory that contains all others
+     * @param {(path: string) => boolean} exists
+     */
+    constructor(top, exists) {
         this.top = top;
-        this.real = this.realOf(top);
+        this.exists = exists;
         /** @type {Map<string, string[]>} */
         this.names = new Map();
     }
 
-    /** @param {string} path */
-    realOf(path) {
-        return nameOfBytes(realpathSync.native(pathOf(path), 'buffer'));
-    }
-
     /**
-     * The names in a directory; none if it is a link that leads out of the top directory.
+     * Whether a directory is not a link that leads out of the top directory.
      * @param {string} directory
      */
-    namesIn(directory) {
-        const known = this.names.get(directory);
-        if (known !== undefined) return known;
-        const isBelow = directory === this.top || join(this.realOf(directory), '/').startsWith(join(this.real, '/'));
-        const names = isBelow ? readdirSync(pathOf(directory), 'buffer').map(nameOfBytes) : [];
-        this.names.set(directory, names);
-        return names;
+    isInside(directory) {
+        const [real, top] = [directory, this.top].map(path => join(nameOfBytes(realpathSync.native(pathOf(path), 'buffer')), '/'));
+        return real.startsWith(top);
     }
 
     /**
-     * Finds a file by the parts of its path, regardless of capitals. Returns its path, or null if there is none.
+     * The name in a directory that differs from a name at most in its capitals; undefined if there is none.
+     * @param {string} directory
+     * @param {string} name
+     */
+    nameIn(directory, name) {
+        const names = this.names.get(directory) || readdirSync(pathOf(directory), 'buffer').map(nameOfBytes);
+        this.names.set(directory, names);
+        return names.includes(name) ? name : names.find(it => it.toLowerCase() === name.toLowerCase());
+    }
+
+    /**
+     * Finds a file by the parts of its path, regardless of capitals. Returns its path, or null if there is none. A directory is read only
+     * if a name in it does not exist as it is written: a collection may have thousands of sheets in one directory.
      * @param {string[]} parts
      */
     pathOfParts(parts) {
         let path = this.top;
         for (const part of parts) {
-            const names = this.namesIn(path);
-            const found = names.includes(part) ? part : names.find(it => it.toLowerCase() === part.toLowerCase());
+            if (path !== this.top && !this.isInside(path)) return null;
+            const isThere = !isNoFileOfWindows(part) && this.exists(pathIn(path, part));
+            const found = isThere ? part : this.nameIn(path, part);
             if (found === undefined) return null;
             path = pathIn(path, found);
         }
@@ -75,8 +82,9 @@ class Directories {
  * directory.
  * @param {string} name of the sheet
  * @param {Sheet[]} sheets its readings
+ * @param {(path: string) => boolean} [exists]
  */
-export function pathsOfSheet(name, sheets) {
-    const directories = new Directories(dirname(name));
+export function pathsOfSheet(name, sheets, exists = path => existsSync(pathOf(path))) {
+    const directories = new Directories(dirname(name), exists);
     return sheets.map(sheet => sheet.files.map(file => directories.placeOf(file.name)));
 }

@@ -12,7 +12,8 @@ const LONGEST_COMPARED = 256;
  * @param {string} other
  */
 function distance(one, other) {
-    let [before, last] = [/** @type {number[]} */ ([]), Array.from({ length: other.length + 1 }, (_, k) => k)];
+    let before = /** @type {number[]} */ ([]);
+    let last = Array.from({ length: other.length + 1 }, (_, k) => k);
     for (let i = 1; i <= one.length; i++) {
         const row = [i];
         for (let k = 1; k <= other.length; k++) {
@@ -20,7 +21,8 @@ function distance(one, other) {
             const isExchanged = i > 1 && k > 1 && one[i - 1] === other[k - 2] && one[i - 2] === other[k - 1];
             row[k] = Math.min(changed, last[k] + 1, row[k - 1] + 1, isExchanged ? before[k - 2] + 1 : Infinity);
         }
-        [before, last] = [last, row];
+        before = last;
+        last = row;
     }
     return last[other.length];
 }
@@ -32,11 +34,14 @@ function distance(one, other) {
  */
 export function nearest(word, known) {
     const plain = word.toLowerCase();
-    let [best, least] = [/** @type {string | null} */ (null), Math.min(MOST_WRONG, Math.floor(word.length / 2)) + 1];
+    let best = /** @type {string | null} */ (null);
+    let least = Math.min(MOST_WRONG, Math.floor(word.length / 2)) + 1;
     for (const it of known) {
         if (Math.abs(it.length - word.length) > MOST_WRONG || word.length > LONGEST_COMPARED) continue;
         const wrong = it.toLowerCase() === plain ? 0 : distance(plain, it.toLowerCase());
-        if (wrong < least) [best, least] = [it, wrong];
+        if (wrong >= least) continue;
+        best = it;
+        least = wrong;
     }
     return best;
 }

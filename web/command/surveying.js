@@ -1,17 +1,12 @@
-// Surveys the data tracks of a disc, and calculates the hashes of its files.
+// Surveys tracks, and calculates the hashes of their files, which are read once.
 
 import { readBytes } from '../core/bytes.js';
 import { sectorCount } from '../core/module/index.js';
-import { foundInSurvey, surveyedTrack, surveyedTracks, tailOf } from '../core/tasks/index.js';
 import { RunningHashes, SHA1_ONLY } from './hashes.js';
-import { openTrackOf, sayUnknownBase } from './opening.js';
 import { turn } from './pausing.js';
 
 /** @typedef {import('../core/bytes.js').Reader} Reader */
-/** @typedef {import('../core/disc/disc.js').Disc} Disc */
 /** @typedef {import('../core/disc/dat.js').Hashes} Hashes */
-/** @typedef {import('../core/tasks/file_summary.js').FileFound} FileFound */
-/** @typedef {import('../core/tasks/inform.js').SurveyedTrack} SurveyedTrack */
 /** @typedef {import('./hashes.js').Needs} Needs */
 /** @typedef {import('./job.js').Job} Job */
 
@@ -38,7 +33,7 @@ function hashing(reader, needs) {
             return bytes;
         },
         async digest() {
-            const room = new Uint8Array(HASH_STEP);
+            const room = new Uint8Array(Math.min(HASH_STEP, size - hashed));
             while (hashed < size) {
                 await readBytes(this, hashed, Math.min(HASH_STEP, size - hashed), room);
                 await turn();
@@ -49,62 +44,31 @@ function hashing(reader, needs) {
 }
 
 /**
- * @param {Reader} reader
- * @param {Needs} needs
- */
-export function hashesOf(reader, needs) {
-    return hashing(reader, needs).digest();
-}
-
-/**
- * The tracks of a disc to survey: the one that an option selects, or all.
- * @param {Job} job
- * @param {Disc} disc
- * @returns {Promise<SurveyedTrack[]>}
- */
-async function surveyedHere(job, disc) {
-    const { track, base } = job.options;
-    const { length } = disc.tracks.filter(({ image }) => image !== null);
-    if (length > 0 && (length < 2 || track !== undefined || base !== undefined)) {
-        return [surveyedTrack(await openTrackOf(job, job.names[0], true))];
-    }
-    const surveyed = surveyedTracks(disc);
-    surveyed.forEach(({ image }) => sayUnknownBase(job, image));
-    return surveyed;
-}
-
-/**
  * Whether a file is hashed here while threads survey its sectors.
  * @param {Job} job
  * @param {Reader} reader
  */
 function isHashedBeside(job, reader) {
-    return Boolean(reader.lent) && job.crew.hasThreads(sectorCount(reader.size));
+    return Boolean(reader.lent) && job.pool.hasThreads(sectorCount(reader.size));
 }
 
 /**
- * Surveys and hashes each file of a disc.
+ * Returns a function that surveys and hashes files.
  * @param {Job} job
- * @param {Disc} disc
  * @param {Needs} [needs]
- * @returns {Promise<FileFound[]>}
+ * @returns {import('../core/tasks/examine.js').ReadFile}
  */
-export async function foundInFiles(job, disc, needs = SHA1_ONLY) {
-    const surveyed = await surveyedHere(job, disc);
-    const found = [];
-    for (const [i, file] of disc.files.entries()) {
-        const own = surveyed.filter(it => it.file === i);
-        const hashed = hashing(file.reader, needs);
-        const isBeside = own.length > 0 && isHashedBeside(job, file.reader);
+export function readingOnce(job, needs = SHA1_ONLY) {
+    return async ({ reader }, tracks) => {
+        const hashed = hashing(reader, needs);
+        const isBeside = tracks.length > 0 && isHashedBeside(job, reader);
         const beside = isBeside ? hashed.digest() : null;
         if (beside !== null) beside.catch(() => {}); // it is thrown when its turn comes
         const surveys = [];
-        for (const it of own) {
-            const reader = it.isWhole && !isBeside ? hashed : it.image.reader;
-            const survey = await job.survey(reader, it.image.base, 'survey', { shift: it.shift, mode2: true });
-            surveys.push({ ...it, ...await foundInSurvey(it, survey) });
+        for (const { image, isWhole, shift } of tracks) {
+            const read = isWhole && !isBeside ? hashed : image.reader;
+            surveys.push(await job.survey(read, image.base, { shift, mode2: true }));
         }
-        found.push({ file, hashes: await (beside || hashed.digest()), surveys, tail: tailOf(disc, i) });
-    }
-    return found;
+        return { surveys, hashes: await (beside || hashed.digest()) };
+    };
 }

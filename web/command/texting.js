@@ -1,13 +1,15 @@
 // The job `texts`: prints a table of all texts of a data track, for translators.
 
 import { wholeOf } from '../core/bytes.js';
-import { encodingOf, tableTextOf } from '../core/encodings/index.js';
+import { encodingOf, tableTextOf } from '../core/encodings/views.js';
 import { failedBy } from '../core/faults.js';
+import { hexText } from '../core/hex_digits.js';
 import { exportRecords, exportTable, newTextsOf } from '../core/tasks/index.js';
 import { ownFault, rowName, sentenceOf } from '../sentences/index.js';
 import { filesNamed } from './listing.js';
 import { entriesAtPath, sayNoVolume } from './looking.js';
 import { openTextsOf } from './plain_files.js';
+import { visible } from './printed.js';
 import { tableSaid } from './searching.js';
 
 /** @typedef {import('../core/tasks/opened.js').OpenedTrack} OpenedTrack */
@@ -60,12 +62,12 @@ async function entriesOfRecords(job, opened) {
  * @param {Job} job
  * @param {Target} target
  * @param {Pick<OpenedTrack, 'contents'> & Partial<OpenedTrack>} opened
- * @param {Pick<RecordOptions, 'encoding' | 'form' | 'freshOf'>} options
+ * @param {Pick<RecordOptions, 'encoding' | 'form' | 'freshOf' | 'end'>} options
  */
-async function writeRecords(job, target, opened, { encoding, form, freshOf }) {
+async function writeRecords(job, target, opened, { encoding, ...how }) {
     const { every = 1, length = 1, skip, limit } = job.options;
     const entries = await entriesOfRecords(job, opened);
-    const made = await exportRecords(opened, { entries, every, length, skip, limit, encoding, form, freshOf }, job.watch);
+    const made = await exportRecords(opened, { entries, every, length, skip, limit, encoding, ...how }, job.watch);
     const texts = await writeTable(target, made.table);
     const isChosen = encoding === null && texts > 0;
     if (isChosen) job.say(`the records read best in ${made.encoding.name}; --encoding selects a different encoding`);
@@ -74,7 +76,7 @@ async function writeRecords(job, target, opened, { encoding, form, freshOf }) {
 
 /**
  * Throws a Fault if the options of records do not fit together.
- * @param {import('./forms.js').Options} options
+ * @param {import('./options.js').Options} options
  */
 function assertRecords({ every, length, in: paths = [], file }) {
     if (every === undefined || length === undefined) return;
@@ -95,29 +97,64 @@ function sayUnused(job, { unused, records }) {
     job.say('if the texts have moved, --po and msgmerge carry their translations over');
 }
 
+/**
+ * What to try if no text was found.
+ * @param {boolean} isAsked whether an encoding or a table was given
+ */
+function nothingFound(isAsked) {
+    const other = isAsked ? 'no text was found in this encoding: try a different one' :
+        'no Japanese text was found: name the encoding of a different language with --encoding, such as Windows-1252';
+    return `${other}; a game may have its own characters (--table), or compressed text`;
+}
+
 /** How many unused rows are named. */
 const MOST_NAMED = 5;
 
+/**
+ * Collects the files whose texts end with a byte other than 00, to report them.
+ * @param {Job} job
+ */
+function endsOfFiles(job) {
+    /** @type {Map<number, string[]>} */
+    const files = new Map();
+    return {
+        add: (/** @type {string} */ path, /** @type {number} */ end) => {
+            files.set(end, [...files.get(end) || [], path === '' ? 'sectors between files' : visible(path)]);
+        },
+        say: () => {
+            for (const [end, [first, ...others]] of files) {
+                const more = others.length === 0 ? '' : `, and those of ${others.length} more`;
+                job.say(`the texts of ${first}${more} end with ${hexText(Uint8Array.of(end))}; --end selects a different byte`);
+            }
+        },
+    };
+}
+
 /** @param {Job} job */
 export async function textsJob(job) {
-    const { encoding, table: file, csv, po, lines, min: least, in: paths, list, every } = job.options;
+    const { encoding, table: file, end, csv, po, lines, min: least, in: paths, list, every } = job.options;
     assertRecords(job.options);
     const named = encoding === undefined ? null : encodingOf(encoding);
     if (named !== null && !named.hasCharacters) {
         throw ownFault(`${named.name} is not a character encoding, so texts cannot be recognised in it`);
     }
     const table = file && tableTextOf(await wholeOf((await job.files.image(file)).reader));
-    const own = table === undefined ? named : tableSaid(job, table);
+    const own = table === undefined ? named : await tableSaid(job, table);
     const target = await job.target();
     const opened = await openTextsOf(job);
     sayNoVolume(job, await opened.contents());
-    const engine = { crew: job.crew.crew(opened.part.sectors) };
+    const engine = { pool: job.pool.pool(opened.part.sectors) };
     const news = list && await newTextsNamed(job, list);
-    /** @type {import('../core/tasks/table.js').ExportOptions} */
-    const exported = { encoding, table, lines, form: po ? 'po' : csv ? 'csv' : 'tsv', least, paths, freshOf: news && (it => news.of(it)) };
+    const cells = csv ? 'csv' : 'tsv';
+    /** @type {Pick<import('../core/tasks/table.js').ExportOptions, 'form' | 'end' | 'freshOf'>} */
+    const how = { form: po ? 'po' : cells, end, freshOf: news && (it => news.of(it)) };
+    const ends = endsOfFiles(job);
+    const exported = { encoding, table, lines, least, paths, ended: ends.add, ...how };
     const texts = every === undefined ? await writeTable(target, exportTable(engine, opened, exported)) :
-        await writeRecords(job, target, opened, { ...exported, encoding: own });
+        await writeRecords(job, target, opened, { ...how, encoding: own });
+    ends.say();
     job.say(`texts ${texts}`);
+    if (texts === 0) job.say(nothingFound(encoding !== undefined || table !== undefined));
     if (news) sayUnused(job, news);
     return Number(texts === 0);
 }

@@ -1,24 +1,22 @@
-// The threads of node that work for a crew.
+// The threads of node that work for a pool.
 
 import { readSync } from 'node:fs';
 import { cpus } from 'node:os';
 import { Worker, parentPort } from 'node:worker_threads';
-import { Crew, UNREAD, localWorker, serving, transfersOf } from '../core/crew/index.js';
+import { Pool, UNREAD, localWorker, serving, transfersOf } from '../core/pool/index.js';
 import { JOBS } from '../core/jobs/index.js';
 import { Calls, sectorCount } from '../core/module/index.js';
 import { isTested } from './again.js';
 
-/** @typedef {import('../core/crew/crew.js').CrewWorker} CrewWorker */
-/** @typedef {import('../core/crew/jobs.js').JobName} JobName */
+/** @typedef {import('../core/pool/pool.js').PoolWorker} PoolWorker */
+/** @typedef {import('../core/pool/jobs.js').JobName} JobName */
 /** @typedef {Uint8Array | { descriptor: number, at: number, length: number }} Piece bytes, or a range of a file that the thread reads */
-/** @typedef {import('../core/crew/jobs.js').Message<JobName, Piece>} Message */
-/** @typedef {import('../core/crew/jobs.js').Reply} Reply */
+/** @typedef {import('../core/pool/jobs.js').Message<JobName, Piece>} Message */
+/** @typedef {import('../core/pool/jobs.js').Reply} Reply */
 /** @typedef {{ module: WebAssembly.Module, scans: boolean }} ThreadData the data of a new thread; whether it is a thread of `scan` */
 
-/** Fewer sectors are done before threads have started. The quick jobs need no threads for any number of sectors. */
+/** Fewer sectors are done before threads have started. */
 const SECTORS_FOR_THREADS = 8000;
-/** @type {JobName[]} */
-const QUICK = ['kinds'];
 const MOST_THREADS = 8;
 /** Sectors per range if the current thread does all work. So the bytes stay in its cache while they are read, tested, and hashed. */
 const STEP_ALONE = 256;
@@ -70,17 +68,17 @@ export function begunThread(data) {
 }
 
 /**
- * A thread that works for a crew. If it does not start, the current thread does its work.
+ * A thread that works for a pool. If it does not start, the current thread does its work.
  * @param {WebAssembly.Module} module
  * @param {Calls} calls
  */
 function threadWorker(module, calls) {
     const serve = serving(calls, JOBS);
     const thread = begunThread({ module, scans: false });
-    /** @type {CrewWorker & { close(): void }} */
-    const crewWorker = {
+    /** @type {PoolWorker & { close(): void }} */
+    const poolWorker = {
         post(/** @type {Message} */ message, transfer) {
-            const here = () => crewWorker.onreply(replyTo(serve, message));
+            const here = () => poolWorker.onreply(replyTo(serve, message));
             if (thread === null) setImmediate(here);
             else void thread.begun.then(isBegun => isBegun ? thread.worker.postMessage(message, transfer) : here());
         },
@@ -88,10 +86,10 @@ function threadWorker(module, calls) {
         onfault() {},
         close: () => void (thread && thread.worker.terminate()),
     };
-    if (thread === null) return crewWorker;
-    thread.worker.on('message', reply => crewWorker.onreply(reply));
-    thread.worker.on('error', error => void thread.begun.then(isBegun => isBegun && crewWorker.onfault(error)));
-    return crewWorker;
+    if (thread === null) return poolWorker;
+    thread.worker.on('message', reply => poolWorker.onreply(reply));
+    thread.worker.on('error', error => void thread.begun.then(isBegun => isBegun && poolWorker.onfault(error)));
+    return poolWorker;
 }
 
 /**
@@ -126,18 +124,18 @@ export class Threads {
     }
 
     /**
-     * Like Crew.share.
+     * Like Pool.share.
      * @template {JobName} Name
      * @param {Name} job
      * @param {import('../core/bytes.js').Reader[]} readers
-     * @param {import('../core/crew/jobs.js').Shared<Name>} args
-     * @param {import('../core/crew/crew.js').Sharing} how
-     * @param {(answer: import('../core/crew/jobs.js').Jobs[Name]['answer']) => void | Promise<void>} take
+     * @param {import('../core/pool/jobs.js').Shared<Name>} args
+     * @param {import('../core/pool/pool.js').Sharing} how
+     * @param {(answer: import('../core/pool/jobs.js').Jobs[Name]['answer']) => void | Promise<void>} take
      */
     share(job, readers, args, how, take) {
-        const crew = this.crew(QUICK.includes(job) ? 0 : sectorCount(readers[0].size));
+        const pool = this.pool(sectorCount(readers[0].size));
         const step = this.isAlone ? { step: STEP_ALONE } : {};
-        return crew.share(job, readers, args, { progress: this.progress, ...step, ...how }, take);
+        return pool.share(job, readers, args, { progress: this.progress, ...step, ...how }, take);
     }
 
     /** @param {number} sectors how many there are to do */
@@ -149,11 +147,11 @@ export class Threads {
      * @param {number} sectors how many there are to do
      * @param {number} [most] how many threads at most
      */
-    crew(sectors, most = MOST_THREADS) {
-        if (!this.hasThreads(sectors)) return new Crew([localWorker(this.calls, JOBS)]);
+    pool(sectors, most = MOST_THREADS) {
+        if (!this.hasThreads(sectors)) return new Pool([localWorker(this.calls, JOBS)]);
         const count = Math.min(cpus().length || 1, most); // cpus() is empty where the system does not report them
         while (this.threads.length < count) this.threads.push(threadWorker(this.module, this.calls));
-        return new Crew(this.threads, true);
+        return new Pool(this.threads, true);
     }
 
     close() {

@@ -1,10 +1,10 @@
-// Readers, pieces and byte buffers that the page and cdscript share.
+// What a reader and a piece are, and functions on both and on bytes. `readers` has the readers that are made from other readers.
 
 import { Fault, newBytes } from './faults.js';
 
 /**
  * Reads the bytes of an image. `read` returns at most `length` bytes from `at` on, and none only at the end of the image. It may put them
- * into `room`, which then belongs to the caller. `lent` returns a postable object by which a worker of this door reads the same bytes.
+ * into `room`, which then belongs to the caller. `lent` returns a postable object by which a worker of this interface reads the same bytes.
  * `forward` returns a faster reader of the same bytes for a single caller that reads forward and does not change the bytes it gets.
  * @typedef {{ size: number, read(at: number, length: number, room?: Uint8Array): Promise<Uint8Array>,
  *     lent?(at: number, length: number): unknown, forward?(): Reader }} Reader
@@ -24,24 +24,6 @@ export const READ_SIZE = 1 << 22;
  */
 export function forwardOf(reader) {
     return reader.forward ? reader.forward() : reader;
-}
-
-/**
- * Wraps a reader so that a callback is called before each read, with the place where the read begins.
- * @param {Reader} reader
- * @param {(at: number) => void} onRead the callback; an exception that it throws ends the read
- * @returns {Reader}
- */
-export function watchedReader(reader, onRead) {
-    const { forward } = reader;
-    return {
-        ...reader,
-        async read(at, length, room) {
-            onRead(at);
-            return reader.read(at, length, room);
-        },
-        forward: forward && (() => watchedReader(forward(), onRead)),
-    };
 }
 
 /**
@@ -143,23 +125,6 @@ export function firstAfter(numbers, number) {
  */
 export function wholeOf(reader) {
     return readBytes(reader, 0, reader.size);
-}
-
-/**
- * A reader of a part of a file, for example of a track.
- * @param {Reader} reader
- * @param {number} from
- * @param {number} to
- * @returns {Reader}
- */
-export function sliceOf(reader, from, to) {
-    const size = to - from;
-    const { lent } = reader;
-    return {
-        size,
-        read: (at, length, room) => reader.read(from + at, Math.max(Math.min(length, size - at), 0), room),
-        lent: lent && ((at, length) => lent(from + at, length)),
-    };
 }
 
 /**

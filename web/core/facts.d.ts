@@ -5,6 +5,8 @@
 export interface Facts {
     cancelled: {};
     'no-memory': {};
+    /** The engine cannot run the module of libcdpatch. */
+    'no-vectors': {};
     /** The image ends at this byte. */
     'image-ended': { at: number };
     /** A worker cannot read the bytes that it is lent. */
@@ -147,7 +149,8 @@ export interface Facts {
     /** Why one of several lists cannot be read. */
     'list/invalid': { list: string; why: Remark };
     'list/too-large': { name: string; size: number; most: number };
-    'list/not-unicode': {};
+    'list/not-unicode': { isPo: boolean };
+    'list/no-encoding': { name: string; known: string[] };
     'list/too-many-cells': { row: number; most: number };
     'list/too-many-rows': { most: number };
     'list/too-many-characters': { most: number };
@@ -173,8 +176,8 @@ export interface Facts {
     'list/code-left': { code: string; count: number; rows: number; first: RowName[] };
     /** The number of fuzzy entries of PO files. */
     'list/fuzzy': { count: number };
-    /** The first characters that only new texts have, each with its first row, and the number of all. */
-    'list/new-characters': { glyphs: { character: string; row: RowName }[]; count: number };
+    /** The characters that only new texts have; control characters as codes. */
+    'list/new-characters': { characters: string[] };
 
     // PO files. `line` is the number of a line of the file.
     'po/line': { line: number };
@@ -193,8 +196,8 @@ export interface Facts {
  */
 export type RowName = { list: string; unit: 'row' | 'line'; number: number; place: string };
 
-export type FileKind = 'raw' | 'audio' | 'subchannels' | 'iso' | 'chd' | 'ecm' | 'archive' | 'wave' | 'cue' | 'empty' | 'unknown' | 'scrambled'
-    | 'nrg' | 'mds' | 'ccd' | 'toc' | 'sub';
+export type FileKind = 'raw' | 'audio' | 'subchannels' | 'iso' | 'chd' | 'ecm' | 'archive' | 'wave' | 'cue' | 'empty' | 'unknown' | 'scrambled' | 'unaligned'
+    | 'nrg' | 'mds' | 'ccd' | 'toc' | 'sub' | 'long' | 'text';
 
 /** A run of blocks, why a script cannot produce them, and their kinds if these are the reason. */
 export type LeftRun = { first: number; last: number; why: 'damaged' | 'kind' | 'address'; kinds: number[] };

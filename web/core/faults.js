@@ -5,7 +5,8 @@
 /** @typedef {import('./facts.js').Subject} Subject */
 
 /**
- * An expected failure, which is shown to the user. Any other exception is a bug. A failure of a door itself has its sentence in `facts`.
+ * An expected failure, which is shown to the user. Any other exception is a bug. A failure of an interface itself has its sentence in
+ * `facts`.
  * @template {Code} [Name=Code]
  */
 export class Fault extends Error {

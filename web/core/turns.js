@@ -30,6 +30,24 @@ export async function letOthersIn(signal) {
     if (signal && signal.aborted) throw cancelled();
 }
 
+/** How many items are collected before the clock is read. */
+const COLLECTED_AT_ONCE = 64;
+
+/**
+ * Collects items that are generated. Other tasks get turns in between.
+ * @template T
+ * @param {Iterable<T>} items
+ * @param {Signal} [signal]
+ */
+export async function collectedInTurns(items, signal) {
+    const all = [];
+    for (const it of items) {
+        all.push(it);
+        if (all.length % COLLECTED_AT_ONCE === 0 && isTurnDue()) await letOthersIn(signal);
+    }
+    return all;
+}
+
 /**
  * Sorts items by their keys, stably. Other tasks get turns in between.
  * @template T

@@ -1,7 +1,9 @@
 // The interface of the npm package, for JavaScript programs in node and in browsers.
 
-import { Calls, RECORD, RECORD_SIZE, STATUS, kindName } from '../core/module/index.js';
-import { auditText, listText } from '../core/sectors/index.js';
+import { Fault as CoreFault } from '../core/faults.js';
+import { Calls, RECORD, RECORD_SIZE, STATUS, hasVectors, kindName } from '../core/module/index.js';
+import { auditText, listText } from '../core/sectors/views.js';
+import { sentenceOf } from '../sentences/index.js';
 import { Fault, spoken } from './errors.js';
 import { patchLines, patched, reported, surveyed, textOf } from './jobs.js';
 
@@ -44,7 +46,7 @@ export class Cdpatch {
         this.calls = new Calls(module);
     }
 
-    /** The version of the library, for example '1.4.0'. */
+    /** The version of the library, for example '2.0.0'. */
     get version() {
         const number = this.calls.version();
         return [number / 10000, number / 100 % 100, number % 100].map(Math.floor).join('.');
@@ -143,11 +145,13 @@ export function patchedStream(cdpatch, image, script, settings) {
 }
 
 /**
- * Loads the library: `cdpatch.wasm` beside this file, or a given module or its bytes. Throws a Fault if a server lacks that file.
+ * Loads the library: `cdpatch.wasm` beside this file, or a given module or its bytes. Throws a Fault if a server lacks that file, or if the
+ * engine has no WebAssembly SIMD.
  * @param {WebAssembly.Module | BufferSource} [module]
  * @returns {Promise<Cdpatch>}
  */
 export async function load(module) {
+    if (!hasVectors()) throw new Fault(sentenceOf(new CoreFault('no-vectors', {})));
     const given = module || await ownModule(new URL('./cdpatch.wasm', import.meta.url));
     return new Cdpatch(given instanceof WebAssembly.Module ? given : await WebAssembly.compile(given));
 }

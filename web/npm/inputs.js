@@ -1,6 +1,7 @@
 // Converts the inputs of the package, which are images and scripts of several types, to sources, and ends their reads by a signal.
 
-import { READ_SIZE, readBytes, watchedReader } from '../core/bytes.js';
+import { READ_SIZE, readBytes } from '../core/bytes.js';
+import { watchedReader } from '../core/readers/views.js';
 
 /** @typedef {import('./cdpatch.js').Input} Input */
 /** @typedef {import('./cdpatch.js').ScriptInput} ScriptInput */

@@ -2,8 +2,8 @@
 
 import { READ_SIZE, bytesOfPieces, readBytes } from '../core/bytes.js';
 import { LAST_BASE, RECORD_SIZE, SECTOR_SIZE, STATUS, sectorCount } from '../core/module/index.js';
-import { readLines } from '../core/script/index.js';
-import { imageTooLong } from '../core/sectors/index.js';
+import { readLines } from '../core/script/views.js';
+import { imageTooLong } from '../core/sectors/views.js';
 import { applyScript, validScript } from '../core/tasks/index.js';
 import { LONG_IMAGE } from '../sentences/index.js';
 import { ScriptError } from './errors.js';
@@ -27,7 +27,7 @@ export function textOf(bytes) {
  * @param {{ status: number, text: Uint8Array }} made
  * @returns {Report}
  */
-export function reportOf({ status, text }) {
+function reportOf({ status, text }) {
     return { status: /** @type {0 | 1 | 2} */ (status), text: textOf(text) };
 }
 

@@ -1,7 +1,7 @@
 // Entry point of the page: creates the app, mounts its panels, and starts it.
 
-import { Calls } from '../core/module/index.js';
-import { App, crewOf, packedParts } from './app/index.js';
+import { Calls, hasVectors } from '../core/module/index.js';
+import { App, poolOf, mountJobs, packedParts } from './app/index.js';
 import { mountDisc } from './disc/index.js';
 import { mountList } from './list/index.js';
 import { mountOpening } from './open/index.js';
@@ -22,9 +22,12 @@ import './worker.js';
  * @param {Promise<Parts>} awaited
  */
 export async function startPage(awaited) {
-    if (window.top !== window) return refuseFrame();
+    // In a frame, another page could trick the user into pressing buttons unseen.
+    if (window.top !== window) return refuse(texts.frameNotInsideAnother, texts.frameOpenTheFile);
+    if (!hasVectors()) return refuse(texts.frameHasNotStarted, texts.frameNoVectors);
     const parts = await awaited;
-    const app = new App(new Calls(parts.module), crewOf(parts), parts);
+    const app = new App(new Calls(parts.module), poolOf(parts), parts);
+    mountJobs(app);
     mountFrame(app);
     mountHelp(app);
     mountOpening(app);
@@ -43,9 +46,13 @@ export async function startPage(awaited) {
     return app;
 }
 
-/** Refuses to run in a frame, where another page could trick the user into pressing buttons unseen. */
-function refuseFrame() {
-    fill(byId('not-started'), element('b', {}, texts.frameNotInsideAnother), texts.frameOpenTheFile);
+/**
+ * Says why the page does not start.
+ * @param {string} what
+ * @param {string} why
+ */
+function refuse(what, why) {
+    fill(byId('not-started'), element('b', {}, what), why);
     return null;
 }
 

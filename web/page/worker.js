@@ -1,14 +1,14 @@
 // Program of the page's workers: ranges of jobs, and one running hash. The joined page and its workers share one script.
 
-import { UNREAD, serving, transfersOf } from '../core/crew/index.js';
+import { UNREAD, serving, transfersOf } from '../core/pool/index.js';
 import { JOBS } from '../core/jobs/index.js';
 import { Calls } from '../core/module/index.js';
 import { Md5 } from './app/md5.js';
 import { Sha1 } from './app/sha1.js';
 
-/** @typedef {import('../core/crew/jobs.js').JobName} JobName */
+/** @typedef {import('../core/pool/jobs.js').JobName} JobName */
 /** @typedef {Uint8Array | { file: File, from: number, size: number }} Piece bytes, or a slice of a file that the worker reads itself */
-/** @typedef {import('../core/crew/jobs.js').Message<JobName, Piece>} Message */
+/** @typedef {import('../core/pool/jobs.js').Message<JobName, Piece>} Message */
 /**
  * A message to a worker: the module, which comes first; a range of a job; or the next bytes of the running SHA-1, null at its end, and
  * whether their MD5 is needed too.

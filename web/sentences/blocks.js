@@ -1,6 +1,6 @@
 // Formats runs of blocks as words.
 
-import { blocksIn } from '../core/sectors/index.js';
+import { blocksIn } from '../core/sectors/views.js';
 
 /** @typedef {import('../core/sectors/runs.js').Run} Run */
 

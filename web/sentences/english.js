@@ -13,7 +13,7 @@ const NO_DAT = 'not a DAT in Logiqx XML';
 export const LONG_IMAGE = `the image has more than ${MOST_SECTORS} sectors`;
 
 /** The beginning of the sentence about a bad dump. */
-export const BAD_DUMP = 'known as a bad dump:';
+const BAD_DUMP = 'known as a bad dump:';
 
 /**
  * @param {number} line of a cue sheet
@@ -31,7 +31,7 @@ function noTrack({ sheet, track, tracks }) {
 
 /** @param {Facts['dat/dump']} dump */
 function knownDump({ name, isBad, others }) {
-    const more = others === 0 ? '' : others === 1 ? ', and 1 other' : `, and ${others} others`;
+    const more = others === 0 ? '' : `, and ${others === 1 ? '1 other' : `${others} others`}`;
     return `${isBad ? BAD_DUMP : 'verified'} ${name}${more}`;
 }
 
@@ -80,14 +80,36 @@ function leftCode({ code, count, rows, first }) {
     return `translations leave out {${code}} ${often}: ${isPlain ? `${rows === 1 ? 'row' : 'rows'} ` : ''}${named.join(', ')}`;
 }
 
+/** How many characters or ranges of characters that only new texts have are listed. */
+const MOST_RANGES = 60;
+
+/**
+ * Characters in ranges, such as A-Z: letters first, then digits, then others, each by itself.
+ * @param {string[]} characters
+ */
+function rangesOf(characters) {
+    const kindOf = (/** @type {string} */ it) => [/^\p{L}$/u, /^\d$/, /^/].findIndex(kind => kind.test(it));
+    const codeOf = (/** @type {string} */ it) => Number(it.codePointAt(0));
+    /** @type {{ kind: number, to: number, parts: string[] }[]} */
+    const ranges = [];
+    for (const it of [...characters].sort((a, b) => kindOf(a) - kindOf(b) || codeOf(a) - codeOf(b))) {
+        const kind = kindOf(it);
+        const code = codeOf(it);
+        const last = ranges[ranges.length - 1];
+        if (last && kind < 2 && last.kind === kind && code === last.to + 1) {
+            last.to = code;
+            last.parts.push(it);
+        } else ranges.push({ kind, to: code, parts: [it] });
+    }
+    return ranges.flatMap(({ parts }) => parts.length > 2 ? [`${parts[0]}-${parts[parts.length - 1]}`] : parts);
+}
+
 /** @param {Facts['list/new-characters']} facts */
-function newCharacters({ glyphs, count }) {
-    /** @type {Map<string, string>} the characters that occur first in each row */
-    const byRow = new Map();
-    for (const { character, row } of glyphs) byRow.set(rowName(row), (byRow.get(rowName(row)) || '') + character);
-    const named = Array.from(byRow, ([row, characters]) => `${characters} in ${row}`);
-    const more = count > glyphs.length ? [`and ${count - glyphs.length} more`] : [];
-    return `no old text has these characters, so the font of the game may lack them: ${[...named, ...more].join(', ')}`;
+function newCharacters({ characters }) {
+    const ranges = rangesOf(characters);
+    const listed = [...ranges.slice(0, MOST_RANGES), ...ranges.length > MOST_RANGES ? ['…'] : []].join(' ');
+    const [are, them] = characters.length === 1 ? ['1 character is', 'it'] : [`${characters.length} characters are`, 'them'];
+    return `${are} in no old text: ${listed}. Does the font of the game have ${them}?`;
 }
 
 /** @param {Facts['replace/filler']} facts */
@@ -96,10 +118,11 @@ function wrongFiller({ missing, filler }) {
     return `cannot pad ${missing} ${bytes} with the ${filler.length}-byte filler ${hexText(filler, ' ')}; use --fill with one byte`;
 }
 
-/** @type {import('./door_facts.js').Sentences} */
+/** @type {import('./interface_facts.js').Sentences} */
 export const ENGLISH = {
     cancelled: () => 'cancelled',
     'no-memory': () => 'no memory',
+    'no-vectors': () => 'this JavaScript engine has no WebAssembly SIMD, which cdpatch needs, or the processor has no SSE4.1',
     'image-ended': ({ at }) => `the image ends at byte ${at}`,
     unread: () => 'a worker cannot read the file',
 
@@ -145,7 +168,7 @@ export const ENGLISH = {
     'dat/deep': ({ most }) => `its elements are more than ${most} deep`,
     'dat/too-many': ({ most }) => `there are more than ${most} dumps`,
     'dat/cut': () => 'it is incomplete: download it again',
-    'dat/no-dump': () => 'it has no dump with a size and a hash',
+    'dat/no-dump': () => 'it has no dump with a SHA-1, or with a size and a CRC32 or MD5',
     'dat/dump': knownDump,
     'dat/only-size': () => 'the DAT has a dump of this size, but none with this SHA-1: perhaps another dump of the disc repairs it',
     'dat/no-size': () => 'the DAT has no dump of this size: perhaps the file is cut short, or is of a different disc',
@@ -226,7 +249,10 @@ export const ENGLISH = {
         `${path} has ${size} bytes${room === null ? '' : ` and room for ${room}`}, but the new file has ${wanted}`,
 
     'list/invalid': ({ list, why }, sentence) => `${list}: ${sentence(why)}`,
-    'list/not-unicode': () => 'the list is not in UTF-8 or UTF-16: save it as UTF-8 (in a spreadsheet, CSV UTF-8)',
+    'list/not-unicode': ({ isPo }) => isPo ? 'the list is not in UTF-8 or UTF-16; msgconv -t UTF-8 converts it'
+        : 'the list is not in UTF-8 or UTF-16: save it as UTF-8 (in a spreadsheet, CSV UTF-8)',
+    'list/no-encoding': ({ name, known }) => name === 'the table' ? "the row was listed with a game's own table: use that table again"
+        : `unknown encoding '${name}'; known encodings: ${known.join(', ')}`,
     'list/too-large': ({ name, size, most }) => `${name} has ${size} bytes, but a list may have at most ${most}`,
     'list/too-many-cells': ({ row, most }) => `row ${row} of the table has more than ${most} cells`,
     'list/too-many-rows': ({ most }) => `more than ${most} rows of the list have a translation`,

@@ -5,10 +5,10 @@ import { ENGLISH } from './english.js';
 
 /** @typedef {import('../core/facts.js').Facts} Facts */
 /** @typedef {import('../core/facts.js').Remark} Remark */
-/** @typedef {import('./door_facts.js').Sentences} Sentences */
+/** @typedef {import('./interface_facts.js').Sentences} Sentences */
 
 /**
- * A failure with a door's own sentence.
+ * A failure with an interface's own sentence.
  * @param {string} sentence
  * @param {Omit<Facts['own'], 'sentence'>} [facts]
  */

@@ -26,7 +26,8 @@ use Rattle.clap.proofs.SimpleLemmas.{is_false}
 use Rattle.clap.proofs.ValueTestLemmas.{accepts-Accepts}
 use Rattle.cd_args.specs.CommandLine.{IsComplete, apply_shape, command_line, image_shape, patching_shape, program_shape}
 use Rattle.cd_args.specs.Arguments.{flag_rule, text_rule}
-use Rattle.cd_args.specs.Options.{HasBase, base_rule, flags, max_base, option_rules}
+use Rattle.cd_args.specs.Options.{HasBase, base_rule, flags, option_rules}
+use Rattle.cd_address.specs.Address.{last_block}
 use Rattle.cd_args.proofs.general.Rows.{AllStart, Each, Each-append, Each-find, IsUsedBy, Starts, Uses, level_parts, level_starts, neither, replaces}
 
 -- ---- the row of an argument with a default
@@ -125,7 +126,7 @@ has_row-found id (r ∷ rs) there = go (bytes_eq r.id id) refl (has_row-found id
 -- a text of `--base` is a number in the range, and is read without a minus
 abbrev IsBaseText : Text → Reading → Text → Type 0
 IsBaseText id how text =
-    id ≡ codes "base" → (how ≡ WithoutMinus) × IsSignedIn (pos 0) (pos max_base) text
+    id ≡ codes "base" → (how ≡ WithoutMinus) × IsSignedIn (pos 0) (pos last_block) text
 
 first_given : (id : Text) (rows : List Row) → AllStart IsBaseText rows → is_given id rows ≡ true
     → IsSome (first_of id rows)
@@ -156,15 +157,15 @@ abbrev leaf : Shape → Shape
 leaf s = built_leaf (inherited (with_leaf_noted (marked_built program_shape)) s)
 
 accepted_value : (v : Text) (vs : List Text)
-    → values_kinds false (vp.Signed (pos 0) (pos max_base)) (v ∷ vs) ≡ []
-    → IsSignedIn (pos 0) (pos max_base) v
-accepted_value v vs e = go (accepts false (vp.Signed (pos 0) (pos max_base)) v) refl e
+    → values_kinds false (vp.Signed (pos 0) (pos last_block)) (v ∷ vs) ≡ []
+    → IsSignedIn (pos 0) (pos last_block) v
+accepted_value v vs e = go (accepts false (vp.Signed (pos 0) (pos last_block)) v) refl e
   where
-    go : (b : Bool) → accepts false (vp.Signed (pos 0) (pos max_base)) v ≡ b
+    go : (b : Bool) → accepts false (vp.Signed (pos 0) (pos last_block)) v ≡ b
         → or_else (if b then [] else ValueValidation ∷ [])
-        (values_kinds false (vp.Signed (pos 0) (pos max_base)) vs) ≡ []
-        → IsSignedIn (pos 0) (pos max_base) v
-    go true is none = accepts-Accepts false (vp.Signed (pos 0) (pos max_base)) v is
+        (values_kinds false (vp.Signed (pos 0) (pos last_block)) vs) ≡ []
+        → IsSignedIn (pos 0) (pos last_block) v
+    go true is none = accepts-Accepts false (vp.Signed (pos 0) (pos last_block)) v is
     go false is none = cc
 
 abbrev text_built : ℕ → Text → Rule
@@ -238,7 +239,7 @@ base_default : (v : Text) (vs : List Text) → base_built.defaults ≡ v ∷ vs
     → IsBaseText (codes "base") WithoutMinus v
 base_default v vs e is =
     let same : codes "0" ≡ v = ap (λ (ts : List Text). slice_index_or ts 0 v) e in
-    (refl, rw (← same) (accepts-Accepts false (vp.Signed (pos 0) (pos max_base)) (codes "0") refl))
+    (refl, rw (← same) (accepts-Accepts false (vp.Signed (pos 0) (pos last_block)) (codes "0") refl))
 
 text_used : (index : ℕ) (id : Text) → bytes_eq id (codes "base") ≡ false
     → IsUsedBy IsBaseText (text_built index id)

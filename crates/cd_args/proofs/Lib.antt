@@ -1,5 +1,4 @@
 mod AcceptedLemmas
 mod CliLemmas
 mod ParseLemmas
-pub mod StatusLemmas
 pub mod general

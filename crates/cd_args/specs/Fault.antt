@@ -1,6 +1,6 @@
--- Errors of the command line: the text that is printed, and the exit status.
-use Rattle.std.specs.Prelude.{⊤, ℕ, Bool, true, false, List, Option, Some, None, codes}
-use Rattle.std.specs.Prelude.{if◌then◌else◌, is_some, ◌∷◌, []}
+-- Errors of the command line, and the text that is printed.
+use Rattle.std.specs.Prelude.{⊤, Bool, true, false, List, Option, Some, None, codes}
+use Rattle.std.specs.Prelude.{if◌then◌else◌, ◌∷◌, []}
 use Rattle.clap.specs.Words.{IsAmong, Kinds, Text, fault_of, kind_of}
 use Rattle.clap.specs.declared.error.Error.{Error}
 use Rattle.clap.specs.declared.error.kind.ErrorKind.{ErrorKind}
@@ -19,24 +19,16 @@ is_out_of_memory _ = false
 abbrev pub fault_from : Error → LineFault
 fault_from e = if is_out_of_memory (kind_of e) then NoMemory else Parser e
 
--- the exit status if everything was done
-abbrev pub done_status : ℕ
-done_status = 0
+-- whether an error of this kind is a request for help or the version
+abbrev pub is_help : ErrorKind → Bool
+is_help DisplayHelp = true
+is_help DisplayVersion = true
+is_help _ = false
 
--- the exit status after an error, such as invalid arguments
-abbrev pub failed_status : ℕ
-failed_status = 2
-
--- the exit status for a kind of error: a request for help is not a failure
-abbrev pub kind_status : ErrorKind → ℕ
-kind_status DisplayHelp = done_status
-kind_status DisplayVersion = done_status
-kind_status _ = failed_status
-
--- the exit status of a fault
-abbrev pub status_of : LineFault → ℕ
-status_of (Parser e) = kind_status (kind_of e)
-status_of NoMemory = failed_status
+-- whether help was requested
+abbrev pub asks_for_help : LineFault → Bool
+asks_for_help (Parser e) = is_help (kind_of e)
+asks_for_help NoMemory = false
 
 -- the line that is printed if memory runs out
 abbrev pub no_memory : Text
@@ -46,11 +38,6 @@ no_memory = codes "cdpatch: no memory\n"
 abbrev pub printed : Option Text → Text
 printed (Some text) = text
 printed None = no_memory
-
--- the exit status after printing: the status of the fault if its text was printed, otherwise that
--- of a failure
-abbrev pub printed_status : LineFault → Option Text → ℕ
-printed_status fault text = if is_some text then status_of fault else failed_status
 
 -- the kinds of error that the definition gives for the arguments; empty without arguments
 unfoldable pub error_kinds : List Text → Kinds

@@ -13,17 +13,13 @@ use Rattle.cd_args.specs.declared.settings.Settings.{Settings}
 
 -- ---- on the command line
 
--- the largest number that an image's first block may have
-abbrev pub max_base : ℕ
-max_base = last_block
-
 -- the option `--base N`, a number of 0 to 449849; 0 if it is not used
 abbrev pub base_rule : Rule
 base_rule = record (new_rule (codes "base")) {
   long = Some (codes "base");
   value_names = 1;
   defaults = codes "0" ∷ [];
-  parser = Some (vp.Signed (pos 0) (pos max_base));
+  parser = Some (vp.Signed (pos 0) (pos last_block));
 }
 
 -- the flags of `check` and `apply`
@@ -50,7 +46,7 @@ pub record HasSettings (rows : List Row) (settings : Settings) : Type 0 where
 pub record HasBase (rows : List Row) : Type 0 where
   pub text : Text
   pub read : one_of (codes "base") rows ≡ Some (without_minus text)
-  pub accepted : IsSignedIn (pos 0) (pos max_base) text
+  pub accepted : IsSignedIn (pos 0) (pos last_block) text
 
 -- ---- in a job
 

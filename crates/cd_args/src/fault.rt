@@ -1,17 +1,11 @@
-//! Errors of the command line, with their messages and exit statuses.
-ghost use Rattle.std.specs.Prelude.{◌≡◌, None, if◌then◌else◌, is_some, option_map};
-ghost use Rattle.cd_args.specs.Fault.{failed_status, fault_from, printed, status_of};
+//! Errors of the command line, with their messages.
+ghost use Rattle.std.specs.Prelude.{◌≡◌, None, option_map};
+ghost use Rattle.cd_args.specs.Fault.{asks_for_help, fault_from, printed};
 ghost use Rattle.cd_args.specs.declared.fault.LineFault.TheVariants.{NoMemory};
 
 use clap::error::ErrorKind;
 use std::alloc::{AllocError, Global};
 use thiserror::Error;
-
-/// The exit status of the program if everything was done.
-pub const DONE: u8 = 0;
-
-/// The exit status of the program after an error, such as invalid arguments.
-pub const FAILED: u8 = 2;
 
 /// The line that is printed if memory runs out.
 pub const NO_MEMORY: &str = "cdpatch: no memory\n";
@@ -48,35 +42,15 @@ impl From<AllocError> for LineFault {
 }
 
 impl LineFault {
-    /// The exit status of the program: 0 if help was requested, and otherwise 2.
-    ///
-    /// # Examples
-    ///
-    /// ```
-    /// let fault = LineFault::NoMemory;
-    /// assert_eq!(rt; fault.status(), 2);
-    /// ```
-    pub fn status(&self) -> u8
-        ensures { result ≡ status_of self.now }
-    {
-        let is_help = match self {
-            LineFault::Parser(error) => !error.use_stderr(),
-            LineFault::NoMemory => false,
-        };
-        if is_help { DONE } else { FAILED }
-    }
-
-    /// The exit status of the program after it printed the [`refusal_line`] of this text: 2
-    /// without a text, and otherwise the status of this fault.
+    /// Whether help was requested, which is not an error.
     ///
     /// See the example of [`refusal_line`].
-    pub fn status_with(&self, parser_text: Option<&str>) -> u8
-        ensures { result ≡ (if is_some parser_text.entry then status_of self.now
-            else failed_status) }
+    pub fn asks_for_help(&self) -> bool
+        ensures { result ≡ asks_for_help self.now }
     {
-        match parser_text {
-            Some(_) => self.status(),
-            None => FAILED,
+        match self {
+            LineFault::Parser(error) => !error.use_stderr(),
+            LineFault::NoMemory => false,
         }
     }
 
@@ -103,7 +77,7 @@ impl LineFault {
 /// let fault = LineFault::NoMemory;
 /// let text = fault.parser_text(rt.alloc()); // None
 /// assert_eq!(rt; refusal_line(text.as_deref()), NO_MEMORY);
-/// assert_eq!(rt; fault.status_with(text.as_deref()), 2);
+/// assert!(rt; !fault.asks_for_help());
 /// ```
 pub fn refusal_line(parser_text: Option<&str>) -> &str
     ensures { result.now ≡ printed (option_map (λ text. text.now) parser_text.entry) }

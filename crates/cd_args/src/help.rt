@@ -40,7 +40,7 @@ Status:
   2  an I/O error, an invalid script, or invalid arguments; OUT may be
      incomplete
 
-cdpatch 1.4.0";
+cdpatch 2.0.0";
 
 /// The description of `list`.
 pub(crate) const LIST_ABOUT: &str = "List an image's sectors by kind";

@@ -13,7 +13,7 @@
 //! | `check IMAGE SCRIPT`, with options | [`Job::Check`] |
 //! | `apply IMAGE SCRIPT OUT`, with options | [`Job::Apply`] |
 //!
-//! The options of `check` and `apply` are the fields of [`Settings`]. N is 0 to [`MAX_BASE`], the
+//! The options of `check` and `apply` are the fields of [`Settings`]. N is 0 to `cd_address::MAX_BLOCK`, the
 //! last block with an address (ECMA-130, 14). clap parses the arguments and formats the help. The
 //! parser allocates memory; if there is none, the line is `cdpatch: no memory`.
 //!
@@ -28,7 +28,7 @@ mod job;
 mod parse;
 mod settings;
 
-pub use fault::{DONE, FAILED, LineFault, NO_MEMORY, refusal_line};
+pub use fault::{LineFault, NO_MEMORY, refusal_line};
 pub use job::Job;
 pub use parse::job_of;
-pub use settings::{MAX_BASE, Settings};
+pub use settings::Settings;

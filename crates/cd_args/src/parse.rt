@@ -7,8 +7,9 @@ ghost use Rattle.cd_args.specs.Fault.{HasKindOf, error_kinds};
 ghost use Rattle.cd_args.specs.declared.fault.LineFault.TheVariants.{NoMemory};
 
 use crate::cli::command_line;
-use crate::settings::{MAX_BASE, Settings, base_of, settings_of};
+use crate::settings::{Settings, base_of, settings_of};
 use crate::{Job, LineFault};
+use cd_address::MAX_BLOCK;
 use clap::ArgMatches;
 use std::alloc::{AllocError, Global};
 
@@ -27,7 +28,7 @@ fn list_job(alloc: Global, matches: &ArgMatches<'_>) -> Result<Job, AllocError>
     requires image { IsSome (first_of (codes "image") (rows_of (found_of matches.now))) }
     requires base { HasBase (rows_of (found_of matches.now)) }
     ensures job { IfOk result (HasMatches (codes "list", rows_of (found_of matches.now))) }
-    ensures base { IfOk result (λ job. base_in job ≤ MAX_BASE) }
+    ensures base { IfOk result (λ job. base_in job ≤ MAX_BLOCK) }
 {
     let image = text_of(alloc, matches, "image")?;
     let base = base_of(matches);
@@ -39,7 +40,7 @@ fn audit_job(alloc: Global, matches: &ArgMatches<'_>) -> Result<Job, AllocError>
     requires image { IsSome (first_of (codes "image") (rows_of (found_of matches.now))) }
     requires base { HasBase (rows_of (found_of matches.now)) }
     ensures job { IfOk result (HasMatches (codes "audit", rows_of (found_of matches.now))) }
-    ensures base { IfOk result (λ job. base_in job ≤ MAX_BASE) }
+    ensures base { IfOk result (λ job. base_in job ≤ MAX_BLOCK) }
 {
     let image = text_of(alloc, matches, "image")?;
     let base = base_of(matches);
@@ -52,7 +53,7 @@ fn check_job(alloc: Global, matches: &ArgMatches<'_>) -> Result<Job, AllocError>
     requires script { IsSome (first_of (codes "script") (rows_of (found_of matches.now))) }
     requires base { HasBase (rows_of (found_of matches.now)) }
     ensures job { IfOk result (HasMatches (codes "check", rows_of (found_of matches.now))) }
-    ensures base { IfOk result (λ job. base_in job ≤ MAX_BASE) }
+    ensures base { IfOk result (λ job. base_in job ≤ MAX_BLOCK) }
 {
     let image = text_of(alloc, matches, "image")?;
     let script = text_of(alloc, matches, "script")?;
@@ -72,7 +73,7 @@ fn apply_job(alloc: Global, matches: &ArgMatches<'_>) -> Result<Job, AllocError>
     requires out { IsSome (first_of (codes "out") (rows_of (found_of matches.now))) }
     requires base { HasBase (rows_of (found_of matches.now)) }
     ensures job { IfOk result (HasMatches (codes "apply", rows_of (found_of matches.now))) }
-    ensures base { IfOk result (λ job. base_in job ≤ MAX_BASE) }
+    ensures base { IfOk result (λ job. base_in job ≤ MAX_BLOCK) }
 {
     let image = text_of(alloc, matches, "image")?;
     let script = text_of(alloc, matches, "script")?;
@@ -91,7 +92,7 @@ fn apply_job(alloc: Global, matches: &ArgMatches<'_>) -> Result<Job, AllocError>
 fn entered_job(alloc: Global, name: &str, matches: &ArgMatches<'_>) -> Result<Job, AllocError>
     requires { IsComplete (name.now, rows_of (found_of matches.now)) }
     ensures job { IfOk result (HasMatches (name.now, rows_of (found_of matches.now))) }
-    ensures base { IfOk result (λ job. base_in job ≤ MAX_BASE) }
+    ensures base { IfOk result (λ job. base_in job ≤ MAX_BLOCK) }
 {
     match name {
         "list" => list_job(alloc, matches),
@@ -124,7 +125,7 @@ fn standard_input_job(alloc: Global) -> Result<Job, AllocError>
 /// ```
 pub fn job_of(alloc: Global, args: Vec<String>) -> Result<Job, LineFault>
     ensures ok { IfOk result (IsJobOf (map string_bytes args.items)) }
-    ensures base { IfOk result (λ job. base_in job ≤ MAX_BASE) }
+    ensures base { IfOk result (λ job. base_in job ≤ MAX_BLOCK) }
 
     // A job results only from arguments in which the definition finds no error, and which do not
     // request help.

@@ -12,9 +12,6 @@ use cd_address::MAX_BLOCK;
 use clap::{Arg, ArgMatches, Command, value_parser};
 use std::alloc::{AllocError, Global};
 
-/// The largest number that the first block of an image may have: the last block with an address.
-pub const MAX_BASE: u32 = MAX_BLOCK;
-
 /// How a script is applied to an image: what the options of `check` and `apply` say.
 #[derive(Clone, Copy, Debug)]
 pub struct Settings {
@@ -49,7 +46,7 @@ pub(crate) fn base_argument<'a>(alloc: Global) -> Arg<'a>
         .long("base")
         .value_name("N")
         .default_value("0")
-        .value_parser(value_parser!(u32).range(0..=i64::from(MAX_BASE)))
+        .value_parser(value_parser!(u32).range(0..=i64::from(MAX_BLOCK)))
         .help("The number of the first block, at most 449849")
 }
 
@@ -72,7 +69,7 @@ pub(crate) fn with_options<'a>(
 pub(crate) fn base_of(matches: &ArgMatches<'_>) -> u32
     requires { HasBase (rows_of (found_of matches.now)) }
     ensures value { base_of (rows_of (found_of matches.now)) ≡ Some result }
-    ensures most { result ≤ MAX_BASE }
+    ensures most { result ≤ MAX_BLOCK }
 {
     matches.get_one::<u32>("base").unwrap()
 }
@@ -99,7 +96,7 @@ fn flag_of(matches: &ArgMatches<'_>, id: &str) -> bool
 pub(crate) fn settings_of(matches: &ArgMatches<'_>) -> Settings
     requires { HasBase (rows_of (found_of matches.now)) }
     ensures has { HasSettings (rows_of (found_of matches.now)) result }
-    ensures most { result.base ≤ MAX_BASE }
+    ensures most { result.base ≤ MAX_BLOCK }
 {
     let base = base_of(matches);
     let carry = flag_of(matches, "carry");

@@ -3,19 +3,19 @@ use Rattle.std.proofs.Common.{◌≡◌, ◌≢◌, ℕ, ◌<◌, ◌≤◌, ◌
 use Rattle.std.proofs.Common.{refl, sym, ap, ◌∙◌, Some, arith, length-append}
 use Rattle.std.specs.Borrow.{MutBor}
 use Rattle.std.proofs.lemmas.Bool.{cases_lt}
-use Rattle.cd_args.specs.Fault.{failed_status}
-use Rattle.cd_memory.proofs.KnownLemmas.{Appends-Some, Some-injective}
-use Rattle.cd_memory.specs.Memory.{fresh_incoming}
-use Rattle.cd_program.specs.Commands.{Ends}
-use Rattle.cd_program.specs.Running.{IsTooLong}
+use Rattle.cd_read.specs.Status.{failed_status}
+use Rattle.cd_stream.proofs.KnownLemmas.{Appends-Some, Some-injective}
+use Rattle.cd_stream.specs.Rooms.{fresh_incoming, FillsCounted, FillsFront, fresh_over}
+use Rattle.cd_read.specs.Printing.{Ends}
+use Rattle.cd_read.specs.Ends.{IsTooLong}
 use Rattle.cd_sector.specs.Image.{base_limit, image_limit}
 use Rattle.cd_read.specs.declared.fault.Fault.{Fault}
 use Rattle.cd_read.specs.declared.fault.Fault.TheVariants.{Log, Read, TooLong, Write}
 use Rattle.cd_report.specs.Report.{Reports, ReportSpec}
-use Rattle.cd_memory.proofs.RoomReportLemmas.{may-be, too-long}
-use Rattle.cd_memory.proofs.RoomLemmas.{holds-text, same-text}
-use Rattle.cd_memory.specs.Reports.{ReportFails, ReportsInMemory, WritesReport}
-use Rattle.cd_memory.specs.Rooms.{FillsCounted, FillsFront, fresh_over}
+use Rattle.cd_read.proofs.KnownLemmas.{may-be}
+use Rattle.cd_report.proofs.InMemoryLemmas.{too-long}
+use Rattle.cd_stream.proofs.RoomLemmas.{holds-text, same-text}
+use Rattle.cd_report.specs.InMemory.{ReportFails, ReportsInMemory, WritesReport}
 use Rattle.cd_c.specs.EnoughRoom.{HasEnoughRoom, text_room}
 use Rattle.cd_stream.specs.Adapters.{slice_incoming}
 use Rattle.cd_stream.specs.Stream.{Outgoing}

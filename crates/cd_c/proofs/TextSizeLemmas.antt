@@ -4,11 +4,9 @@ use Rattle.std.specs.Prelude.{codes, cond, count_by, decimal}
 use Rattle.std.proofs.lemmas.Fmt.{length-decimal-le}
 use Rattle.std.proofs.lemmas.Grind.{flat_map-append}
 use Rattle.std.proofs.lemmas.List.{length-map}
-use Rattle.std.proofs.lemmas.List.FromFn.{length-map-range_with_len}
 use Rattle.std.proofs.lemmas.List.Sums.{count_by-le-length}
-use Rattle.cd_code.specs.CodeWords.{column_of, diagonal_of}
 use Rattle.cd_sector.specs.Consistent.{is_mode1}
-use Rattle.cd_sector.specs.Defect.{all_syndromes, defect_of, is_broken, is_nonzero}
+use Rattle.cd_sector.specs.Defect.{is_nonzero}
 use Rattle.cd_sector.specs.Image.{base_limit, image_limit, sector_limit, sectors, tail}
 use Rattle.cd_sector.specs.Kind.{kind_of}
 use Rattle.cd_sector.specs.declared.kinds.SectorKind.{SectorKind}
@@ -20,6 +18,7 @@ use Rattle.cd_report.specs.Lines.{text_of}
 use Rattle.cd_report.specs.ListText.{kind_name, list_end, list_tally, run_line, run_lines}
 use Rattle.cd_report.specs.Runs.{Run, prepend_kind, runs, same_kind}
 use Rattle.cd_report.specs.declared.findings.Findings.{Findings}
+use Rattle.cd_report.proofs.LineCountLemmas.{p-le, q-le}
 use Rattle.cd_c.specs.EnoughRoom.{TextsAreShort}
 
 ten : (n : ℕ) → n < 10000000000 → length (decimal n) ≤ 10
@@ -178,25 +177,9 @@ finding_line-short block found low few many =
       length-append a b,
     )
 
-words-count : (word : ℕ → List ℕ) (count : ℕ) → length (all_syndromes word count) ≡ count
-unfolding all_syndromes
-words-count word count = length-map-range_with_len _ 0 count
-
 -- there are 86 columns and 52 diagonals
 words-few : (sector : List ℕ) → ((report_of sector).p < 1000) × ((report_of sector).q < 1000)
-unfolding report_of defect_of
-words-few sector = (
-  omega (
-    arith,
-    count_by-le-length is_broken (all_syndromes (column_of sector) 86),
-    words-count (column_of sector) 86,
-  ),
-  omega (
-    arith,
-    count_by-le-length is_broken (all_syndromes (diagonal_of sector) 52),
-    words-count (diagonal_of sector) 52,
-  ),
-)
+words-few sector = (omega (arith, p-le sector), omega (arith, q-le sector))
 
 line_of-short : (block : ℕ) (sector : List ℕ) → block < 10000000
     → length (text_of (line_of block (findings_of block sector))) ≤ 40

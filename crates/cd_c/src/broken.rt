@@ -4,8 +4,7 @@ ghost use Rattle.std.specs.Prelude.{◌≡◌, ℕ, ◌<◌, slice_index};
 ghost use Rattle.cd_code.specs.CodeWords.{column_of, diagonal_of};
 ghost use Rattle.cd_sector.specs.Defect.{broken_mark};
 
-use crate::bodies::{mark_columns, mark_diagonals};
-use cd_sector::{COLUMNS, DIAGONALS, Sector};
+use cd_sector::{COLUMNS, DIAGONALS, Sector, mark_columns, mark_diagonals};
 
 /// Marks which P columns and Q diagonals of a sector are not code words, as [`mark_columns`] and
 /// [`mark_diagonals`]. The sector may be of any kind.

@@ -5,7 +5,6 @@
 //! nothing else that is passed: the C program must ensure this.
 #![tactic(auto)]
 
-mod bodies;
 mod broken;
 mod changes;
 mod hashing;

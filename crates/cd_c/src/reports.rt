@@ -1,15 +1,15 @@
 //! The calls of C that list or audit an image in memory.
 
 ghost use Rattle.std.specs.Prelude.{◌≡◌, ◌≢◌};
-ghost use Rattle.cd_args.specs.Fault.{done_status, failed_status};
-ghost use Rattle.cd_program.specs.Commands.{audit_status};
+ghost use Rattle.cd_read.specs.Status.{done_status, failed_status};
+ghost use Rattle.cd_report.specs.Running.{audit_status};
 ghost use Rattle.cd_report.specs.AuditText.{audit_report};
 ghost use Rattle.cd_report.specs.ListText.{list_report};
-ghost use Rattle.cd_memory.specs.Reports.{ReportFails, ReportsInMemory, WritesReport};
-ghost use Rattle.cd_memory.specs.Rooms.{FillsCounted};
+ghost use Rattle.cd_report.specs.InMemory.{ReportFails, ReportsInMemory, WritesReport};
+ghost use Rattle.cd_stream.specs.Rooms.{FillsCounted};
 ghost use Rattle.cd_c.specs.EnoughRoom.{HasEnoughRoom};
 
-use cd_memory::{audit_image, list_image};
+use cd_report::{audit_image, list_image};
 use cd_stream::SliceSink;
 
 /// Writes to `text` what the command `list` prints for an image, and returns the status of the

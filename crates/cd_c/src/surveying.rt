@@ -7,10 +7,9 @@ ghost use Rattle.cd_report.specs.ListText.{run_lines};
 ghost use Rattle.cd_report.specs.Runs.{runs};
 ghost use Rattle.cd_c.specs.Survey.{kind_in, lines_in, record_of, survey};
 
-use crate::bodies::defect;
 use crate::kinds::kind_number;
 use cd_report::{Findings, has_other_address};
-use cd_sector::{DefectReport, Sector, SectorKind, kind};
+use cd_sector::{DefectReport, Sector, SectorKind, defect, kind};
 
 /// The kind and the findings of a sector, as C's `struct cdpatch_record`. All fields but `kind` are
 /// 0 if the sector is not of Mode 1.

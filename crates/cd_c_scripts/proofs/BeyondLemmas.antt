@@ -12,7 +12,7 @@ use Rattle.cd_run.specs.declared.run.PatchRun.{PatchRun}
 use Rattle.cd_run.proofs.BytesLemmas.{length-bytes_of}
 use Rattle.cd_run.proofs.PatchLogLemmas.{front_within-cut, front_within-front, lines_within-cut, lines_within-none}
 use Rattle.cd_run.proofs.RunningLemmas.{tail_none, unclosed_at}
-use Rattle.cd_c_scripts.specs.InOrder.{Begins}
+use Rattle.cd_stream.specs.Stream.{IsBeginning}
 use Rattle.cd_c_scripts.specs.Runs.{Going, IsBeyond}
 use Rattle.cd_c_scripts.proofs.GoingLemmas.{Going-read}
 use Rattle.cd_c_scripts.proofs.InOrderLemmas.{Going-within, Known, bytes_of-begins, extends, known_now, outcomes-length}
@@ -83,7 +83,7 @@ module _ {carry : Bool} {patches : List Patch} {base : ℕ} {read sent log_bytes
         whole outcomes last
         (subst (λ l. IsPatched carry patches outcomes base l last)
         (take_at read more image_limit size_read) patched) in (
-          subst (λ l. Begins l last) (sym is_sent) (bytes_of-begins h.done w.others last w.cut),
+          subst (λ l. IsBeginning l last) (sym is_sent) (bytes_of-begins h.done w.others last w.cut),
           h.logged
               ∙ sym (ap (λ ps. lines_within (base + sector_limit) ps outcomes)
               (sym (take-append-drop machine.decided patches))

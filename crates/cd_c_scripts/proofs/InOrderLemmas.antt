@@ -12,7 +12,7 @@ use Rattle.cd_sector.proofs.ImageLemmas.{IsCut-sectors, cut_of_joined, sectors-b
 use Rattle.cd_patch.specs.Sequence.{PatchSequence}
 use Rattle.cd_patch.specs.declared.outcome.Outcome.{Outcome}
 use Rattle.cd_patch.proofs.SequenceLemmas.{PatchSequence-count, PatchSequence-determined, PatchSequence-front, PatchSequence-lengths, PatchSequence-split}
-use Rattle.cd_run.specs.Messages.{long_image}
+use Rattle.cd_read.specs.Messages.{long_image}
 use Rattle.cd_run.specs.PatchLog.{applied_count, bytes_before, counts_line, lines_below, log_line, log_lines, log_text, log_when_out_fails, refused_count, sent_when_log_fails}
 use Rattle.cd_run.specs.Patched.{IsPatched}
 use Rattle.cd_run.specs.Running.{closed_at, sent_bytes, tail_at, tail_bytes}
@@ -24,7 +24,8 @@ use Rattle.cd_run.proofs.LeftLemmas.{next_taken}
 use Rattle.cd_run.proofs.PatchedLemmas.{IsPatched-determined}
 use Rattle.cd_run.proofs.RunningLemmas.{none_of, unclosed_at}
 use Rattle.cd_run.proofs.UnderwayLemmas.{tail_some}
-use Rattle.cd_c_scripts.specs.InOrder.{Begins, whole_log}
+use Rattle.cd_stream.specs.Stream.{IsBeginning}
+use Rattle.cd_c_scripts.specs.InOrder.{whole_log}
 use Rattle.cd_c_scripts.specs.Runs.{Going, IsBeyond, IsDone}
 use Rattle.cd_c_scripts.proofs.GoingLemmas.{none_of as no_bytes}
 
@@ -39,7 +40,7 @@ pub record Extends (seen : List (List ℕ)) (end : Option (List ℕ)) (image : L
 pub extends_by : (stage : ℕ) (seen : List (List ℕ)) (rest read image : List ℕ) → AreSized seen
     → read ≡ bytes_of seen ++ tail_bytes (tail_at stage rest)
     → length (tail_bytes (tail_at stage rest)) < SECTOR_SIZE → length read ≤ image_limit
-    → Begins (take image_limit read) image → (0 < stage → image ≡ read)
+    → IsBeginning (take image_limit read) image → (0 < stage → image ≡ read)
     → Extends seen (tail_at stage rest) image
 extends_by zero seen rest read image sized is short within begins ended = record {
   more = sectors begins.0;
@@ -72,7 +73,7 @@ sectors-size image =
 
 -- an image whose first sectors are these
 pub bytes_of-begins : (front others : List (List ℕ)) (last : List ℕ)
-    → sectors last ≡ front ++ others → Begins (bytes_of front) last
+    → sectors last ≡ front ++ others → IsBeginning (bytes_of front) last
 bytes_of-begins front others last cut = (
   bytes_of others ++ tail last,
   sym (IsCut-sectors last).joined ∙ simp (cut, bytes_of-append, append_assoc),
@@ -81,7 +82,7 @@ bytes_of-begins front others last cut = (
 -- the lines of the first patches are a prefix of the log
 log_text-begins : (taken left : List Patch) (front back : List Outcome)
     → length front ≡ length taken
-    → Begins (log_lines taken front) (log_text (taken ++ left) (front ++ back))
+    → IsBeginning (log_lines taken front) (log_text (taken ++ left) (front ++ back))
 unfolding log_text
 log_text-begins taken left front back same = (
   log_lines left back ++ counts_line (applied_count (front ++ back)) (refused_count (front ++ back)),
@@ -101,7 +102,7 @@ pub done-in-order : {carry : Bool} {patches : List Patch} {base : ℕ} {read sen
     {status : ℕ} → IsDone carry patches base read sent log_bytes status → {image : List ℕ}
     → length image ≤ image_limit → image ≡ read → {os : List Outcome} {last : List ℕ}
     → IsPatched carry patches os base image last
-    → Begins sent last × Begins log_bytes (whole_log patches os base read)
+    → IsBeginning sent last × IsBeginning log_bytes (whole_log patches os base read)
 done-in-order {carry = carry} {patches = patches} {base = base} {read = read} {sent = sent} {log_bytes = log_bytes} done within is {os} {last} patched =
     let same =
     IsPatched-determined carry patches os done.outcomes base read last sent
@@ -117,9 +118,9 @@ done-in-order {carry = carry} {patches = patches} {base = base} {read = read} {s
 -- the image is longer than the largest size
 pub beyond-in-order : {carry : Bool} {patches : List Patch} {base : ℕ} {read sent log_bytes : List ℕ}
     → IsBeyond carry patches base read sent log_bytes → {image : List ℕ}
-    → length image ≤ image_limit → Begins (take image_limit read) image → {os : List Outcome}
+    → length image ≤ image_limit → IsBeginning (take image_limit read) image → {os : List Outcome}
     {last : List ℕ} → IsPatched carry patches os base image last
-    → Begins sent last × (whole_log patches os base read ≡ log_bytes ++ long_image)
+    → IsBeginning sent last × (whole_log patches os base read ≡ log_bytes ++ long_image)
 beyond-in-order {carry} {patches} {base} {read} {sent} {log_bytes} h {image} within begins {os} {last} patched =
     let none : begins.0 ≡ [] =
     no_bytes begins.0
@@ -182,7 +183,7 @@ module _ {carry : Bool} {patches : List Patch} {base : ℕ} {read sent log_bytes
   pub Going-within : length read ≤ image_limit
   Going-within = omega (arith, read-size, h.state.counts.within)
 
-  pub extends : (image : List ℕ) → Begins (take image_limit read) image
+  pub extends : (image : List ℕ) → IsBeginning (take image_limit read) image
       → (0 < machine.stage → image ≡ read) → Extends h.seen end image
   extends image begins ended =
       extends_by machine.stage h.seen h.tail read image h.state.seen_sizes h.came h.state.counts.short
@@ -226,7 +227,7 @@ module _ {carry : Bool} {patches : List Patch} {base : ℕ} {read sent log_bytes
   -- the lines that were logged are a prefix of the log
   pub log-begins : {image : List ℕ} → Extends h.seen end image → {os : List Outcome} {last : List ℕ}
       → IsPatched carry patches os base image last
-      → Begins log_bytes (whole_log patches os base read)
+      → IsBeginning log_bytes (whole_log patches os base read)
   log-begins x {os} patched =
       let k = known_now x patched in
       let begun = log_text-begins taken left h.outcomes k.back outcomes-length in (
@@ -306,12 +307,12 @@ module _ {carry : Bool} {patches : List Patch} {base : ℕ} {read sent log_bytes
   -- the bytes that were written are a prefix of the patched image
   pub sent-begins : {image : List ℕ} → Extends h.seen end image → (0 < machine.stage → image ≡ read)
       → {os : List Outcome} {last : List ℕ} → IsPatched carry patches os base image last
-      → Begins sent last
+      → IsBeginning sent last
   sent-begins x ended {os} {last} patched =
       let k = known_now x patched in
       elim (cases_lt machine.stage 2) [
         | inl early ↦
-            subst (λ l. Begins l last) (sym (open_sent (omega (arith, early))))
+            subst (λ l. IsBeginning l last) (sym (open_sent (omega (arith, early))))
             (bytes_of-begins h.done k.others last k.cut)
         | inr late ↦
             let closed : machine.stage ≡ 2 = omega (arith, late, h.sound.stage) in

@@ -1,12 +1,11 @@
 -- Indexing a script, line by line.
-use Rattle.std.proofs.Common.{◌≡◌, ℕ, zero, suc, ◌+◌, ◌<◌, ◌≤◌, Bool, List, [], ◌∷◌, ◌++◌, length, take, drop, get_or, Option, None, Some, Result, Ok, Err, refl, sym, ap, ◌∙◌, subst, arith, append_assoc, append-nil, length-append, add-one}
+use Rattle.std.proofs.Common.{◌≡◌, ℕ, zero, suc, ◌+◌, ◌<◌, ◌≤◌, Bool, List, [], ◌∷◌, ◌++◌, length, take, drop, get_or, Option, None, Some, Result, Ok, Err, refl, sym, ap, ◌∙◌, subst, arith, append-nil, length-append, add-one}
 use Rattle.std.specs.Prelude.{All, IfOk, cond, nat_le, true, false}
 use Rattle.std.proofs.Math.Nat.{add-zero}
 use Rattle.std.proofs.Math.ListN.{length-take}
 use Rattle.std.proofs.lemmas.List.{length-drop, length-take-le}
 use Rattle.std.proofs.Math.Seq.{drop-drop}
 use Rattle.cd_patch.specs.Blocks.{blocks_met}
-use Rattle.std.specs.List.{cons_option}
 use Rattle.std.specs.Option.{option_to_list}
 use Rattle.std.specs.Str.Lines.{lines}
 use Rattle.std.proofs.lemmas.List.Elements.{All-nil, All-push, All-head, All-tail}
@@ -23,7 +22,7 @@ use Rattle.cd_script.specs.declared.fault.ScriptFault.{ScriptFault}
 use Rattle.cd_script.specs.declared.fault.ScriptFault.TheVariants.{Head, TooMany}
 use Rattle.cd_script.specs.declared.version.Version.{Version}
 use Rattle.cd_script.proofs.ByLineLemmas.{reads-by_line}
-use Rattle.cd_script.proofs.LineLemmas.{with_front}
+use Rattle.cd_script.proofs.LineLemmas.{regroup, with_front}
 use Rattle.cd_c_scripts.specs.declared.entries.Entry.{Entry}
 use Rattle.cd_c_scripts.specs.declared.entries.Found.{Found}
 use Rattle.cd_c_scripts.specs.Indexing.{IndexesBy}
@@ -32,14 +31,6 @@ use Rattle.cd_c_scripts.specs.Entries.{AllBelow, AreEntries, IsEntry, IsIndexed,
 use Rattle.cd_script.specs.Order.{order}
 
 -- ---- the progress: `front` was read, and `rest` is left
-
-regroup : (front : List Patch) (found : Option Patch) (read : Result (List Patch) ScriptFault)
-    → with_front front (read >>= λ ps. Ok (cons_option found ps))
-    ≡ with_front (front ++ option_to_list found) read
-regroup front None (Ok ps) = ap (λ (qs : List Patch). Ok (qs ++ ps)) (sym (append-nil front))
-regroup front (Some p) (Ok ps) =
-    ap (λ (qs : List Patch). Ok qs) (sym (append_assoc front (p ∷ []) ps))
-regroup front found (Err e) = refl
 
 pub record Indexing (text : List ℕ) (version : Option Version) (number count start : ℕ)
     (entries : List Entry) : Type 0 where

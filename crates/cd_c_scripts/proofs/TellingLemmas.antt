@@ -7,7 +7,7 @@ use Rattle.cd_sector.specs.Image.{sector_limit}
 use Rattle.cd_sector.specs.declared.sector.TheConstants.{SECTOR_SIZE}
 use Rattle.cd_patch.specs.declared.outcome.Outcome.{Outcome}
 use Rattle.cd_run.specs.PatchLog.{counts_line, log_when_out_fails, outcome_line, refused_count}
-use Rattle.cd_run.specs.Messages.{long_image}
+use Rattle.cd_read.specs.Messages.{long_image}
 use Rattle.cd_run.specs.declared.run.PatchRun.{PatchRun}
 use Rattle.cd_run.specs.declared.run.Step.TheVariants.{Copy, Decide, End, Read, Send, SendTail}
 use Rattle.cd_run.specs.Running.{tail_at}

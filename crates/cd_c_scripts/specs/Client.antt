@@ -6,6 +6,7 @@ use Rattle.cd_script.specs.PatchForm.{Patch}
 use Rattle.cd_sector.specs.Image.{image_limit}
 use Rattle.cd_stream.specs.Stream.{Incoming, Outgoing}
 use Rattle.cd_stream.specs.Transfer.{Gives, Sends, Takes}
+use Rattle.cd_read.specs.Printing.{PrintsLine}
 use Rattle.cd_read.specs.Ends.{AnswersByEnd, AnswersByLength, AnswersTooLong, EndsWell}
 use Rattle.cd_read.specs.declared.fault.Fault.{Fault}
 use Rattle.cd_read.specs.declared.fault.Fault.TheVariants as fault
@@ -64,8 +65,10 @@ ReportsAs carry patches base start now result =
 
 -- the log after the line for a text that is not a script, for each result
 abbrev pub RefusesBy : List ℕ → Outgoing → Outgoing → Result ℕ Fault → Type 0
-RefusesBy line log log' (Ok status) = (status ≡ 2) × Takes log log' line × (log'.finished ≡ true)
-RefusesBy line log log' (Err f) = (f ≡ fault.Log) × (log'.failures ≡ log.failures + 1)
+RefusesBy line log log' (Ok status) =
+    (status ≡ 2) × Takes log log' line × (log'.finished ≡ true) × PrintsLine line log log'
+RefusesBy line log log' (Err f) =
+    (f ≡ fault.Log) × (log'.failures ≡ log.failures + 1) × PrintsLine line log log'
 
 -- a text that is not a script: nothing was read, nothing was written to the output, and the log has
 -- the line, or has failed
@@ -81,7 +84,7 @@ HasEnded image = IsAtEnd image.rest × (image.ended ≡ true)
 abbrev pub Says : {X : Type 0} → List ℕ → Outgoing → Outgoing → Result X Fault → Type 0
 Says line log log' (Ok done) =
     Takes log log' line × (log'.failures ≡ log.failures) × (log'.flushes ≡ log.flushes)
-Says line log log' (Err f) = (f ≡ fault.Log) × (log'.failures ≡ log.failures + 1)
+Says line log log' (Err f) = (f ≡ fault.Log) × Sends {X = ℕ} {E = Fault} log log' line (Err f)
 
 -- bytes were copied from the image to the output, fewer than requested only at the end of the
 -- image; or only a part of them, if one of the two has failed
@@ -160,7 +163,7 @@ LeadsToLine line start now (Ok status) =
     × Says {X = ℕ} line start.log now.log (Ok 0)
 LeadsToLine line start now (Err f) =
     (f ≡ fault.Log) × (now.image ≡ start.image) × (now.out ≡ start.out)
-    × (now.log.failures ≡ start.log.failures + 1)
+    × Sends {X = ℕ} {E = Fault} start.log now.log line (Err f)
 
 -- for each result of a step: it was carried out, or the client ends with an error as `apply` does
 abbrev pub TakesStep : Bool → List ℕ → List Entry → List Patch → ℕ → Streams → Streams → ScriptRun

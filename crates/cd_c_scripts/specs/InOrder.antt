@@ -4,17 +4,14 @@ use Rattle.std.specs.Prelude.{◌≡◌, ℕ, ◌+◌, ◌==◌, ◌<◌, ◌≤
 use Rattle.cd_script.specs.PatchForm.{Patch}
 use Rattle.cd_sector.specs.Image.{image_limit}
 use Rattle.cd_patch.specs.declared.outcome.Outcome.{Outcome}
-use Rattle.cd_run.specs.Messages.{long_image}
+use Rattle.cd_read.specs.Messages.{long_image}
+use Rattle.cd_stream.specs.Stream.{IsBeginning}
 use Rattle.cd_run.specs.PatchLog.{log_text, log_when_out_fails, log_when_too_long, sent_when_log_fails}
 use Rattle.cd_run.specs.Patched.{EachPatching}
 use Rattle.cd_c_scripts.specs.StepKinds.{copy_kind, log_kind, write_kind}
 use Rattle.cd_c_scripts.specs.declared.run_state.RunStep.{RunStep}
 use Rattle.cd_c_scripts.specs.declared.run_state.ScriptRun.{ScriptRun}
 use Rattle.cd_c_scripts.specs.declared.run_state.TheConstants.{OVER}
-
--- `front` is a prefix of `whole`
-abbrev pub Begins : List ℕ → List ℕ → Type 0
-Begins front whole = (rest : List ℕ) × (whole ≡ front ++ rest)
 
 -- the line of a step, if it has one
 abbrev pub logged_by : RunStep → List ℕ
@@ -24,7 +21,7 @@ logged_by step = if step.kind == log_kind then take step.size step.text else []
 -- read; once the run knows that the image has ended, it is these bytes
 pub record MayCome (run : ScriptRun) (read image : List ℕ) : Type 0 where
   pub within : length image ≤ image_limit
-  pub begins : Begins (take image_limit read) image
+  pub begins : IsBeginning (take image_limit read) image
   pub ended : (run.asked ≡ OVER) ⊎ (0 < run.machine.stage) → image ≡ read
 
 -- this holds for each way of patching each image that the run may have
@@ -47,9 +44,9 @@ whole_log patches outcomes base read =
 -- this step, the output has the bytes that `apply` has sent if its log fails there
 pub record IsInOrder (carry : Bool) (patches : List Patch) (base : ℕ)
     (read sent log_bytes : List ℕ) (run : ScriptRun) (step : RunStep) : Type 0 where
-  pub sent_begins : EachComing carry patches base run read (λ image outcomes last. Begins sent last)
+  pub sent_begins : EachComing carry patches base run read (λ image outcomes last. IsBeginning sent last)
   pub log_begins : EachComing carry patches base run read (λ image outcomes last.
-      Begins (log_bytes ++ logged_by step) (whole_log patches outcomes base read))
+      IsBeginning (log_bytes ++ logged_by step) (whole_log patches outcomes base read))
   pub lines_before : (step.kind ≡ write_kind) ⊎ (step.kind ≡ copy_kind)
       → EachComing carry patches base run read (λ image outcomes last. (k : ℕ) → k < step.size
       → length sent + k < length image

@@ -11,7 +11,9 @@ use Rattle.cd_sector.specs.Image.{base_limit, bytes_of, image_limit, sector_limi
 use Rattle.cd_sector.specs.declared.sector.TheConstants.{SECTOR_SIZE}
 use Rattle.cd_patch.specs.Blocks.{blocks_met}
 use Rattle.cd_patch.specs.declared.outcome.Outcome.{Outcome}
-use Rattle.cd_run.specs.Messages.{failed_read, long_image, long_script, script_fault_line}
+use Rattle.cd_read.specs.Messages.{failed_read, long_image}
+use Rattle.cd_stream.specs.Stream.{IsBeginning}
+use Rattle.cd_run.specs.Messages.{long_script, script_fault_line}
 use Rattle.cd_run.specs.PatchLog.{log_line, log_lines, log_text, log_when_too_long, refused_count, sent_when_too_long}
 use Rattle.cd_run.specs.Patched.{EachPatching, IsPatched}
 use Rattle.cd_run.specs.Running.{IsRun, Reached, closed_at, sent_bytes, tail_at, tail_bytes, window_of}
@@ -21,7 +23,7 @@ use Rattle.cd_run.specs.declared.run.Step.{Step}
 use Rattle.cd_run.specs.declared.run.Step.TheVariants.{Copy, Read, Decide, Send, SendTail, End}
 use Rattle.cd_c_scripts.specs.Entries.{AreEntries}
 use Rattle.cd_c_scripts.specs.Flags.{carries, copies}
-use Rattle.cd_c_scripts.specs.InOrder.{Begins, IsInOrder, logged_by}
+use Rattle.cd_c_scripts.specs.InOrder.{IsInOrder, logged_by}
 use Rattle.cd_c_scripts.specs.Lines.{version_of}
 use Rattle.cd_patch.specs.OutcomeNumbers.{outcome_block, outcome_number, outcome_offset}
 use Rattle.cd_c_scripts.specs.StepKinds.{copy_kind, end_kind, log_kind, read_kind, write_kind}
@@ -131,7 +133,7 @@ pub record IsBeyond (carry : Bool) (patches : List Patch) (base : ℕ) (read sen
   pub beyond : length read ≡ image_limit + 1
   pub sent_before : length sent ≡ sent_when_too_long patches base
   pub as_applied : EachPatching carry patches base (take image_limit read)
-      (λ outcomes last. Begins sent last × (log_bytes ≡ log_when_too_long patches outcomes base))
+      (λ outcomes last. IsBeginning sent last × (log_bytes ≡ log_when_too_long patches outcomes base))
 
 -- the same, after the line for this error was logged
 pub record IsTooLong (carry : Bool) (patches : List Patch) (base : ℕ) (read sent log_bytes : List ℕ)
@@ -239,6 +241,10 @@ pub record Goes (text : List ℕ) (es : List Entry) (patches : List Patch) (base
 -- the result in place of a number of entries: `CDPATCH_REFUSED`, which is `SIZE_MAX`
 abbrev pub refusal : ℕ
 refusal = 18446744073709551615
+
+-- the same for a script that is invalid or too long: `CDPATCH_INVALID`
+abbrev pub invalid_script : ℕ
+invalid_script = 18446744073709551614
 
 -- the line for an error of a script; empty if there is none
 abbrev pub some_line : Option ScriptFault → List ℕ

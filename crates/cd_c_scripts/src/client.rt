@@ -26,11 +26,10 @@ use crate::client_steps::{copy_step, finish_log, finish_output, log_step, read_s
 use crate::entries::Entry;
 use crate::run_begin::cdpatch_run_begin;
 use crate::run_next::cdpatch_run_next;
-use crate::run_state::{CARRY, COPY, END, READ, Rooms, RunStep, ScriptRun, UNKNOWN_SIZE, WRITE};
+use crate::run_state::{COPY, END, READ, Rooms, RunStep, ScriptRun, UNKNOWN_SIZE, WRITE};
 use cd_line::LINE_SIZE;
 use cd_read::Fault;
 use cd_run::PatchRun;
-use cd_script::MAX_BYTES;
 use cd_sector::Sector;
 use cd_stream::{Sink, Source};
 
@@ -108,33 +107,26 @@ fn lead<I: Source, O: Sink, L: Sink>(
     Ok(step.status)
 }
 
-/// The flags of a run: damage is carried or not, COPY may be requested, and old bytes are compared.
-fn flags_of(carry: bool) -> u32
-    ensures carries { carries result ≡ carry }
-    ensures asked { (ps : List ThePatch) → all_as_asked result ps ≡ ps }
-    ensures few { result < flag_limit }
-{
-    if carry { CARRY } else { 0 }
-}
-
 /// Begins a run, and requests its first step.
 fn begin(
     run: &mut ScriptRun,
     script: &[u8],
     base: u32,
-    carry: bool,
+    flags: u32,
     entries: &mut [Entry],
     hand: &mut [Sector],
     rooms: &mut Rooms,
     step: &mut RunStep,
 )
     requires base { base ≤ base_limit }
+    requires flags { flags < flag_limit }
     requires hand { block_limit ≤ length hand.old }
     ensures hand { block_limit ≤ length hand.new }
     ensures rooms { KeepsToRooms step.new }
     ensures led { (ps : List ThePatch) → length script.now ≤ text_limit → patches_in script.now ≡ Ok ps
         → length ps ≤ length entries.old → (start : Streams)
-        → IsLed carry script.now entries.new (order ps) base start start run.new hand.new step.new }
+        → IsLed (carries flags) script.now entries.new (all_as_asked flags (order ps)) base start start
+        run.new hand.new step.new }
     ensures too_long { text_limit < length script.now → (start : Streams)
         → IsSaying long_script start start run.new step.new }
     ensures fault { length script.now ≤ text_limit → (e : TheFault) → patches_in script.now ≡ Err e
@@ -143,7 +135,7 @@ fn begin(
         → patches_in script.now ≡ Ok ps → length entries.old < length ps → (start : Streams)
         → IsSaying [] start start run.new step.new }
 {
-    cdpatch_run_begin(run, script, base, UNKNOWN_SIZE, flags_of(carry), entries);
+    cdpatch_run_begin(run, script, base, UNKNOWN_SIZE, flags, entries);
     cdpatch_run_next(run, 0, script, entries, hand, rooms, step);
 }
 
@@ -216,22 +208,24 @@ pub fn run_script<I: Source, O: Sink, L: Sink>(
     image: &mut I,
     script: &[u8],
     base: u32,
-    carry: bool,
+    flags: u32,
     entries: &mut [Entry],
     hand: &mut [Sector],
+    rooms: &mut Rooms,
     out: &mut O,
     log: &mut L,
 ) -> Result<u32, Fault>
     requires base { base ≤ base_limit }
+    requires flags { flags < flag_limit }
     requires image_countable { CanCountFailure (I.seen image.old).failures }
     requires out_countable { CanCountFailure (O.seen out.old).failures }
     requires log_countable { CanCountFailure (L.seen log.old).failures }
     requires hand { block_limit ≤ length hand.old }
-    // For a script, the clauses of `apply`, word for word.
+    // For a script, the clauses of `apply`, word for word, on the patches as the flags require them.
     ensures applies { (ps : List ThePatch) → length script.now ≤ text_limit
         → patches_in script.now ≡ Ok ps → length ps ≤ length entries.old
-        → AppliesAs carry (order ps) base (I.seen image.old) (I.seen image.new)
-        (O.seen out.old) (O.seen out.new) (L.seen log.old) (L.seen log.new) result }
+        → AppliesAs (carries flags) (all_as_asked flags (order ps)) base (I.seen image.old)
+        (I.seen image.new) (O.seen out.old) (O.seen out.new) (L.seen log.old) (L.seen log.new) result }
     // For a text that is not a script, the line for its error.
     ensures too_long { text_limit < length script.now
         → Refuses long_script (streams (I.seen image.old) (O.seen out.old) (L.seen log.old))
@@ -247,15 +241,11 @@ pub fn run_script<I: Source, O: Sink, L: Sink>(
 {
     let mut run = no_run();
     let mut step = no_step();
-    let mut rooms = Rooms {
-        new_bytes: [0; MAX_BYTES],
-        old_bytes: [0; MAX_BYTES],
-    };
     begin(
-        &mut run, script, base, carry, entries, hand, &mut rooms, &mut step,
+        &mut run, script, base, flags, entries, hand, rooms, &mut step,
     );
     let status = lead(
-        &mut run, script, entries, hand, &mut rooms, &mut step, image, out, log,
+        &mut run, script, entries, hand, rooms, &mut step, image, out, log,
     )?;
     close(status, out, log)
 }

@@ -7,7 +7,6 @@ ghost use Rattle.cd_script.specs.PatchForm.{Patch as ThePatch};
 ghost use Rattle.cd_patch.specs.Blocks.{block_limit};
 ghost use Rattle.cd_stream.specs.Stream.{CanCountFailure, Incoming, Outgoing};
 ghost use Rattle.cd_stream.specs.Transfer.{Fills, Flushes, Sends};
-ghost use Rattle.cd_read.specs.declared.fault.Fault.TheVariants.{Log};
 ghost use Rattle.cd_image.specs.Applying.{Streams, streams};
 ghost use Rattle.cd_c_scripts.specs.Client.{IsLed, Passes, Says, TakesStep};
 ghost use Rattle.cd_c_scripts.specs.StepKinds.{copy_kind, log_kind, read_kind, write_kind};
@@ -15,31 +14,12 @@ ghost use Rattle.cd_c_scripts.specs.declared.entries.Entry.{Entry as TheEntry};
 ghost use Rattle.cd_c_scripts.specs.declared.run_state.ScriptRun.{ScriptRun as TheRun};
 
 use crate::run_state::{LOG, READ, RunStep, WRITE};
-use cd_read::Fault;
+use cd_read::{Fault, LogFailed};
 use cd_sector::{MAX_SECTORS, SECTOR_SIZE, Sector};
 use cd_stream::{Sink, SinkFailed, Source, SourceFailed, fill_buffer, write_all};
 
 /// The largest size of an image, in bytes.
-const LARGEST: u64 = 2_352_000_000;
-
-/// A write to the log, or its flush, has failed. A separate type, so that `?` maps it to
-/// `Fault::Log`.
-#[derive(Clone, Copy, Debug)]
-pub(crate) struct LogFailed;
-
-impl From<SinkFailed> for LogFailed {
-    fn from(_: SinkFailed) -> Self {
-        LogFailed
-    }
-}
-
-impl From<LogFailed> for Fault {
-    ghost from_gives = { λ _ fault. fault ≡ Log };
-
-    fn from(_: LogFailed) -> Self {
-        Fault::Log
-    }
-}
+const LARGEST: u64 = MAX_SECTORS as u64 * SECTOR_SIZE as u64;
 
 /// Proof step: reads `size` bytes to the sector at `place`, so that a clause can say that the
 /// sectors before it do not change.

@@ -43,7 +43,7 @@ pub(crate) struct ScriptIndex {
     pub count: usize,
 }
 
-/// The number of blocks that a patch touches.
+/// Proof step: the number of blocks that a patch touches, by the definition for patches.
 pub(crate) fn blocks_met(patch: &HexPatch<'_>) -> u32
     requires { IsPatch patch.now }
     ensures number { result ≡ blocks_met patch.now }
@@ -53,7 +53,7 @@ pub(crate) fn blocks_met(patch: &HexPatch<'_>) -> u32
     blocks_met_spelled(patch) as u32
 }
 
-/// The number of a version.
+/// Proof step: the number of a version, from which a run finds the version again.
 pub(crate) fn version_number(version: Version) -> u32
     ensures { version_of result ≡ Some (Some version) }
 {
@@ -69,7 +69,7 @@ fn sort(entries: &mut [Entry])
         + u64::from(entry.number));
 }
 
-/// Puts entries in the order of application.
+/// Proof step: sorts entries. Its contract says that this is the order of application.
 fn put_in_order(entries: &mut [Entry])
     ensures size { length entries.new ≡ length entries.old }
     ensures order { (text : List ℕ) (version : TheVersion) (ps : List ThePatch)

@@ -13,6 +13,7 @@ mod cutting;
 mod deciding;
 mod entries;
 mod flat_patch;
+mod images;
 mod laws;
 mod lines;
 mod moving;
@@ -21,3 +22,5 @@ mod run_begin;
 mod run_next;
 mod run_state;
 mod telling;
+#[cfg(test)]
+mod tests;

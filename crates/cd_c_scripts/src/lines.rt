@@ -27,28 +27,27 @@ pub(crate) fn version_of(version: u32) -> Option<Option<Version>>
 /// Reads one line of a script, without its end, as [`read_line`], and returns a number of
 /// `enum cdpatch_content`. `version` is 0 before the head line, and then the number that was
 /// returned for the head line. `earlier` is the number of patches before this line. A patch is
-/// written to `patch`, and its new and old bytes to the front of `new_bytes` and `old_bytes`. If
-/// the line is not a patch, nothing is written.
+/// written to `patch`, which has no line number, and its new and old bytes to the front of
+/// `new_bytes` and `old_bytes`. If the line is not a patch, nothing is written.
 #[unsafe(no_mangle)]
 pub extern "C" fn cdpatch_read_line(
     version: u32,
-    number: u32,
     earlier: usize,
     line: &[u8],
     patch: &mut FlatPatch,
     new_bytes: &mut [u8; MAX_BYTES],
     old_bytes: &mut [u8; MAX_BYTES],
 ) -> u32
-    ensures answer { result ≡ answer_number (line_read version number earlier line.now) }
-    ensures patch { IfSome (patch_read (line_read version number earlier line.now))
+    ensures answer { result ≡ answer_number (line_read version 0 earlier line.now) }
+    ensures patch { IfSome (patch_read (line_read version 0 earlier line.now))
         (λ p. flat_patch p.line patch.new new_bytes.new old_bytes.new ≡ Some p) }
-    ensures record { IfSome (patch_read (line_read version number earlier line.now))
+    ensures record { IfSome (patch_read (line_read version 0 earlier line.now))
         (λ p. patch.new ≡ record_of p.block p.offset p.edit) }
     ensures limits { result ≡ PATCH
-        → IsSomePatch (flat_patch number patch.new new_bytes.new old_bytes.new) }
-    ensures new_room { IfSome (patch_read (line_read version number earlier line.now))
+        → IsSomePatch (flat_patch 0 patch.new new_bytes.new old_bytes.new) }
+    ensures new_room { IfSome (patch_read (line_read version 0 earlier line.now))
         (λ p. new_bytes.new ≡ with_front (new_of p.edit) new_bytes.old) }
-    ensures old_room { IfSome (patch_read (line_read version number earlier line.now))
+    ensures old_room { IfSome (patch_read (line_read version 0 earlier line.now))
         (λ p. old_bytes.new ≡ with_front (old_of p.edit) old_bytes.old) }
     ensures patch_stays { result ≢ PATCH → patch.new ≡ patch.old }
     ensures new_stays { result ≢ PATCH → new_bytes.new ≡ new_bytes.old }
@@ -57,7 +56,7 @@ pub extern "C" fn cdpatch_read_line(
     let Some(version) = version_of(version) else {
         return NO_VERSION;
     };
-    match read_line(version, number, earlier, line) {
+    match read_line(version, 0, earlier, line) {
         Ok(LineContent::PassedOver) => 0,
         Ok(LineContent::Head(named)) => named.number(),
         Ok(LineContent::Patch(found)) => {

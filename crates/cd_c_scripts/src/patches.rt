@@ -4,11 +4,13 @@ ghost use Rattle.std.specs.Prelude.{◌≡◌, ◌≢◌, ◌↔◌, IfSome};
 ghost use Rattle.cd_script.specs.Patch.{IsPatch};
 ghost use Rattle.cd_patch.specs.Deciding.{outcome};
 ghost use Rattle.cd_patch.specs.Effect.{Effect};
+ghost use Rattle.cd_c_scripts.specs.Flags.{carries};
 ghost use Rattle.cd_c_scripts.specs.FlatPatch.{IsSomePatch, flat_patch};
 ghost use Rattle.cd_patch.specs.OutcomeNumbers.{no_patch, outcome_number};
 ghost use Rattle.cd_c_scripts.specs.Outcomes.{place_after};
 
 use crate::flat_patch::{FlatPatch, patch_of};
+use crate::run_state::carries;
 use cd_patch::result_numbers::NO_PATCH;
 use cd_patch::{Outcome, apply_lent};
 use cd_script::{MAX_BYTES, is_patch};
@@ -40,25 +42,26 @@ fn note_place(outcome: Outcome, place: &mut Place)
 /// Decides a patch on sectors, and applies it if it is accepted, as [`apply_lent`]. `sectors` has
 /// the sectors of the image from the patch's first block on; at most three of them are used. The
 /// patch is `patch`, with its bytes at the front of `new_bytes` and `old_bytes`, as
-/// `cdpatch_read_line` writes them. Returns a number of `enum cdpatch_result`. If the patch is
-/// refused, `place` gets the block and the byte. A record that is not a patch changes nothing.
+/// `cdpatch_read_line` writes them. Of the flags of a run, only that for damage has an effect.
+/// Returns a number of `enum cdpatch_result`. If the patch is refused, `place` gets the block and
+/// the byte. A record that is not a patch changes nothing.
 #[unsafe(no_mangle)]
 pub extern "C" fn cdpatch_apply_patch(
     patch: &FlatPatch,
     new_bytes: &[u8; MAX_BYTES],
     old_bytes: &[u8; MAX_BYTES],
     sectors: &mut [Sector],
-    carry: bool,
+    flags: u32,
     place: &mut Place,
 ) -> u32
     ensures patch { IsSomePatch (flat_patch 0 patch.now new_bytes.now old_bytes.now)
         ↔ (result ≢ no_patch) }
     ensures outcome { IfSome (flat_patch 0 patch.now new_bytes.now old_bytes.now) (λ p. IsPatch p
-        → result ≡ outcome_number (outcome carry sectors.old p.block p)) }
+        → result ≡ outcome_number (outcome (carries flags) sectors.old p.block p)) }
     ensures place { IfSome (flat_patch 0 patch.now new_bytes.now old_bytes.now) (λ p. IsPatch p
-        → place.new ≡ place_after (outcome carry sectors.old p.block p) place.old) }
+        → place.new ≡ place_after (outcome (carries flags) sectors.old p.block p) place.old) }
     ensures effect { IfSome (flat_patch 0 patch.now new_bytes.now old_bytes.now) (λ p. IsPatch p
-        → Effect carry p.block p sectors.old sectors.new) }
+        → Effect (carries flags) p.block p sectors.old sectors.new) }
     ensures sectors_stay { result ≡ no_patch → sectors.new ≡ sectors.old }
     ensures place_stays { result ≡ no_patch → place.new ≡ place.old }
 {
@@ -68,7 +71,7 @@ pub extern "C" fn cdpatch_apply_patch(
     if !is_patch(&patch) {
         return NO_PATCH;
     }
-    let outcome = apply_lent(sectors, &patch, carry);
+    let outcome = apply_lent(sectors, &patch, carries(flags));
     note_place(outcome, place);
     outcome.number()
 }

@@ -30,7 +30,8 @@ use crate::telling::{
 };
 use cd_line::{LINE_SIZE, Line};
 use cd_patch::MAX_BLOCKS_MET;
-use cd_run::{Step, counts_line, failed_read_line, long_image_line};
+use cd_read::{failed_read_line, long_image_line};
+use cd_run::{Step, counts_line};
 use cd_sector::{SECTOR_SIZE, Sector};
 
 /// The first `count` entries; `None` if there are fewer.

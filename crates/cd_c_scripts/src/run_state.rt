@@ -5,8 +5,10 @@ ghost use Rattle.std.specs.Prelude.{◌≡◌};
 ghost use Rattle.cd_c_scripts.specs.Flags.{carries, compares, copies};
 
 use cd_line::LINE_SIZE;
+use cd_patch::MAX_BLOCKS_MET;
 use cd_run::PatchRun;
 use cd_script::MAX_BYTES;
+use cd_sector::Sector;
 
 /// No bytes are requested, or the step is a line of the log.
 pub(crate) const NOTHING: u32 = 0;
@@ -18,19 +20,19 @@ pub(crate) const COPYING: u32 = 1;
 pub(crate) const READING: u32 = 2;
 
 /// The first sector in hand is to be written.
-pub(crate) const WRITING: u32 = 4;
+pub(crate) const WRITING: u32 = 3;
 
 /// The tail is to be written.
-pub(crate) const WRITING_TAIL: u32 = 5;
+pub(crate) const WRITING_TAIL: u32 = 4;
 
 /// The last line of the log was returned.
-pub(crate) const OVER: u32 = 6;
+pub(crate) const OVER: u32 = 5;
 
 /// The run has stopped: no call continues it.
-pub(crate) const STOPPED: u32 = 7;
+pub(crate) const STOPPED: u32 = 6;
 
 /// The script has an error: no run has begun, and the next step is the line for the error.
-pub(crate) const FAULTY: u32 = 8;
+pub(crate) const FAULTY: u32 = 7;
 
 /// The error number of a script that is too long. No content of a line has this number.
 pub(crate) const TOO_LONG: u32 = 16;
@@ -39,7 +41,7 @@ pub(crate) const TOO_LONG: u32 = 16;
 pub(crate) const UNKNOWN_SIZE: u64 = u64::MAX;
 
 /// The flag that damage is carried.
-pub(crate) const CARRY: u32 = 1;
+const CARRY: u32 = 1;
 
 /// The flag that COPY is not requested.
 const NO_COPY: u32 = 2;
@@ -69,8 +71,10 @@ pub struct ScriptRun {
     pub machine: PatchRun,
     /// The current request, one of the numbers from [`NOTHING`] on.
     pub asked: u32,
-    /// The number of sectors that may be copied; at the end, the status; for a script with an
-    /// error, the number of the error.
+    /// A number that depends on the request:
+    /// - [`COPYING`]: how many sectors may be copied;
+    /// - [`OVER`]: the status;
+    /// - [`FAULTY`]: the number of the script's error.
     pub most: u32,
     /// The line of the script that has the error.
     pub line: u32,
@@ -95,6 +99,17 @@ pub struct Rooms {
     pub new_bytes: [u8; MAX_BYTES],
     /// The bytes that the patch expects.
     pub old_bytes: [u8; MAX_BYTES],
+}
+
+/// Memory for a call on an image in memory: the sectors in hand, and the bytes of one patch. As C's
+/// `struct cdpatch_buffers`.
+#[derive(Clone, Copy)]
+#[repr(C)]
+pub struct Buffers {
+    /// The sectors in hand.
+    pub hand: [Sector; MAX_BLOCKS_MET],
+    /// The bytes of a patch.
+    pub rooms: Rooms,
 }
 
 /// The next step of a client, as C's `struct cdpatch_step`.

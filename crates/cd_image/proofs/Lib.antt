@@ -4,3 +4,4 @@ pub mod ApplyReportLemmas
 pub mod CloseLemmas
 pub mod KnownLemmas
 pub mod PassingLemmas
+pub mod RunningLemmas

@@ -2,9 +2,9 @@
 
 use cd_stream::{Count, Sink, SinkFailed};
 
-/// The output of `check`: keeps no byte, and never fails.
+/// The output of a check: keeps no byte, and never fails.
 #[derive(Debug, Drop)]
-pub(crate) struct NullSink {
+pub struct NullSink {
     taken: Count,
     flushes: Count,
     finished: bool,
@@ -14,7 +14,7 @@ impl NullSink {
     ghost use Rattle.std.specs.Prelude.{◌≡◌, None, false};
 
     /// Creates a sink to which nothing has been written.
-    pub(crate) fn new() -> Self
+    pub fn new() -> Self
         ensures seen { ⟦<NullSink as Sink>⟧.seen result
             ≡ record {
               written = None;

@@ -27,6 +27,7 @@
 #![tactic(auto)]
 
 mod applying;
+mod commands;
 mod discard;
 mod pass;
 mod patch_log;
@@ -39,4 +40,6 @@ pub use cd_stream::{
     Buffered, FailAfter, FromRead, Short, Sink, SinkFailed, SliceSink, SliceSource, Source,
     SourceFailed, ToWrite, ZeroSource,
 };
+pub use commands::{run_apply, run_check};
+pub use discard::NullSink;
 pub use patch_log::Tally;

@@ -1,16 +1,14 @@
 //! Writes the log: a line for each patch, then a line with their counts.
 
-ghost use Rattle.std.specs.Prelude.{◌≡◌};
 ghost use Rattle.cd_stream.specs.Transfer.{Flushes, Sends};
-ghost use Rattle.cd_read.specs.declared.fault.Fault.TheVariants.{Log};
 ghost use Rattle.cd_run.specs.PatchLog.{counts_line, log_line};
 ghost use Rattle.cd_stream.specs.Stream.{CanCountFailure};
 
 use cd_patch::Outcome;
-use cd_read::Fault;
+use cd_read::LogFailed;
 use cd_run::{counts_line, outcome_line};
 use cd_script::Patch;
-use cd_stream::{Sink, SinkFailed, write_all};
+use cd_stream::{Sink, write_all};
 
 /// The numbers of accepted and refused patches, and the size of the image.
 #[derive(Clone, Copy, Debug, PartialEq, Eq)]
@@ -23,25 +21,6 @@ pub struct Tally {
     pub sectors: u32,
     /// Bytes after the last complete sector.
     pub tail: u16,
-}
-
-/// A write or a flush of the log failed, and the sink has counted the failure. It is a separate
-/// type so that `?` maps it to `Fault::Log`; a `SinkFailed` becomes the `Fault` of the output.
-#[derive(Clone, Copy, Debug)]
-pub(crate) struct LogFailed;
-
-impl From<SinkFailed> for LogFailed {
-    fn from(_: SinkFailed) -> Self {
-        LogFailed
-    }
-}
-
-impl From<LogFailed> for Fault {
-    ghost from_gives = { λ _ fault. fault ≡ Log };
-
-    fn from(_: LogFailed) -> Self {
-        Fault::Log
-    }
 }
 
 /// Writes the line of a patch.

@@ -14,4 +14,4 @@
 
 mod line;
 
-pub use line::{LINE_SIZE, Line};
+pub use line::{LINE_SIZE, Line, text_line};

@@ -103,3 +103,19 @@ impl Line {
         bytes.len()
     }
 }
+
+/// Makes a line of this text, which includes its line feed.
+///
+/// # Examples
+///
+/// ```
+/// assert_eq!(rt; text_line(b"no memory\n").as_slice(), b"no memory\n".as_slice());
+/// ```
+pub fn text_line(text: &[u8]) -> Line
+    requires { length text.now ≤ LINE_SIZE }
+    ensures { result ≡ text.now }
+{
+    let mut line = Line::new();
+    line.push_text(text);
+    line
+}

@@ -1,9 +1,7 @@
-pub mod KnownLemmas
+mod KnownLemmas
 mod MemoryLemmas
+mod PatchLemmas
 mod PrintLemmas
 mod ReportLemmas
-pub mod RoomLemmas
-pub mod RoomReportLemmas
 mod ScriptLemmas
-mod PatchLemmas
 mod WholeLemmas

@@ -1,22 +1,24 @@
 -- `check` and `apply` on a script and an image that exist.
 use Rattle.std.proofs.Common.{◌≡◌, ◌≢◌, ℕ, ◌+◌, ◌≤◌, false, List, [], ◌++◌, length, take, Some, Result, Ok, Err, refl, sym, ap, ◌∙◌, subst, arith, length-append}
-use Rattle.cd_image.specs.Applying.{Applies, Begins, Streams}
-use Rattle.cd_image.specs.Applying.{patch_tally}
+use Rattle.cd_image.specs.Applying.{Applies, Begins, Streams, patch_tally}
 use Rattle.cd_run.specs.Patched.{EachPatching, IsPatched}
 use Rattle.cd_image.specs.declared.patch_log.Tally.{Tally}
-use Rattle.cd_args.specs.Fault.{failed_status}
+use Rattle.cd_read.specs.Status.{failed_status}
 use Rattle.cd_read.specs.Ends.{MayBeImage, MayBeImageAtEnd}
 use Rattle.cd_sector.specs.Image.{image_limit}
 use Rattle.cd_read.specs.declared.fault.Fault.{Fault}
 use Rattle.cd_read.specs.declared.fault.Fault.TheVariants.{Log, Read, TooLong, Write}
 use Rattle.cd_stream.specs.Stream.{Outgoing}
 use Rattle.std.specs.Io.KnownBytes.{Appends, Consumes, IsAtEnd}
-use Rattle.cd_program.specs.Messages.{fault_line}
-use Rattle.cd_program.specs.Commands.{Ends, PrintsLine, script_status}
+use Rattle.cd_read.specs.Messages.{fault_line}
+use Rattle.cd_read.specs.Printing.{Ends, PrintsLine}
+use Rattle.cd_image.specs.Running.{script_status}
 use Rattle.cd_args.specs.declared.settings.Settings.{Settings}
-use Rattle.cd_memory.specs.Memory.{fresh_outgoing}
+use Rattle.cd_stream.specs.Rooms.{fresh_outgoing}
 use Rattle.cd_memory.specs.Whole.{Environment, Opened, Patches, Prints, ProgramResult, StopsPatching, WhyPatchingStopped}
-use Rattle.cd_memory.proofs.KnownLemmas.{Appends-Some, Consumes-known, Fits-beyond, MayBeImageAtEnd-within, Some-injective, cut-by-failure, read-whole, whole-by-none}
+use Rattle.cd_stream.proofs.KnownLemmas.{Appends-Some, Consumes-known, Some-injective}
+use Rattle.cd_read.proofs.KnownLemmas.{Fits-beyond, MayBeImageAtEnd-within, read-whole}
+use Rattle.cd_memory.proofs.KnownLemmas.{cut-by-failure, whole-by-none}
 use Rattle.cd_memory.proofs.PrintLemmas.{Leaves, Prints-line}
 
 -- the call was completed or stopped, with these bytes sent

@@ -3,9 +3,10 @@ use Rattle.std.proofs.Common.{◌≡◌, ℕ, ◌+◌, true, false, nat_eq, List
 use Rattle.cd_stream.specs.Stream.{Outgoing}
 use Rattle.cd_stream.specs.Transfer.{Counts}
 use Rattle.cd_stream.specs.declared.sink.SinkFailed.{SinkFailed}
-use Rattle.cd_program.specs.Commands.{PrintsLine}
+use Rattle.cd_read.specs.Printing.{PrintsLine}
 use Rattle.cd_memory.specs.Whole.{Prints, ProgramResult}
-use Rattle.cd_memory.proofs.KnownLemmas.{Appends-known, cut-by-failure}
+use Rattle.cd_stream.proofs.KnownLemmas.{Appends-known}
+use Rattle.cd_memory.proofs.KnownLemmas.{cut-by-failure}
 
 -- the result has the text written to this sink, and all of it if none of its calls failed
 pub record Leaves (after : Outgoing) (left : ProgramResult) : Type 0 where

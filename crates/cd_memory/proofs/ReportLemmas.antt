@@ -8,11 +8,13 @@ use Rattle.cd_read.specs.declared.fault.Fault.TheVariants.{Log, Read, TooLong, W
 use Rattle.cd_report.specs.Lines.{text_of}
 use Rattle.cd_report.specs.Report.{Reports, ReportSpec}
 use Rattle.cd_stream.specs.Stream.{Incoming, Outgoing}
-use Rattle.cd_program.specs.Messages.{fault_line}
-use Rattle.cd_program.specs.Commands.{Ends}
-use Rattle.cd_memory.specs.Memory.{fresh_outgoing}
+use Rattle.cd_read.specs.Messages.{fault_line}
+use Rattle.cd_read.specs.Printing.{Ends}
+use Rattle.cd_stream.specs.Rooms.{fresh_outgoing}
 use Rattle.cd_memory.specs.Whole.{Environment, ProgramResult, ReportsOn, WhyStopped, image_at}
-use Rattle.cd_memory.proofs.KnownLemmas.{Appends-Some, Consumes-known, Fits-beyond, MayBeImageAtEnd-within, Some-injective, cut-by-failure, read-front, read-whole, whole-by-none}
+use Rattle.cd_stream.proofs.KnownLemmas.{Appends-Some, Consumes-known, Some-injective}
+use Rattle.cd_read.proofs.KnownLemmas.{Fits-beyond, MayBeImageAtEnd-within, read-front, read-whole}
+use Rattle.cd_memory.proofs.KnownLemmas.{cut-by-failure, whole-by-none}
 use Rattle.cd_memory.proofs.PrintLemmas.{Leaves, Prints-line}
 
 module _ {T : Type 0} (spec : ReportSpec T) (status_of : T → ℕ) (before : Environment) (after : ProgramResult)

@@ -12,16 +12,18 @@ use Rattle.cd_stream.specs.Transfer.{Gives}
 use Rattle.cd_stream.specs.declared.adapters.slice_source.SliceSource.{SliceSource}
 use Rattle.cd_program.specs.Messages.{load_fault_line, no_script, open_fault_line}
 use Rattle.cd_run.specs.Messages.{script_fault_line}
-use Rattle.cd_program.specs.Program.{ComesOfFile, PrintsAndFails, ReadsScript}
-use Rattle.cd_program.specs.Commands.{PrintsLine}
+use Rattle.cd_program.specs.Program.{ComesOfFile, ReadsScript}
+use Rattle.cd_read.specs.Printing.{PrintsAndFails, PrintsLine}
 use Rattle.cd_program.specs.ScriptLines.{IsFaultOf, StopsLoading}
 use Rattle.cd_program.specs.declared.host.OpenFault.{OpenFault}
 use Rattle.cd_program.specs.declared.script.LoadFault.{LoadFault}
 use Rattle.cd_program.specs.declared.script.LoadFault.TheVariants.{NoMemory, Read, TooLong}
 use Rattle.cd_memory.specs.Files.{file_bytes}
-use Rattle.cd_memory.specs.Memory.{Opens, fresh_incoming, memory_hosting}
+use Rattle.cd_memory.specs.Memory.{Opens, memory_hosting}
+use Rattle.cd_stream.specs.Rooms.{fresh_incoming}
 use Rattle.cd_memory.specs.Whole.{Environment, HasPatches, NoPatches}
-use Rattle.cd_memory.proofs.KnownLemmas.{Consumes-known, read-whole}
+use Rattle.cd_stream.proofs.KnownLemmas.{Consumes-known}
+use Rattle.cd_read.proofs.KnownLemmas.{read-whole}
 
 memory-or-other : (fault : ScriptFault)
     → (fault ≡ script_fault.NoMemory) ⊎ (fault ≢ script_fault.NoMemory)

@@ -1,6 +1,7 @@
 -- From the effect of the program on a host to its effect on files in memory.
 use Rattle.std.proofs.Common.{◌≡◌, ◌≢◌, ℕ, suc, zero, Bool, true, false, List, [], ◌∷◌, ◌++◌, Option, None, Some, Result, Ok, Err, is_some, string_bytes, refl, sym, ap, ◌∙◌, subst, inl, inr}
-use Rattle.cd_args.specs.Fault.{done_status, failed_status, no_memory, printed}
+use Rattle.cd_read.specs.Status.{done_status, failed_status}
+use Rattle.cd_args.specs.Fault.{no_memory, printed}
 use Rattle.cd_args.specs.declared.job.Job.{Job}
 use Rattle.cd_args.specs.Options.{task_of}
 use Rattle.cd_args.specs.Task.{Task}
@@ -16,18 +17,21 @@ use Rattle.cd_stream.specs.Adapters.{slice_incoming}
 use Rattle.cd_stream.specs.Stream.{Outgoing}
 use Rattle.cd_stream.specs.declared.adapters.slice_source.SliceSource.{SliceSource}
 use Rattle.cd_program.specs.Messages.{no_image, no_output, open_fault_line}
-use Rattle.cd_program.specs.Program.{DoesApply, DoesCheck, DoesReport, NoImage, NoScript, RunsJob, RunsTask, TakesImage, TakesScript}
+use Rattle.cd_program.specs.Program.{DoesApply, DoesCheck, DoesReport, NoImage, NoScript, RunsJob, RunsTask, TakesImage, TakesScript, FlushesRest, RefusesArgs, RunsArgs}
 use Rattle.std.specs.Io.KnownBytes.{Appends}
-use Rattle.cd_program.specs.Program.{FlushesRest, RefusesArgs, RunsArgs}
-use Rattle.cd_program.specs.Commands.{Ends, PrintsLine, audit_status, script_status}
+use Rattle.cd_read.specs.Printing.{Ends, PrintsLine}
+use Rattle.cd_report.specs.Running.{audit_status}
+use Rattle.cd_image.specs.Running.{script_status}
 use Rattle.cd_program.specs.declared.host.OpenFault.{OpenFault}
 use Rattle.cd_program.specs.declared.host.OpenFault.TheVariants.{NoMemory, Refused}
 use Rattle.cd_args.specs.declared.settings.Settings.{Settings}
 use Rattle.cd_memory.specs.Files.{file_bytes, named_file, with_bytes}
 use Rattle.cd_memory.specs.declared.memory.Memory.{Memory}
-use Rattle.cd_memory.specs.Memory.{Makes, Opens, TakesBack, files_of, fresh_incoming, fresh_outgoing, input_of, is_there, made_of, memory_hosting}
+use Rattle.cd_memory.specs.Memory.{Makes, Opens, TakesBack, files_of, input_of, is_there, made_of, memory_hosting}
+use Rattle.cd_stream.specs.Rooms.{fresh_incoming, fresh_outgoing}
 use Rattle.cd_memory.specs.Whole.{AppliesOn, ChecksOn, DoesOn, DoesTask, Environment, Explains, FailsWith, HasPatches, NoPatches, Opened, ProgramResult, ReportsOn, RunsOn, environment, image_at}
-use Rattle.cd_memory.proofs.KnownLemmas.{Appends-Some, Keeps-Some, Some-injective, none-failed, some-failed}
+use Rattle.cd_stream.proofs.KnownLemmas.{Appends-Some, Keeps-Some, Some-injective}
+use Rattle.cd_memory.proofs.KnownLemmas.{none-failed, some-failed}
 use Rattle.cd_memory.proofs.MemoryLemmas.{TakesImage-opens, absent-of, there-of, with_bytes-one}
 use Rattle.cd_memory.proofs.PatchLemmas.{Took, takes}
 use Rattle.cd_memory.proofs.PrintLemmas.{Leaves, Prints-line}

@@ -1,5 +1,3 @@
 pub mod Files
 pub mod Memory
-pub mod Reports
-pub mod Rooms
 pub mod Whole

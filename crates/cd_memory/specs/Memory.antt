@@ -3,6 +3,7 @@ use Rattle.std.specs.Prelude.{◌≡◌, ℕ, Bool, false, true, ◌||◌, List,
 use Rattle.std.specs.Prelude.{Option, None, Some, Result, Ok, Err}
 use Rattle.cd_stream.specs.Stream.{Incoming, Outgoing}
 use Rattle.cd_stream.specs.Adapters.{slice_incoming}
+use Rattle.cd_stream.specs.Rooms.{fresh_incoming, fresh_outgoing}
 use Rattle.cd_stream.specs.declared.adapters.slice_source.SliceSource.{SliceSource}
 use Rattle.cd_program.specs.Hosting.{Hosting}
 use Rattle.cd_program.specs.declared.host.OpenFault.{OpenFault}
@@ -31,23 +32,6 @@ is_there h name = is_some (file_bytes (files_of h) name) || is_some (file_bytes 
 pub record Stays (h h' : Memory) : Type 0 where
   pub files : files_of h' ≡ files_of h
   pub input : input_of h' ≡ input_of h
-
--- a source of these bytes, before its first read
-abbrev pub fresh_incoming : List ℕ → Incoming
-fresh_incoming bytes = record { rest = Some bytes; given = 0; failures = 0; ended = false }
-
--- a sink in memory to which nothing was written yet; its flush never fails, and no slice was lent
--- to it
-abbrev pub fresh_outgoing : Outgoing
-fresh_outgoing = record {
-  written = Some [];
-  taken = 0;
-  flushes = 0;
-  failures = 0;
-  finished = false;
-  flush_may_fail = false;
-  lent = None;
-}
 
 -- memory that grows, as contracts see it: all bytes written to it are known, and its flush never
 -- fails

@@ -3,7 +3,9 @@ use Rattle.std.specs.Prelude.{◌≡◌, ◌≢◌, ℕ, ◌+◌, ◌<◌, ◌�
 use Rattle.std.specs.Prelude.{codes, if◌then◌else◌, Option, None, Some, Ok, Err}
 use Rattle.std.specs.Str.{bytes_eq}
 use Rattle.cd_args.specs.CommandLine.{IsAccepted, IsJobOf}
-use Rattle.cd_args.specs.Fault.{HasKindOf, done_status, error_kinds, failed_status, no_memory, printed, printed_status}
+use Rattle.cd_args.specs.Fault.{HasKindOf, error_kinds, no_memory, printed}
+use Rattle.cd_program.specs.Program.{printed_status}
+use Rattle.cd_read.specs.Status.{done_status, failed_status}
 use Rattle.cd_args.specs.declared.fault.LineFault.{LineFault}
 use Rattle.cd_args.specs.declared.fault.LineFault.TheVariants as line_fault
 use Rattle.cd_args.specs.declared.job.Job.{Job}
@@ -25,12 +27,13 @@ use Rattle.cd_report.specs.ListText.{list_report}
 use Rattle.cd_report.specs.Report.{ReportSpec}
 use Rattle.cd_image.specs.Applying.{Begins, patch_tally}
 use Rattle.cd_run.specs.InHand.{bytes_in_hand}
-use Rattle.cd_run.specs.PatchLog.{log_text, log_when_out_fails, log_when_too_long}
-use Rattle.cd_run.specs.PatchLog.{sent_when_log_fails, sent_when_too_long}
+use Rattle.cd_run.specs.PatchLog.{log_text, log_when_out_fails, log_when_too_long, sent_when_log_fails, sent_when_too_long}
 use Rattle.cd_run.specs.Patched.{EachPatching, IsPatched}
-use Rattle.cd_program.specs.Messages.{fault_line, load_fault_line, no_image, no_output, no_script}
+use Rattle.cd_read.specs.Messages.{fault_line}
+use Rattle.cd_program.specs.Messages.{load_fault_line, no_image, no_output, no_script}
 use Rattle.cd_run.specs.Messages.{script_fault_line}
-use Rattle.cd_program.specs.Commands.{audit_status, script_status}
+use Rattle.cd_report.specs.Running.{audit_status}
+use Rattle.cd_image.specs.Running.{script_status}
 use Rattle.cd_program.specs.declared.script.LoadFault.TheVariants as load_fault
 use Rattle.cd_args.specs.declared.settings.Settings.{Settings}
 use Rattle.cd_memory.specs.Files.{NamedFile, file_bytes, named_file}

@@ -20,21 +20,15 @@
 //! cannot be read again; no command does so. If memory is refused, a text or a file may lack its
 //! end, and the theorem says so in each case.
 //!
-//! [`list_image`] and [`audit_image`] run two commands on an image in memory, and write the text to
-//! memory that the caller lends: a room. They allocate no memory. `specs/Rooms.antt` states what
-//! the room holds afterwards: its front is the text, and the rest is unchanged.
-//!
 //! Tests: `crates/cd_example_tests`, and `tests/library` over the calls of C.
 #![tactic(auto)]
 
 mod file;
 mod growing;
 mod memory;
-mod reports;
 mod run;
 
 pub use file::File;
 pub use growing::Growing;
 pub use memory::Memory;
-pub use reports::{audit_image, list_image};
 pub use run::{Ended, run_on_files};

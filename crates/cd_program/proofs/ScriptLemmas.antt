@@ -6,7 +6,7 @@ use Rattle.cd_stream.specs.Stream.{Incoming, Outgoing}
 use Rattle.cd_stream.specs.Transfer.{Gives}
 use Rattle.cd_stream.proofs.TransferLemmas.{Gives-trans}
 use Rattle.cd_program.specs.Messages.{load_fault_line}
-use Rattle.cd_program.specs.Commands.{PrintsLine}
+use Rattle.cd_read.specs.Printing.{PrintsLine}
 use Rattle.cd_program.specs.ScriptLines.{Gathers, PrintsFailedReads, StopsLoading}
 use Rattle.cd_program.specs.declared.script.LoadFault.{LoadFault}
 use Rattle.cd_program.specs.declared.script.LoadFault.TheVariants.{NoMemory, Read, TooLong}

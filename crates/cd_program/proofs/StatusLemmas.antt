@@ -1,7 +1,8 @@
 -- The status is 0, 1, or 2.
 use Rattle.std.proofs.Common.{◌≡◌, ℕ, ◌≤◌, ◌==◌, Bool, true, false, cond, List, Result, Ok, Err, inl, inr, arith}
 use Rattle.std.specs.Prelude.{Option, Some, None}
-use Rattle.cd_args.specs.Fault.{printed_status}
+use Rattle.cd_program.specs.Program.{printed_status, ComesOfFile, DoesApply, DoesCheck, DoesReport, NoScript, PrintsFault, ReadsScript, RunsJob, RunsTask}
+use Rattle.cd_args.specs.Fault.{asks_for_help}
 use Rattle.cd_args.specs.declared.fault.LineFault.{LineFault}
 use Rattle.cd_args.specs.declared.job.Job.{Job}
 use Rattle.cd_args.specs.Options.{task_of}
@@ -14,12 +15,12 @@ use Rattle.cd_stream.specs.Stream.{Incoming, Outgoing}
 use Rattle.cd_stream.specs.Transfer.{Counts}
 use Rattle.cd_stream.specs.declared.sink.SinkFailed.{SinkFailed}
 use Rattle.cd_program.specs.Hosting.{Hosting}
-use Rattle.cd_program.specs.Program.{ComesOfFile, DoesApply, DoesCheck, DoesReport, NoScript, PrintsFault, ReadsScript, RunsJob, RunsTask}
-use Rattle.cd_program.specs.Commands.{CallThenLine, Ends, audit_status, script_status}
+use Rattle.cd_read.specs.Printing.{CallThenLine, Ends}
+use Rattle.cd_report.specs.Running.{audit_status}
+use Rattle.cd_image.specs.Running.{script_status}
 use Rattle.cd_program.specs.declared.host.OpenFault.{OpenFault}
 use Rattle.cd_args.specs.declared.settings.Settings.{Settings}
-use Rattle.cd_args.proofs.StatusLemmas.{few-fault}
-use Rattle.cd_program.proofs.CommandLemmas.{one-more}
+use Rattle.cd_read.proofs.PrintingLemmas.{one-more}
 
 -- ---- a call and its end
 
@@ -110,8 +111,12 @@ RunsJob-few come gone on job = RunsTask-few come gone on (task_of job)
 
 -- ---- arguments that ask for no job
 
+few-help : (b : Bool) → cond b 0 2 ≤ 2
+few-help true = omega arith
+few-help false = omega arith
+
 few-refused : (fault : LineFault) (text : Option (List ℕ)) → printed_status fault text ≤ 2
-few-refused fault (Some text) = few-fault fault
+few-refused fault (Some text) = few-help (asks_for_help fault)
 few-refused fault None = omega arith
 
 pub PrintsFault-few : (fault : LineFault) (before after : Outgoing) (status : ℕ)

@@ -1,10 +1,8 @@
--- The lines that the program itself prints. The line for a lack of memory is in cd_args; those for
--- an error in a script, a failed read, and an image that is too long are in cd_run.
-use Rattle.std.specs.Prelude.{ℕ, List, [], codes}
+-- The lines that the program itself prints. The line for a lack of memory is in cd_args, those for an
+-- error in a script are in cd_run, and those for an error of a call on an image in cd_read.
+use Rattle.std.specs.Prelude.{ℕ, List, codes}
 use Rattle.cd_args.specs.Fault.{no_memory}
-use Rattle.cd_read.specs.declared.fault.Fault.{Fault}
-use Rattle.cd_read.specs.declared.fault.Fault.TheVariants as fault
-use Rattle.cd_run.specs.Messages.{failed_read, long_image, long_script}
+use Rattle.cd_run.specs.Messages.{long_script}
 use Rattle.cd_program.specs.declared.host.OpenFault.{OpenFault}
 use Rattle.cd_program.specs.declared.host.OpenFault.TheVariants as open_fault
 use Rattle.cd_program.specs.declared.script.LoadFault.{LoadFault}
@@ -37,10 +35,3 @@ unfoldable pub load_fault_line : LoadFault → List ℕ
 load_fault_line load_fault.Read = no_script
 load_fault_line load_fault.TooLong = long_script
 load_fault_line load_fault.NoMemory = no_memory
-
--- the line for an error of a call on an image; a failed log has none
-unfoldable pub fault_line : Fault → List ℕ
-fault_line fault.Read = failed_read
-fault_line fault.Write = codes "cdpatch: writing the output failed\n"
-fault_line fault.Log = []
-fault_line fault.TooLong = long_image

@@ -1,8 +1,9 @@
 -- The program's actions for a job: which files it asks for, by which names and in which order, and
 -- its use of them.
-use Rattle.std.specs.Prelude.{◌≡◌, ◌≢◌, ℕ, ◌≤◌, ◌⊎◌, List, [], Option, None, Result, Ok, Err, codes, false, true}
+use Rattle.std.specs.Prelude.{◌≡◌, ◌≢◌, ℕ, ◌≤◌, ◌⊎◌, List, [], Option, None, Result, Ok, Err, codes, false, if◌then◌else◌, is_some, true}
 use Rattle.cd_args.specs.CommandLine.{IsAccepted, IsJobOf}
-use Rattle.cd_args.specs.Fault.{HasKindOf, done_status, error_kinds, failed_status, printed, printed_status}
+use Rattle.cd_args.specs.Fault.{HasKindOf, asks_for_help, error_kinds, printed}
+use Rattle.cd_read.specs.Status.{done_status, failed_status}
 use Rattle.cd_args.specs.declared.fault.LineFault.{LineFault}
 use Rattle.cd_args.specs.declared.fault.LineFault.TheVariants as line_fault
 use Rattle.cd_args.specs.declared.job.Job.{Job}
@@ -19,20 +20,16 @@ use Rattle.cd_stream.specs.declared.sink.SinkFailed.{SinkFailed}
 use Rattle.cd_program.specs.Hosting.{Hosting}
 use Rattle.cd_program.specs.Messages.{load_fault_line, no_image, no_output, no_script, open_fault_line}
 use Rattle.cd_run.specs.Messages.{script_fault_line}
-use Rattle.cd_program.specs.Commands.{PrintsLine, audit_status}
-use Rattle.cd_program.specs.Running.{RunsApplyBy, RunsCheckBy, RunsReport}
+use Rattle.cd_read.specs.Printing.{PrintsLine, PrintsAndFails}
+use Rattle.cd_report.specs.Running.{audit_status, RunsReport}
+use Rattle.cd_image.specs.Running.{RunsApply, RunsCheck}
 use Rattle.cd_program.specs.ScriptLines.{IsFaultOf, ReadsWhole, StopsLoading}
 use Rattle.cd_program.specs.declared.host.OpenFault.{OpenFault}
 use Rattle.cd_program.specs.declared.script.LoadFault.{LoadFault}
-use Rattle.cd_args.specs.Options.{base_in, max_base, task_of}
+use Rattle.cd_args.specs.Options.{base_in, task_of}
+use Rattle.cd_sector.specs.Image.{base_limit}
 use Rattle.cd_args.specs.Task.{Task}
 use Rattle.cd_args.specs.declared.settings.Settings.{Settings}
-
--- ---- what is printed if a file is not there
-
--- a line of the program itself is printed, with the status of a failure
-abbrev pub PrintsAndFails : List ℕ → Outgoing → Outgoing → ℕ → Type 0
-PrintsAndFails line before after status = PrintsLine line before after × (status ≡ failed_status)
 
 -- ---- scripts
 
@@ -110,8 +107,8 @@ module _ {H I O : Type 0} (come : I → Incoming) (gone : O → Outgoing) (on : 
       (image : I) (host : H) (path : List ℕ) (out : O) : Type 0 where
     pub left : I
     pub made : O
-    pub applies : RunsApplyBy settings patches (come image) (come left) (gone out) (gone made)
-        before after status
+    pub applies : RunsApply settings.carry patches settings.base (come image) (come left) (gone out)
+        (gone made) before after status
     pub last : O
     pub rest : FlushesRest (gone made) (gone last)
     pub back : on.takes_back host path last host'
@@ -134,7 +131,8 @@ module _ {H I O : Type 0} (come : I → Incoming) (gone : O → Outgoing) (on : 
     checked : (patches : List Patch) (second : H) (printed_log : Outgoing)
         → TakesScript come on script host second before printed_log (Ok patches)
         → (image left : I) → TakesImage on name second (Ok image) host'
-        → RunsCheckBy settings patches (come image) (come left) printed_log after status
+        → RunsCheck settings.carry patches settings.base (come image) (come left) printed_log after
+        status
         → DoesCheck settings name script host before
 
   -- `apply`
@@ -177,6 +175,14 @@ abbrev pub RunsJob : {H I O : Type 0} → (I → Incoming) → (O → Outgoing) 
 RunsJob come gone on job host host' before after status =
     RunsTask come gone on (task_of job) host host' before after status
 
+-- the status for arguments that ask for no job: a request for help is not an error
+abbrev pub fault_status : LineFault → ℕ
+fault_status fault = if asks_for_help fault then done_status else failed_status
+
+-- the status after printing: that of the arguments if their text was printed, else that of an error
+abbrev pub printed_status : LineFault → Option (List ℕ) → ℕ
+printed_status fault text = if is_some text then fault_status fault else failed_status
+
 -- the text printed for arguments that ask for no job: the parser's text, or the line for a lack of
 -- memory. A text that was written only in part is a failure
 pub record PrintsFault (fault : LineFault) (before after : Outgoing) (status : ℕ) : Type 0 where
@@ -201,6 +207,6 @@ pub record RefusesArgs {H : Type 0} (args : List (List ℕ)) (host host' : H)
 abbrev pub RunsArgs : {H I O : Type 0} → (I → Incoming) → (O → Outgoing) → Hosting H I O
     → List (List ℕ) → H → H → Outgoing → Outgoing → ℕ → Type 0
 RunsArgs come gone on args host host' before after status =
-    ((job : Job) × IsJobOf args job × (error_kinds args ≡ []) × (base_in job ≤ max_base)
+    ((job : Job) × IsJobOf args job × (error_kinds args ≡ []) × (base_in job ≤ base_limit)
     × RunsJob come gone on job host host' before after status)
     ⊎ RefusesArgs args host host' before after status

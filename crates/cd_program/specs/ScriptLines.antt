@@ -7,9 +7,9 @@ use Rattle.cd_script.specs.declared.fault.ScriptFault.{ScriptFault}
 use Rattle.cd_script.specs.declared.fault.ScriptFault.TheVariants as script_fault
 use Rattle.cd_script.specs.Script.{script}
 use Rattle.cd_script.specs.Limits.{text_limit}
-use Rattle.cd_args.specs.Fault.{failed_status}
+use Rattle.cd_read.specs.Status.{failed_status}
 use Rattle.cd_program.specs.Messages.{load_fault_line}
-use Rattle.cd_program.specs.Commands.{PrintsLine}
+use Rattle.cd_read.specs.Printing.{PrintsLine}
 use Rattle.cd_program.specs.declared.script.LoadFault.{LoadFault}
 use Rattle.cd_program.specs.declared.script.LoadFault.TheVariants.{Read, TooLong, NoMemory}
 

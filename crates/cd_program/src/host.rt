@@ -3,7 +3,7 @@
 ghost use Rattle.std.specs.Prelude.{◌≡◌, IfOk};
 ghost use Rattle.cd_program.specs.Hosting.{Hosting};
 
-use cd_image::{Sink, Source};
+use cd_stream::{Sink, Source};
 
 /// Why a file could not be opened or made.
 #[derive(Clone, Copy, Debug)]

@@ -1,27 +1,28 @@
 //! The program as a function of its arguments: opens files of a host, runs the command on them, and
 //! returns the status.
 
-ghost use Rattle.std.specs.Prelude.{◌≡◌, ◌<◌, ◌≤◌, IfOk, OnOk, map, string_bytes};
+ghost use Rattle.std.specs.Prelude.{◌≡◌, ◌<◌, ◌≤◌, IfOk, OnOk, if◌then◌else◌, is_some, map, string_bytes};
 ghost use Rattle.cd_args.specs.Options.{base_in};
-ghost use Rattle.cd_args.specs.Fault.{done_status};
+ghost use Rattle.cd_read.specs.Status.{done_status, failed_status};
 ghost use Rattle.cd_report.specs.AuditText.{audit_report};
 ghost use Rattle.cd_report.specs.ListText.{list_report};
 ghost use Rattle.cd_program.specs.Messages.{open_fault_line};
-ghost use Rattle.cd_program.specs.Program.{DoesApply, DoesCheck, DoesReport, PrintsAndFails, RunsArgs, RunsJob};
+ghost use Rattle.cd_program.specs.Program.{DoesApply, DoesCheck, DoesReport, RunsArgs, RunsJob, fault_status};
 ghost use Rattle.cd_program.specs.Program.{FlushesRest, PrintsFault, ReadsScript, TakesImage, TakesScript};
-ghost use Rattle.cd_program.specs.Commands.{audit_status};
+ghost use Rattle.cd_read.specs.Printing.{PrintsAndFails};
+ghost use Rattle.cd_report.specs.Running.{audit_status};
 ghost use Rattle.cd_stream.specs.Stream.{CanCountFailure};
 ghost use Rattle.cd_sector.specs.Image.{base_limit};
 
-use crate::commands::{
-    print_and_fail, print_line, run_apply_by, run_audit, run_check_by, run_list,
-};
 use crate::host::{Host, OpenFault};
 use crate::messages::{NO_IMAGE, NO_OUTPUT, NO_SCRIPT, open_fault_line};
 use crate::script::{load_script, read_script};
-use cd_args::{FAILED, Job, LineFault, Settings, job_of, refusal_line};
-use cd_image::{Sink, Source};
+use cd_args::{Job, LineFault, Settings, job_of, refusal_line};
+use cd_image::{run_apply, run_check};
+use cd_read::{DONE, FAILED, print_and_fail, print_line};
+use cd_report::{run_audit, run_list};
 use cd_script::Script;
+use cd_stream::{Sink, Source};
 use std::alloc::Global;
 
 /// The image name that means the standard input.
@@ -141,7 +142,7 @@ fn open_and_check<H: Host, L: Sink>(
         Ok(image) => image,
         Err(fault) => return report_open_fault(fault, NO_IMAGE, log),
     };
-    run_check_by(&mut image, &script, settings, log)
+    run_check(&mut image, &script, settings.base, settings.carry, log)
 }
 
 /// The command `apply`: reads the script, opens the image, makes the new file, and applies the
@@ -175,7 +176,8 @@ fn open_and_apply<H: Host, L: Sink>(
         Ok(output) => output,
         Err(fault) => return report_open_fault(fault, NO_OUTPUT, log),
     };
-    let status = run_apply_by(&mut input, &script, settings, &mut output, log);
+    let (base, carry) = (settings.base, settings.carry);
+    let status = run_apply(&mut input, &script, base, carry, &mut output, log);
     flush_rest(&mut output);
     host.take_back(path, output);
     status
@@ -208,6 +210,17 @@ fn run_job<H: Host, O: Sink>(alloc: Global, host: &mut H, job: &Job, out: &mut O
     }
 }
 
+/// The status after the text for arguments that ask for no job was printed: 0 if they request help,
+/// else 2. Without a text it is 2.
+fn status_with(fault: &LineFault, text: Option<&str>) -> u8
+    ensures { result ≡ (if is_some text.entry then fault_status fault.now else failed_status) }
+{
+    match text {
+        Some(_) if fault.asks_for_help() => DONE,
+        _ => FAILED,
+    }
+}
+
 /// Prints the text for arguments that ask for no job, such as an error or the help, and returns the
 /// status. If the text cannot be written, the status is 2.
 fn explain<O: Sink>(alloc: Global, fault: &LineFault, out: &mut O) -> u8
@@ -217,7 +230,7 @@ fn explain<O: Sink>(alloc: Global, fault: &LineFault, out: &mut O) -> u8
     let text = fault.parser_text(alloc);
     let text = text.as_deref();
     if print_line(refusal_line(text).as_bytes(), out).is_ok() {
-        fault.status_with(text)
+        status_with(fault, text)
     } else {
         FAILED
     }

@@ -16,14 +16,12 @@
 //!
 //! [`run_args`] gets the arguments and a [`Host`], which it asks for files in this order: the
 //! script, the image, the new file. [`System`] is the host of the operating system; cd_memory has a
-//! host whose files are in memory. [`run_list`], [`run_audit`], [`run_check`], and [`run_apply`]
-//! are the commands on streams. A script has at most [`MAX_TEXT`](cd_script::MAX_TEXT) bytes, and
+//! host whose files are in memory. The commands on streams are in cd_report and cd_image. A script has at most [`MAX_TEXT`](cd_script::MAX_TEXT) bytes, and
 //! is loaded completely; images (ECMA-130, 14) are not.
 //!
 //! Tests: `crates/cd_image_tests`.
 #![tactic(auto)]
 
-mod commands;
 mod host;
 mod jobs;
 mod messages;
@@ -31,7 +29,8 @@ mod process;
 mod script;
 mod system;
 
-pub use commands::{print_and_fail, run_apply, run_audit, run_check, run_list};
+pub use cd_image::{run_apply, run_check};
+pub use cd_report::{run_audit, run_list};
 pub use host::{Host, OpenFault};
 pub use jobs::run_args;
 pub use messages::load_fault_line;

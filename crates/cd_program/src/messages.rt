@@ -1,15 +1,15 @@
 //! The messages of the program, each a line with its line feed. The message for a lack of memory is
-//! `cd_args::NO_MEMORY`; the messages of a run that ends early are in cd_run.
+//! `cd_args::NO_MEMORY`; those for an error in a script are in cd_run, and those for an error of a
+//! call on an image in cd_read.
 
 ghost use Rattle.std.specs.Prelude.{◌≡◌};
-ghost use Rattle.cd_program.specs.Messages.{fault_line, load_fault_line, open_fault_line};
+ghost use Rattle.cd_program.specs.Messages.{load_fault_line, open_fault_line};
 
 use crate::host::OpenFault;
 use crate::script::LoadFault;
 use cd_args::NO_MEMORY;
-use cd_image::Fault;
-use cd_line::Line;
-use cd_run::{failed_read_line, long_image_line, long_script_line, text_line};
+use cd_line::{Line, text_line};
+use cd_run::long_script_line;
 
 /// The file of a script was not opened, or a read of it failed.
 pub(crate) const NO_SCRIPT: &str = "cdpatch: cannot read the script\n";
@@ -40,7 +40,12 @@ pub(crate) fn open_fault_line(refused: &'static str, fault: OpenFault) -> &'stat
 
 /// The message for a script's file that could not be loaded.
 ///
-/// See the example of [`print_and_fail`].
+/// # Examples
+///
+/// ```
+/// let line = load_fault_line(LoadFault::TooLong);
+/// assert!(rt; line.as_slice().starts_with(b"cdpatch: the script is longer"));
+/// ```
 #[tactic(auto, unfolding(crate::specs::Messages::load_fault_line))]
 pub fn load_fault_line(fault: LoadFault) -> Line
     ensures { result ≡ load_fault_line fault }
@@ -49,19 +54,5 @@ pub fn load_fault_line(fault: LoadFault) -> Line
         LoadFault::Read => text_line(NO_SCRIPT.as_bytes()),
         LoadFault::TooLong => long_script_line(),
         LoadFault::NoMemory => text_line(NO_MEMORY.as_bytes()),
-    }
-}
-
-/// The message for an error of a call on an image. A failed log has none, since the messages go to
-/// the log.
-#[tactic(auto, unfolding(crate::specs::Messages::fault_line))]
-pub(crate) fn fault_line(fault: Fault) -> Line
-    ensures { result ≡ fault_line fault }
-{
-    match fault {
-        Fault::Read => failed_read_line(),
-        Fault::Write => text_line(b"cdpatch: writing the output failed\n"),
-        Fault::Log => Line::new(),
-        Fault::TooLong => long_image_line(),
     }
 }

@@ -4,16 +4,17 @@ ghost use Rattle.std.specs.Prelude.{◌≡◌, ◌≢◌, ◌≤◌, IfErr, IfOk
 ghost use Rattle.std.specs.IoError.{error_kind};
 ghost use Rattle.cd_args.specs.Fault.{no_memory};
 ghost use Rattle.cd_program.specs.Messages.{not_text};
-ghost use Rattle.cd_program.specs.Program.{PrintsAndFails, RunsArgs};
+ghost use Rattle.cd_read.specs.Printing.{PrintsAndFails};
+ghost use Rattle.cd_program.specs.Program.{RunsArgs};
 ghost use Rattle.cd_stream.specs.Stream.{CanCountFailure};
 
-use crate::commands::print_and_fail;
 use crate::host::Host;
 use crate::jobs::run_args;
 use crate::messages::{NO_ROOT, NOT_TEXT};
 use crate::system::System;
 use cd_args::NO_MEMORY;
-use cd_image::{Sink, ToWrite};
+use cd_read::print_and_fail;
+use cd_stream::{Sink, ToWrite};
 use std::alloc::Global;
 use std::fs::File;
 use std::io::{self, ErrorKind};

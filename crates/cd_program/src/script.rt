@@ -1,23 +1,23 @@
 //! Loads the file of a script, and parses its text.
 
 ghost use Rattle.std.specs.Prelude.{◌≡◌, ◌+◌, ◌<◌, ◌≤◌, List, Ok, IfOk, IfErr, IfSome, OnOk, OnErr, length};
-ghost use Rattle.cd_args.specs.Fault.{failed_status};
+ghost use Rattle.cd_read.specs.Status.{failed_status};
 ghost use Rattle.cd_script.specs.Order.{order};
 ghost use Rattle.cd_script.specs.Script.{script};
 ghost use Rattle.cd_script.specs.Limits.{text_limit};
 ghost use Rattle.cd_script.specs.declared.fault.ScriptFault.{ScriptFault};
 ghost use Rattle.cd_script.specs.PatchForm.{Patch as ThePatch};
 ghost use Rattle.cd_run.specs.Messages.{script_fault_line};
-ghost use Rattle.cd_program.specs.Commands.{PrintsLine};
+ghost use Rattle.cd_read.specs.Printing.{PrintsLine};
 ghost use Rattle.cd_program.specs.ScriptLines.{Gathers, IsFaultOf, Loads, PrintsFailedReads};
 ghost use Rattle.cd_stream.specs.Stream.{CanCountFailure};
 ghost use Rattle.cd_stream.specs.Transfer.{Gives};
 
-use crate::commands::print_and_fail;
 use crate::messages::load_fault_line;
-use cd_image::{Sink, Source, SourceFailed};
+use cd_read::print_and_fail;
 use cd_run::script_fault_line;
 use cd_script::{MAX_TEXT, Script, ScriptFault, parse};
+use cd_stream::{Sink, Source, SourceFailed};
 use std::alloc::{AllocError, Global};
 
 /// The largest number of bytes that are read of a script at a time.

@@ -4,8 +4,8 @@ ghost use Rattle.std.specs.Prelude.{◌≡◌, IfOk};
 ghost use Rattle.cd_program.specs.Hosting.{any_answers};
 
 use crate::host::{Host, OpenFault};
-use cd_image::{Buffered, FromRead, Sink, Source, ToWrite};
 use cd_sector::SECTOR_SIZE;
+use cd_stream::{Buffered, FromRead, Sink, Source, ToWrite};
 use std::alloc::AllocError;
 use std::fmt::{self, Debug, Formatter};
 use std::fs;
@@ -138,7 +138,9 @@ impl<'a> Host for System<'a> {
 
     fn output_at(&mut self, path: &str) -> Result<Buffered<ToWrite<Synced>>, OpenFault> {
         let mut new = File::options();
-        // Write-only, so that nothing can be read from it, whatever its number.
+        // Write-only, so that nothing can be read from it, whatever its number. `create_new` is why no
+        // existing file is changed: no clause says what a host's files hold, so the prover would also
+        // accept `create(true)`. The tests of the program see it.
         new.write(true).create_new(true);
         let Ok(file) = new.open(self.rt, path) else {
             return Err(OpenFault::Refused);

@@ -1,2 +1,4 @@
 pub mod EndLemmas
+pub mod KnownLemmas
+pub mod PrintingLemmas
 pub mod general

@@ -47,3 +47,9 @@ pub record EndsWell (image image' : Incoming) (out out' : Outgoing) : Type 0 whe
   pub reads : image'.failures ≡ image.failures
   pub writes : out'.failures ≡ out.failures
   pub finished : out'.finished ≡ true
+
+-- the image has not ended, and if its bytes are known, a byte was read after the millionth sector
+pub record IsTooLong (image image' : Incoming) : Type 0 where
+  pub unended : image'.ended ≡ false
+  pub beyond : (bytes left : List ℕ) → image.rest ≡ Some bytes → image'.rest ≡ Some left
+      → image_limit + length left < length bytes

@@ -1,7 +1,7 @@
 //! Why a call on an image ended early.
 
 ghost use Rattle.std.specs.Prelude.{◌≡◌};
-ghost use Rattle.cd_read.specs.declared.fault.Fault.TheVariants.{Read, Write};
+ghost use Rattle.cd_read.specs.declared.fault.Fault.TheVariants.{Log, Read, Write};
 
 use cd_sector::MAX_SECTORS;
 use cd_stream::{SinkFailed, SourceFailed};
@@ -38,5 +38,24 @@ impl From<SinkFailed> for Fault {
 
     fn from(_: SinkFailed) -> Self {
         Fault::Write
+    }
+}
+
+/// A write or a flush of the log failed, and the sink has counted the failure. It is a separate
+/// type so that `?` maps it to `Fault::Log`; a `SinkFailed` becomes the `Fault` of the output.
+#[derive(Clone, Copy, Debug)]
+pub struct LogFailed;
+
+impl From<SinkFailed> for LogFailed {
+    fn from(_: SinkFailed) -> Self {
+        LogFailed
+    }
+}
+
+impl From<LogFailed> for Fault {
+    ghost from_gives = { λ _ fault. fault ≡ Log };
+
+    fn from(_: LogFailed) -> Self {
+        Fault::Log
     }
 }

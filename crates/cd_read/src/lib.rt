@@ -10,13 +10,26 @@
 //!
 //! An image has at most `cd_sector::MAX_SECTORS` complete sectors, and no byte after the last
 //! possible one: at most 2,352,000,000 bytes. A call on an image ends at its first [`Fault`]. It
-//! reads each sector directly into the bytes of a `Sector` and allocates no memory.
+//! reads each sector directly into the bytes of a `Sector` and allocates no memory. A command makes
+//! such a call, prints a line for its fault ([`report_fault`]), and returns a status:
+//!
+//! | Status | Meaning |
+//! |---|---|
+//! | [`DONE`], 0 | done |
+//! | [`FOUND`], 1 | done; a patch was refused, or `audit` has a finding |
+//! | [`FAILED`], 2 | an error, which has its line |
 //!
 //! Tests: `crates/cd_image_tests`.
 #![tactic(auto)]
 
 mod fault;
+mod messages;
+mod printing;
 mod reading;
+mod status;
 
-pub use fault::Fault;
+pub use fault::{Fault, LogFailed};
+pub use messages::{failed_read_line, long_image_line};
+pub use printing::{print_and_fail, print_line, report_fault};
 pub use reading::read_sector;
+pub use status::{DONE, FAILED, FOUND};

@@ -1,8 +1,10 @@
 pub mod AuditLemmas
+pub mod InMemoryLemmas
 pub mod LineCountLemmas
 pub mod ListLemmas
 pub mod OpenRunLemmas
 pub mod PassLemmas
 pub mod ReportLemmas
 pub mod RunLemmas
+pub mod RunningLemmas
 pub mod ScanLemmas

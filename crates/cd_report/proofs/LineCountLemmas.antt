@@ -108,13 +108,13 @@ length-all_syndromes : (word : ℕ → List ℕ) (count : ℕ) → length (all_s
 unfolding all_syndromes
 length-all_syndromes word count = length-map-range_with_len _ 0 count
 
-p-le : (s : List ℕ) → (report_of s).p ≤ 86
+pub p-le : (s : List ℕ) → (report_of s).p ≤ 86
 unfolding report_of defect_of
 p-le s =
     let few = count_by-le-length is_broken (all_syndromes (column_of s) 86) in
     omega (arith, few, length-all_syndromes (column_of s) 86)
 
-q-le : (s : List ℕ) → (report_of s).q ≤ 52
+pub q-le : (s : List ℕ) → (report_of s).q ≤ 52
 unfolding report_of defect_of
 q-le s =
     let few = count_by-le-length is_broken (all_syndromes (diagonal_of s) 52) in

@@ -1,25 +1,15 @@
--- The messages of a run that ends early.
+-- The messages for a script that cannot be run.
 use Rattle.std.specs.Prelude.{ℕ, List, ◌++◌, codes, decimal}
 use Rattle.cd_script.specs.FaultNumbers.{line_of}
 use Rattle.cd_script.specs.FaultTexts.{fault_text}
 use Rattle.cd_script.specs.Limits.{text_limit}
 use Rattle.cd_script.specs.declared.fault.ScriptFault.{ScriptFault}
 use Rattle.cd_script.specs.declared.fault.ScriptFault.TheVariants as script_fault
-use Rattle.cd_sector.specs.Image.{sector_limit}
 
 -- a script has more bytes than it may have
 unfoldable pub long_script : List ℕ
 long_script =
     codes "cdpatch: the script is longer than " ++ decimal text_limit ++ codes " bytes\n"
-
--- an image has more sectors than it may have
-unfoldable pub long_image : List ℕ
-long_image =
-    codes "cdpatch: the image has more than " ++ decimal sector_limit ++ codes " sectors\n"
-
--- a read of an image failed
-abbrev pub failed_read : List ℕ
-failed_read = codes "cdpatch: reading the image failed\n"
 
 -- `script line`, the number, and what is wrong there
 unfoldable pub numbered_line : ℕ → List ℕ → List ℕ

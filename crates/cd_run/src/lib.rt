@@ -28,7 +28,5 @@ mod run;
 
 pub use laws::{patched_carries, patched_exists, patched_is_determined};
 pub use lines::{counts_line, outcome_line};
-pub use messages::{
-    failed_read_line, long_image_line, long_script_line, script_fault_line, text_line,
-};
+pub use messages::{long_script_line, script_fault_line};
 pub use run::{Ahead, PatchRun, Step};

@@ -56,7 +56,7 @@ same_fault : (r : Result (List Patch) ScriptFault) (f : List Patch → List Patc
 same_fault (Ok ps) f = refl
 same_fault (Err e) f = refl
 
-regroup : (front : List Patch) (found : Option Patch) (read : Result (List Patch) ScriptFault)
+pub regroup : (front : List Patch) (found : Option Patch) (read : Result (List Patch) ScriptFault)
     → with_front front (read >>= λ ps. Ok (cons_option found ps))
     ≡ with_front (front ++ option_to_list found) read
 regroup front None (Ok ps) = ap (λ (qs : List Patch). Ok (qs ++ ps)) (sym (append-nil front))

@@ -1,2 +1,4 @@
 pub mod BufferLemmas
+pub mod KnownLemmas
+pub mod RoomLemmas
 pub mod TransferLemmas

@@ -1,4 +1,5 @@
 pub mod Adapters
 pub mod Buffering
+pub mod Rooms
 pub mod Stream
 pub mod Transfer

@@ -17,7 +17,7 @@ const FEWEST_FIRST = 4;
 
 /**
  * Counts the bases that the addresses of sampled sectors imply, separately for Mode 1 and Mode 2, which have the same header. `first`
- * lists the bases of the sound sectors at the beginning of the image.
+ * lists the bases of the sound sectors at the beginning of the image, and `soundMode2` is how many Mode 2 sectors are sound.
  * @param {Calls} calls
  * @param {Reader} reader
  */
@@ -26,17 +26,19 @@ async function sampledBases(calls, reader) {
     const [mode1, mode2] = [0, 0].map(count => ({ bases: new Map(), count }));
     /** @type {number[]} */
     const first = [];
+    let soundMode2 = 0;
     const byKind = new Map([[SECTOR_KIND.MODE1, mode1], [SECTOR_KIND.MODE2, mode2]]);
     for await (const { number, sector } of sampledSectors(reader, SECTOR_SIZE, SAMPLED_TOGETHER, SAMPLES_OF_ADDRESSES)) {
         const own = byKind.get(calls.kind(sector));
         if (own === undefined) continue;
         own.count += 1;
+        soundMode2 += Number(own === mode2 && isSoundSector(calls, sector));
         const block = blockAt(calls, addressIn(sector, 0));
         if (block === null) continue;
         own.bases.set(block - number, (own.bases.get(block - number) || 0) + 1);
         if (number < SAMPLED_TOGETHER && isSoundSector(calls, sector)) first.push(block - number);
     }
-    return { mode1, mode2, first };
+    return { mode1, mode2, first, soundMode2 };
 }
 
 /**
@@ -60,13 +62,14 @@ function mostSaid({ bases, count }) {
 
 /**
  * The base that the most sampled Mode 1 sectors imply, below 0 if the image begins before block 0; how many sectors imply it (`agreeing`);
- * and how many were sampled (`mode1`).
+ * how many were sampled (`mode1`); and how many sampled Mode 2 sectors are sound.
  * @param {Calls} calls
  * @param {Reader} reader
  */
 export async function sampledBase(calls, reader) {
-    const { base, agreeing, count } = mostSaid((await sampledBases(calls, reader)).mode1);
-    return { base, agreeing, mode1: count };
+    const { mode1, soundMode2 } = await sampledBases(calls, reader);
+    const { base, agreeing, count } = mostSaid(mode1);
+    return { base, agreeing, mode1: count, soundMode2 };
 }
 
 /**

@@ -4,24 +4,37 @@ import { textsOfFile } from '../encodings/index.js';
 import { Fault } from '../faults.js';
 import { SECTOR_SIZE } from '../module/index.js';
 
-/** @typedef {{ name: string, raw: boolean }} SheetFile `raw` if its format is plain sectors, such as BINARY */
+/** @typedef {{ name: string, format: string, raw: boolean }} SheetFile `raw` if its format is plain sectors, such as BINARY */
 /** @typedef {{ track: SheetTrack, index: number, file: number, frame: number }} Point the start of an index of a track in a file */
-/** @typedef {{ number: number, type: string, sectorSize: number, pregap: number, postgap: number, line: number }} SheetTrack */
+/**
+ * @typedef {{ number: number, type: string, sectorSize: number, pregap: number, postgap: number, flags: string[],
+ *     line: number }} SheetTrack
+ */
 /** @typedef {{ files: SheetFile[], tracks: SheetTrack[], points: Point[] }} Sheet */
 /** @typedef {{ file: number, at: number | null, end: number | null, block: number | null }} FileRange */
 /**
  * A track. `at` to `end` are its bytes in file number `file`, from its INDEX 01 on, and `block` is its first block on the disc. Values
- * that a sheet does not determine are null: places in audio files, and blocks after these.
- * @typedef {{ number: number, type: string, sectorSize: number } & FileRange} Track
+ * that a sheet does not determine are null: places in audio files, and blocks after these. `pregap` is how many bytes of its pregap
+ * precede INDEX 01 in the same file.
+ * @typedef {{ number: number, type: string, sectorSize: number, pregap: number } & FileRange} Track
  */
 /** @typedef {{ point: Point, end: number | null } & FileRange} IndexRange from one index to the next, or to the end of the file */
 
 const RAW_FORMATS = ['BINARY', 'MOTOROLA'];
+const FLAGS = ['DCP', '4CH', 'PRE', 'SCMS'];
 /** Blocks count from the end of a pause of two seconds, with which the pregap of the first track begins. */
 const FIRST_PAUSE = 150;
 export const LAST_TRACK = 99;
 /** The most files of a sheet. The pause of a track may have its own file. */
 const MOST_FILES = 2 * LAST_TRACK;
+
+/**
+ * Whether a file is called like a cue sheet.
+ * @param {string} name
+ */
+export function isSheetName(name) {
+    return /\.cue$/i.test(name);
+}
 
 /**
  * Parses a cue sheet. Commands that do not concern bytes, such as TITLE and REM, are ignored. Throws a Fault.
@@ -63,29 +76,38 @@ const SHEET_COMMANDS = {
     INDEX: readIndexLine,
     PREGAP: (sheet, rest, line) => { trackBefore(sheet, line).pregap = framesOf(rest, line); },
     POSTGAP: (sheet, rest, line) => { trackBefore(sheet, line).postgap = framesOf(rest, line); },
+    FLAGS: readFlagsLine,
 };
 
 /** @type {(sheet: Sheet, rest: string, line: number) => void} */
 function readFileLine(sheet, rest, line) {
-    const format = rest.split(/\s+/).slice(-1)[0];
-    const before = rest.slice(0, rest.length - format.length).trimEnd();
+    const last = rest.split(/\s+/).slice(-1)[0];
+    const before = rest.slice(0, rest.length - last.length).trimEnd();
     const [, name] = /^"([^"]*)"$/.exec(before) || /^([^"].*)$/s.exec(before) || [];
     if (name === undefined) throw new Fault('cue/file-words', { line });
     if (sheet.files.length >= MOST_FILES) throw new Fault('cue/too-many-files', { line, most: MOST_FILES });
-    sheet.files.push({ name, raw: RAW_FORMATS.includes(format.toUpperCase()) });
+    const format = last.toUpperCase();
+    sheet.files.push({ name, format, raw: RAW_FORMATS.includes(format) });
 }
 
 /** @type {(sheet: Sheet, rest: string, line: number) => void} */
 function readTrackLine(sheet, rest, line) {
     const found = /^(\d{1,2})\s+(\S+)$/.exec(rest);
     if (!found) throw new Fault('cue/track-words', { line });
-    const [number, type] = [Number(found[1]), found[2].toUpperCase()];
+    const number = Number(found[1]);
+    const type = found[2].toUpperCase();
     const sectorSize = sizeOfType(type);
     if (sectorSize === 0) throw new Fault('cue/track-type', { line, type: found[2] });
     if (sheet.files.length === 0) throw new Fault('cue/no-file', { line });
     const before = sheet.tracks.length > 0 ? sheet.tracks[sheet.tracks.length - 1].number : 0;
     if (number <= before || number > LAST_TRACK) throw new Fault('cue/track-order', { line, track: number, before });
-    sheet.tracks.push({ number, type, sectorSize, pregap: 0, postgap: 0, line });
+    sheet.tracks.push({ number, type, sectorSize, pregap: 0, postgap: 0, flags: [], line });
+}
+
+/** @type {(sheet: Sheet, rest: string) => void} */
+function readFlagsLine({ tracks }, rest) {
+    const words = rest.toUpperCase().split(/\s+/);
+    for (const track of tracks.slice(-1)) track.flags = FLAGS.filter(it => words.includes(it));
 }
 
 /**
@@ -95,14 +117,17 @@ function readTrackLine(sheet, rest, line) {
 function sizeOfType(type) {
     const found = /^(?:MODE[12]|CDI)\/(2048|2324|2336|2352)$/.exec(type);
     if (found) return Number(found[1]);
-    return type === 'AUDIO' ? SECTOR_SIZE : type === 'CDG' ? 2448 : 0;
+    if (type === 'AUDIO') return SECTOR_SIZE;
+    return type === 'CDG' ? 2448 : 0;
 }
 
 /** @type {(sheet: Sheet, rest: string, line: number) => void} */
 function readIndexLine(sheet, rest, line) {
     const found = /^(\d{1,2})\s+(\S+)$/.exec(rest);
     if (!found) throw new Fault('cue/index-words', { line });
-    const [track, index, frame] = [trackBefore(sheet, line), Number(found[1]), framesOf(found[2], line)];
+    const track = trackBefore(sheet, line);
+    const index = Number(found[1]);
+    const frame = framesOf(found[2], line);
     const file = sheet.files.length - 1;
     const last = sheet.points[sheet.points.length - 1];
     if (last && last.track === track && last.index >= index) throw new Fault('cue/index-late', { line, index: found[1] });
@@ -139,12 +164,14 @@ function framesOf(time, line) {
 export function tracksOf(sheet, sizes) {
     const parts = placedParts(sheet, sheet.files.flatMap((_, file) => partsOfFile(sheet, file, sizes[file])));
     return sheet.tracks.map(track => {
-        const own = parts.filter(part => part.point.track === track && part.point.index > 0);
+        const all = parts.filter(part => part.point.track === track);
+        const own = all.filter(part => part.point.index > 0);
         const [first, last] = [own[0], own[own.length - 1]];
         if (first.file !== last.file) throw new Fault('cue/two-files', { line: track.line, track: track.number });
         const { number, type, sectorSize } = track;
         const { file, at, block } = first;
-        return { number, type, sectorSize, file, at, end: last.end, block };
+        const begin = all[0].file === file ? all[0].at : at;
+        return { number, type, sectorSize, pregap: Number(at) - Number(begin), file, at, end: last.end, block };
     });
 }
 
@@ -162,7 +189,8 @@ function partsOfFile({ files, points }, file, size) {
     let before = own.length > 0 ? own[0].track : null;
     const starts = own.map(point => {
         at += (point.frame - frame) * (before || point.track).sectorSize;
-        [frame, before] = [point.frame, point.track];
+        frame = point.frame;
+        before = point.track;
         const { number: track, line } = point.track;
         if (at > size) throw new Fault('cue/after-end', { line, track, name: files[file].name });
         return at;

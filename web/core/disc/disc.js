@@ -1,12 +1,14 @@
 // Opens a disc, which is one raw image, or a cue sheet and the files that it names. Determines its tracks, and the image and the first
 // block of each.
 
-import { sliceOf, wholeOf } from '../bytes.js';
+import { textOfFile } from '../encodings/index.js';
 import { Fault } from '../faults.js';
 import { SECTOR_SIZE, sectorCount } from '../module/index.js';
+import { sliceOf } from '../readers/index.js';
+import { imageTooLong } from '../sectors/index.js';
 import { baseByAddresses } from './base.js';
 import { sheetsOf, tracksOf } from './cue.js';
-import { kindOfFile } from './file_type.js';
+import { recognised } from './file_type.js';
 
 /** @typedef {import('../module/calls.js').Calls} Calls */
 /** @typedef {import('../bytes.js').Reader} Reader */
@@ -25,43 +27,101 @@ import { kindOfFile } from './file_type.js';
  * @typedef {DiscImage & { order: import('../iso/file_order.js').FileOrder | undefined, fileSize?: number }} OrderedImage
  */
 /**
- * A track. Without a cue sheet there is one. `file` is the index of its file in the disc's files, or -1 if that file is not open. `image`
- * is the whole file, and `part` is the track in it, from its INDEX 01 on. Both are null if it is not data with 2352 bytes per sector.
- * @typedef {{ number: number, type: string, file: number, block: number | null, sectors: number | null,
- *     image: DiscImage | null, part: DiscImage | null }} DiscTrack
+ * A track. Without a cue sheet there is one. `file` is the index of its file in the disc's files, or -1 if that file is not open, and
+ * `fileName` is its name in the cue sheet. `at` is the byte of its INDEX 01 in that file, null if unknown, and `pregap` is how many bytes
+ * of its pregap precede it there. `image` is the whole file, and `part` is the track in it, from its INDEX 01 on. Both are null if it is
+ * not data with 2352 bytes per sector.
+ * @typedef {{ number: number, type: string, file: number, fileName: string, block: number | null, at: number | null, pregap: number,
+ *     sectors: number | null, image: DiscImage | null, part: DiscImage | null }} DiscTrack
  */
-/** @typedef {{ sheet: string | null, files: DiscFile[], tracks: DiscTrack[] }} Disc */
+/**
+ * A disc: the name and the text of its cue sheet, null and '' without one; its open files; and its tracks.
+ * @typedef {{ sheet: string | null, sheetText: string, files: DiscFile[], tracks: DiscTrack[] }} Disc
+ */
+/** @typedef {{ file: DiscFile, kind: FileKind, sheet: Uint8Array | null }} KnownFile a file, its kind, and the bytes of a cue sheet */
+/**
+ * Returns the files beside a cue sheet that its readings name. The core chooses among them.
+ * @typedef {(sheet: DiscFile, readings: Sheet[]) => Promise<DiscFile[]>} Siblings
+ */
+
+/** The kinds of files that are, or describe, a disc. */
+const IN_DISCS = ['raw', 'audio', 'cue'];
 
 const RAW_TYPES = ['MODE1/2352', 'MODE2/2352', 'CDI/2352'];
 
 /**
- * Opens a raw image, or a cue sheet with the files that it names. Throws a Fault, and what a reader throws.
+ * The kinds of files, and the bytes of those that are cue sheets.
  * @param {Calls} calls
  * @param {DiscFile[]} files
+ * @returns {Promise<KnownFile[]>}
+ */
+export function knownFiles(calls, files) {
+    return Promise.all(files.map(async file => ({ file, ...await recognised(calls, file.reader) })));
+}
+
+/**
+ * Opens the disc that files are: a raw image, or a cue sheet and the files that it names. Each file is recognised once, and the sheet is
+ * read once. Returns the kinds of the files, and the disc; null if there is one file, and it is neither an image nor a cue sheet. Throws a
+ * Fault, and what a reader throws.
+ * @param {Calls} calls
+ * @param {DiscFile[]} files that were chosen
+ * @param {Siblings} [siblings]
+ */
+export async function openChosen(calls, files, siblings) {
+    const known = await knownFiles(calls, files);
+    const isOther = known.length === 1 && !IN_DISCS.includes(known[0].kind);
+    return { kinds: known.map(({ kind }) => kind), disc: isOther ? null : await openKnown(calls, known, siblings) };
+}
+
+/**
+ * Opens the disc that files are. Throws a Fault, also if it is none, and what a reader throws.
+ * @param {Calls} calls
+ * @param {DiscFile[]} files that were chosen
+ * @param {Siblings} [siblings]
+ */
+export async function openDisc(calls, files, siblings) {
+    return openKnown(calls, await knownFiles(calls, files), siblings);
+}
+
+/**
+ * Opens the disc that files are whose kinds are known. Throws a Fault, also if it is none, and what a reader throws.
+ * @param {Calls} calls
+ * @param {KnownFile[]} chosen
+ * @param {Siblings} [siblings]
  * @returns {Promise<Disc>}
  */
-export async function openDisc(calls, files) {
-    /** @type {Map<DiscFile, FileKind>} */
-    const kinds = new Map();
-    for (const file of files) kinds.set(file, await kindOfFile(calls, file.reader));
-    const sheets = files.filter(file => kinds.get(file) === 'cue');
-    if (sheets.length > 1) throw new Fault('disc/two-sheets', { one: sheets[0].name, other: sheets[1].name });
-    if (sheets.length === 1) return openSheet(calls, sheets[0], files.filter(file => file !== sheets[0]), kinds);
-    if (files.length !== 1) throw new Fault('disc/no-image', {});
-    const kind = assertSectors(files[0], kinds);
-    const image = kind === 'raw' ? await imageOf(calls, files[0], 0) : null;
-    const track = { number: 1, type: '', file: 0, block: image && image.base, sectors: sectorCount(files[0].reader.size) };
-    return { sheet: null, files, tracks: [{ ...track, image, part: image }] };
+export async function openKnown(calls, chosen, siblings = async () => []) {
+    const [first] = chosen.filter(({ kind }) => kind === 'cue');
+    const readings = first && first.sheet ? sheetsOf(first.sheet) : [];
+    const known = first ? [...chosen, ...await knownFiles(calls, await siblings(first.file, readings))] : chosen;
+    const others = known.filter(it => it !== first);
+    const second = others.find(({ kind }) => kind === 'cue');
+    if (second) throw new Fault('disc/two-sheets', { one: first.file.name, other: second.file.name });
+    const disc = first ? await openSheet(calls, first, readings, others) : await openImage(calls, known);
+    const long = disc.files.find(({ reader }) => imageTooLong(reader.size));
+    if (long) throw new Fault('disc/other-file', { name: long.name, kind: 'long' });
+    return disc;
+}
+
+/**
+ * @param {Calls} calls
+ * @param {KnownFile[]} known
+ * @returns {Promise<Disc>}
+ */
+async function openImage(calls, known) {
+    if (known.length !== 1) throw new Fault('disc/no-image', {});
+    const [{ file }] = known;
+    const image = assertSectors(known[0]) === 'raw' ? await imageOf(calls, file, 0) : null;
+    const place = { file: 0, fileName: file.name, block: image && image.base, at: 0, pregap: 0, sectors: sectorCount(file.reader.size) };
+    return { sheet: null, sheetText: '', files: [file], tracks: [{ number: 1, type: '', ...place, image, part: image }] };
 }
 
 /**
  * The kind of a file of sectors, `raw` or `audio`. Throws a Fault, `disc`, for any other kind.
- * @param {DiscFile} file
- * @param {Map<DiscFile, FileKind>} kinds
+ * @param {KnownFile} known
  */
-function assertSectors(file, kinds) {
-    const kind = /** @type {FileKind} */ (kinds.get(file));
-    if (kind !== 'raw' && kind !== 'audio') throw new Fault('disc/other-file', { name: file.name, kind });
+function assertSectors({ file: { name }, kind }) {
+    if (kind !== 'raw' && kind !== 'audio') throw new Fault('disc/other-file', { name, kind });
     return kind;
 }
 
@@ -84,33 +144,34 @@ export function dataTrack({ sheet, tracks }, number = null) {
 
 /**
  * @param {Calls} calls
- * @param {DiscFile} sheetFile
- * @param {DiscFile[]} others
- * @param {Map<DiscFile, FileKind>} kinds
+ * @param {KnownFile} first the sheet
+ * @param {Sheet[]} readings of it
+ * @param {KnownFile[]} others
  * @returns {Promise<Disc>}
  */
-async function openSheet(calls, sheetFile, others, kinds) {
-    const sheet = sheetOfFiles(sheetsOf(await wholeOf(sheetFile.reader)), others);
+async function openSheet(calls, { file: { name: sheetName }, sheet: bytes }, readings, others) {
+    const sheet = sheetOfFiles(readings, others);
     const files = sheet.files.map(({ name }) => fileNamed(name, others));
     const known = { ...sheet, files: sheet.files.map((file, i) => ({ ...file, raw: file.raw && files[i] !== null })) };
-    const open = [...new Set(files.filter(file => file !== null))];
+    const open = [...new Set(files.flatMap(it => it === null ? [] : it.file))];
     const tracks = [];
-    for (const track of tracksOf(known, files.map(file => file ? file.reader.size : 0))) {
+    for (const track of tracksOf(known, files.map(it => it ? it.file.reader.size : 0))) {
         const file = files[track.file];
         if (file === null && isData(track)) {
             const missing = sheet.files.map(it => it.name).filter((_, i) => files[i] === null);
-            throw new Fault('disc/missing-files', { sheet: sheetFile.name, file: sheet.files[track.file].name, names: missing });
+            throw new Fault('disc/missing-files', { sheet: sheetName, file: sheet.files[track.file].name, names: missing });
         }
-        if (file !== null && isRaw(track)) assertOneSize(file, known, track, kinds);
-        tracks.push(await trackOf(calls, track, file, open.indexOf(file)));
+        if (file !== null && isRaw(track)) assertOneSize(file, known, track);
+        const place = { file: file === null ? -1 : open.indexOf(file.file), fileName: sheet.files[track.file].name };
+        tracks.push(await trackOf(calls, track, file && file.file, place));
     }
-    return { sheet: sheetFile.name, files: /** @type {DiscFile[]} */ (open), tracks };
+    return { sheet: sheetName, sheetText: bytes === null ? '' : textOfFile(bytes), files: open, tracks };
 }
 
 /**
  * Chooses the reading of a sheet that names the most files.
  * @param {Sheet[]} sheets
- * @param {DiscFile[]} files
+ * @param {KnownFile[]} files
  */
 function sheetOfFiles(sheets, files) {
     const named = (/** @type {Sheet} */ sheet) => sheet.files.filter(({ name }) => fileNamed(name, files) !== null).length;
@@ -131,14 +192,14 @@ function isRaw({ type }) {
  * Finds the file that a sheet names, by its path below the sheet, or else by its last name, each first in the exact case and then in any
  * case. Null if there is none.
  * @param {string} name
- * @param {DiscFile[]} files
+ * @param {KnownFile[]} files
  */
 function fileNamed(name, files) {
     const path = (/** @type {string} */ it) => `/${it.replace(/\\/g, '/')}`;
     const last = (/** @type {string} */ it) => path(it).replace(/^.*\//, '/');
     for (const end of new Set([path(name), last(name)])) {
-        const found = files.find(file => path(file.name).endsWith(end))
-            || files.find(file => path(file.name).toLowerCase().endsWith(end.toLowerCase()));
+        const found = files.find(({ file }) => path(file.name).endsWith(end))
+            || files.find(({ file }) => path(file.name).toLowerCase().endsWith(end.toLowerCase()));
         if (found) return found;
     }
     return null;
@@ -148,13 +209,13 @@ function fileNamed(name, files) {
  * @param {Calls} calls
  * @param {Track} track
  * @param {DiscFile | null} file
- * @param {number} place the index of the file among the open ones
+ * @param {Pick<DiscTrack, 'file' | 'fileName'>} place
  * @returns {Promise<DiscTrack>}
  */
 async function trackOf(calls, track, file, place) {
-    const { number, type, at, end, block, sectorSize } = track;
+    const { number, type, at, end, block, pregap, sectorSize } = track;
     const sectors = at === null || end === null ? null : Math.floor((end - at) / sectorSize);
-    const shared = { number, type, file: place, block, sectors };
+    const shared = { number, type, ...place, block, at, pregap, sectors };
     if (!isRaw(track) || file === null || at === null || end === null) return { ...shared, image: null, part: null };
     const part = await imageOf(calls, { name: file.name, reader: sliceOf(file.reader, at, end) }, block);
     const before = at / SECTOR_SIZE;
@@ -165,31 +226,30 @@ async function trackOf(calls, track, file, place) {
 }
 
 /**
- * The whole image that contains a part.
+ * The image that contains a part, as a whole file or as a longer part.
  * @param {DiscImage} part
  * @param {Reader} reader
  * @param {number} before how many sectors precede the part
  * @returns {DiscImage}
  */
-function imageAround({ name, base, addressed }, reader, before) {
+export function imageAround({ name, base, addressed }, reader, before) {
     const first = addressed === null ? null : addressed - before;
     return { name, reader, base: Math.max(base - before, 0), addressed: first, ...sizesOf(reader) };
 }
 
 /**
  * Throws a Fault, `disc`, if the file of a track also has sectors of a size other than 2352 bytes, or is not a file of sectors.
- * @param {DiscFile} file
+ * @param {KnownFile} known
  * @param {Sheet} sheet
  * @param {Track} track
- * @param {Map<DiscFile, FileKind>} kinds
  */
-function assertOneSize(file, sheet, track, kinds) {
+function assertOneSize(known, sheet, track) {
     const others = sheet.points.filter(point => point.file === track.file && point.track.sectorSize !== SECTOR_SIZE);
     if (others.length > 0) {
         const { number, sectorSize: size } = others[0].track;
-        throw new Fault('disc/sector-size', { track: number, name: file.name, size });
+        throw new Fault('disc/sector-size', { track: number, name: known.file.name, size });
     }
-    assertSectors(file, kinds);
+    assertSectors(known);
 }
 
 /** @param {Reader} reader */

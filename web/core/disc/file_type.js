@@ -3,19 +3,28 @@
 import { readBytes, wholeOf } from '../bytes.js';
 import { textOfFile } from '../encodings/index.js';
 import { SECTOR_KIND, SECTOR_SIZE, USER_SIZE } from '../module/index.js';
+import { imageTooLong } from '../sectors/index.js';
 import { isSubchannelFile } from './subchannels.js';
 
 /** @typedef {import('../module/calls.js').Calls} Calls */
 /** @typedef {import('../bytes.js').Reader} Reader */
 /** @typedef {import('../facts.js').FileKind} FileKind */
 
-const SUBCHANNEL_SIZE = 2448;
+/** The bytes of a sector and its subchannels. */
+export const SUBCHANNEL_SIZE = 2448;
 const VOLUME_MARK = 16 * USER_SIZE + 1;
-const LARGEST_SHEET = 1 << 17;
+/** Larger files are not taken for cue sheets. */
+export const LARGEST_SHEET = 1 << 17;
 const SAMPLED_PAIRS = 32;
 /** How many bytes at the start of a file, and at the end of a Nero image, are examined. */
 const LONGEST_BEGINNING = 16;
 const NERO_END = 12;
+/** A text file has at least LEAST_TEXT bytes, and its first ones, at most TEXT_BEGINNING, are lines of text. */
+const LEAST_TEXT = 64;
+const TEXT_BEGINNING = 4096;
+const NOT_IN_LINES = /[^\P{Cc}\t\n\r]/u;
+/** The sync field, one character for each byte. */
+const SYNC = `\0${'\xFF'.repeat(10)}\0`;
 /** The offset of the header of a sector, and the bytes that scrambling adds to it (XOR). */
 const HEADER = 12;
 const SCRAMBLER = [0x01, 0x80, 0x00, 0x60];
@@ -45,31 +54,91 @@ export function kindByBeginning(begins) {
  * @returns {Promise<FileKind>}
  */
 export async function kindOfFile(calls, reader) {
+    return (await recognised(calls, reader)).kind;
+}
+
+/**
+ * The kind of a file, and the bytes of a cue sheet; null for other files.
+ * @param {Calls} calls
+ * @param {Reader} reader
+ * @returns {Promise<{ kind: FileKind, sheet: Uint8Array | null }>}
+ */
+export async function recognised(calls, reader) {
+    const { kind, sheet } = await recognisedByBytes(calls, reader);
+    return { kind: imageTooLong(reader.size) && (kind === 'raw' || kind === 'audio') ? 'long' : kind, sheet };
+}
+
+/**
+ * @param {Calls} calls
+ * @param {Reader} reader
+ * @returns {Promise<{ kind: FileKind, sheet: Uint8Array | null }>}
+ */
+async function recognisedByBytes(calls, reader) {
+    const kind = await kindByEnds(reader) || await kindBySectors(calls, reader);
+    if (kind !== null) return { kind, sheet: null };
+    const sheet = await sheetIn(reader);
+    if (sheet !== null) return sheet;
+    if (await beginsWithLines(reader)) return { kind: 'text', sheet: null };
+    if (await isSubchannelFile(reader)) return { kind: 'sub', sheet: null };
+    return { kind: reader.size % SECTOR_SIZE === 0 ? 'audio' : 'unknown', sheet: null };
+}
+
+/**
+ * The kind of a file, as its first or last bytes show it; null if they do not.
+ * @param {Reader} reader
+ * @returns {Promise<FileKind | null>}
+ */
+async function kindByEnds(reader) {
     if (reader.size === 0) return 'empty';
     const begins = await latin(reader, 0, LONGEST_BEGINNING);
     const known = kindByBeginning(begins);
     if (known) return known;
     if (/^RIFF[^]{4}WAVE/.test(begins)) return 'wave';
     if (/NER5[^]{8}$|NERO[^]{4}$/.test(await latin(reader, Math.max(reader.size - NERO_END, 0), NERO_END))) return 'nrg';
-    if (await latin(reader, VOLUME_MARK, 5) === 'CD001') return 'iso';
-    return kindBySectors(calls, reader);
+    return await latin(reader, VOLUME_MARK, 5) === 'CD001' ? 'iso' : null;
 }
 
 /**
+ * The kind of a file with sectors; null for other files.
  * @param {Calls} calls
  * @param {Reader} reader
- * @returns {Promise<FileKind>}
+ * @returns {Promise<FileKind | null>}
  */
 async function kindBySectors(calls, reader) {
     const { synced: raw, scrambled } = await countSynced(calls, reader, SECTOR_SIZE);
     const { synced: longer } = await countSynced(calls, reader, SUBCHANNEL_SIZE);
     const one = reader.size === SUBCHANNEL_SIZE; // a single sector has no neighbour
     if (longer > raw || (one && longer > 0)) return 'subchannels';
-    if (raw > 0) return 2 * scrambled > raw ? 'scrambled' : 'raw';
-    const sheet = await kindOfSheet(reader);
-    if (sheet !== null) return sheet;
-    if (await isSubchannelFile(reader)) return 'sub';
-    return reader.size % SECTOR_SIZE === 0 ? 'audio' : 'unknown';
+    if (raw === 0) return await isUnaligned(reader) ? 'unaligned' : null;
+    return 2 * scrambled > raw ? 'scrambled' : 'raw';
+}
+
+/**
+ * Whether a file begins with lines in UTF-8 without control characters.
+ * @param {Reader} reader
+ */
+async function beginsWithLines(reader) {
+    if (reader.size < LEAST_TEXT) return false;
+    const bytes = await readBytes(reader, 0, Math.min(reader.size, TEXT_BEGINNING));
+    try {
+        const text = new TextDecoder('utf-8', { fatal: true }).decode(bytes, { stream: true });
+        return text.includes('\n') && !NOT_IN_LINES.test(text);
+    } catch {
+        return false;
+    }
+}
+
+/**
+ * Whether raw sectors begin in the middle of what would be the first one: two sync fields a sector apart.
+ * @param {Reader} reader
+ */
+async function isUnaligned(reader) {
+    if (reader.size < 2 * SECTOR_SIZE + SYNC.length) return false;
+    const text = await latin(reader, 0, 2 * SECTOR_SIZE + SYNC.length);
+    for (let at = text.indexOf(SYNC); at >= 0; at = text.indexOf(SYNC, at + 1)) {
+        if (text.startsWith(SYNC, at + SECTOR_SIZE)) return true;
+    }
+    return false;
 }
 
 /**
@@ -84,7 +153,8 @@ async function latin(reader, at, length) {
 }
 
 /**
- * Samples sectors from all over a file, in groups of adjacent ones: their numbers from 0, and their first 2352 bytes.
+ * Samples sectors from all over a file, in groups of adjacent ones, the first and the last group among them: their numbers from 0, and
+ * their first 2352 bytes.
  * @param {Reader} reader
  * @param {number} size of a sector
  * @param {number} together how many sectors a group has
@@ -94,10 +164,12 @@ export async function* sampledSectors(reader, size, together, most) {
     const sectors = Math.floor(reader.size / size);
     const groups = Math.ceil(sectors / together);
     const taken = Math.min(groups, most);
-    const [least, end] = [reader.size <= NEAR * taken ? SAMPLED_AT_ONCE : 0, sectors * size];
-    let [read, from] = [new Uint8Array(0), 0];
+    const least = reader.size <= NEAR * taken ? SAMPLED_AT_ONCE : 0;
+    const end = sectors * size;
+    let read = new Uint8Array(0);
+    let from = 0;
     for (let i = 0; i < taken; i++) {
-        const first = together * Math.floor(groups * i / taken);
+        const first = together * Math.floor((groups - 1) * i / Math.max(taken - 1, 1));
         const [begin, next] = [first * size, Math.min(first + together, sectors) * size];
         if (next > from + read.length) {
             read = await readBytes(reader, begin, Math.max(Math.min(least, end - begin), next - begin));
@@ -137,12 +209,15 @@ function isScrambled(sector) {
 /**
  * Recognises a small file as a cue sheet or a TOC file; null if it is neither.
  * @param {Reader} reader
- * @returns {Promise<'cue' | 'toc' | null>}
+ * @returns {Promise<{ kind: 'cue' | 'toc', sheet: Uint8Array | null } | null>}
  */
-async function kindOfSheet(reader) {
+async function sheetIn(reader) {
     if (reader.size > LARGEST_SHEET) return null;
-    const lines = textOfFile(await wholeOf(reader)).split(/\r\n|\r|\n/).map(line => line.trim());
+    const bytes = await wholeOf(reader);
+    // Letters are those of ASCII in each encoding of sheets, perhaps with 00 beside them. Decoding takes much longer than this test.
+    if (!/TRACK/i.test(new TextDecoder('latin1').decode(bytes).replaceAll('\0', ''))) return null;
+    const lines = textOfFile(bytes).split(/\r\n|\r|\n/).map(line => line.trim());
     const has = (/** @type {RegExp} */ form) => lines.some(line => form.test(line));
-    if (has(/^FILE\s/i) && has(/^TRACK\s+\d/i)) return 'cue';
-    return has(/^CD_(?:DA|ROM|ROM_XA|I)$/) && has(/^TRACK\s+(?:AUDIO|MODE)/) ? 'toc' : null;
+    if (has(/^FILE\s/i) && has(/^TRACK\s+\d/i)) return { kind: 'cue', sheet: bytes };
+    return has(/^CD_(?:DA|ROM|ROM_XA|I)$/) && has(/^TRACK\s+(?:AUDIO|MODE)/) ? { kind: 'toc', sheet: null } : null;
 }

@@ -1,6 +1,6 @@
 // Lost sectors: blocks of a data track that are not of its mode, such as those that a drive could not read and a dumper filled.
 
-import { SECTOR_KIND } from '../module/index.js';
+import { SECTOR_KIND, SECTOR_SIZE } from '../module/index.js';
 import { addToRuns, commonRuns, isTestedMode2, joinedRuns, kindRuns, mode2Runs, runsWithout } from '../sectors/index.js';
 import { blocksOfVolume } from './volume_end.js';
 
@@ -17,8 +17,8 @@ import { blocksOfVolume } from './volume_end.js';
  * @typedef {{ others: KindRun[], filled: FilledRun[], mode2: Run[] }} OtherSectors
  */
 /**
- * The tracks of an image that are Mode 1 and Mode 2 according to the cue sheet.
- * @typedef {{ mode1: Run[], mode2: Run[] }} SheetTracks
+ * The tracks of an image that are Mode 1, Mode 2, and audio according to the cue sheet. Only those of audio include their pregaps.
+ * @typedef {{ mode1: Run[], mode2: Run[], audio: Run[] }} SheetTracks
  */
 /**
  * Why blocks count as lost: by their place, in a track of Mode 1 or of Mode 2, or in a file, or by their bytes.
@@ -31,11 +31,14 @@ import { blocksOfVolume } from './volume_end.js';
  */
 
 /** How a cue sheet names tracks of raw Mode 1 and of raw Mode 2 sectors. */
-export const MODE1 = 'MODE1/2352';
-export const MODE2_TRACKS = ['MODE2/2352', 'CDI/2352'];
+const MODE1 = 'MODE1/2352';
+const MODE2_TRACKS = ['MODE2/2352', 'CDI/2352'];
 
 /** The number of sectors of the shortest track (ECMA-130 and the Red Book: four seconds). */
 const SHORTEST_TRACK = 300;
+
+/** The byte that fills a silence of the constant -1, which audio may have. */
+const SILENCE = 0xFF;
 
 /** @type {LostIn[]} by the mark of a block, which counts from 1 */
 const REASONS = ['filled', 'volume', 'track', 'mode2'];
@@ -55,55 +58,82 @@ export function otherSectors(survey, filled, mode2 = new Uint8Array(0)) {
 }
 
 /**
- * The tracks of a file that are Mode 1 and Mode 2 according to the cue sheet, as runs of blocks counted from the image's base; null without
- * a sheet.
+ * The tracks of a file according to the cue sheet, as runs of blocks; null without a sheet.
  * @param {Disc} disc
  * @param {number} file
- * @param {number} base of the file's image
+ * @param {number} base the block of the file's first sector
  * @returns {SheetTracks | null}
  */
 export function sheetTracks({ sheet, tracks }, file, base) {
     if (sheet === null) return null;
-    const ofTypes = (/** @type {string[]} */ types) => tracks.filter(it => it.file === file && types.includes(it.type)).flatMap(track => {
-        const { image, part, sectors } = track;
-        if (image === null || part === null || sectors === null || sectors === 0) return [];
-        const first = base + part.base - image.base;
-        return [{ first, last: first + sectors - 1 }];
+    const own = tracks.filter(it => it.file === file);
+    const ofTypes = (/** @type {string[]} */ types, hasPregap = false) => own.filter(it => types.includes(it.type)).flatMap(track => {
+        const before = hasPregap ? track.pregap / SECTOR_SIZE : 0;
+        const first = base + Number(track.at) / SECTOR_SIZE - before;
+        const count = Number(track.sectors) + before;
+        return count === 0 || !Number.isInteger(first) ? [] : [{ first, last: first + count - 1 }];
     });
-    return { mode1: ofTypes([MODE1]), mode2: ofTypes(MODE2_TRACKS) };
+    return { mode1: ofTypes([MODE1]), mode2: ofTypes(MODE2_TRACKS), audio: ofTypes(['AUDIO'], true) };
 }
 
 /**
- * Finds the lost sectors of an image. With a sheet, these are the sectors in its data tracks, except Mode 1 tracks that are Mode 2
- * throughout. Without a sheet, they are the sectors that one byte other than 00 fills, which
- * audio never has. If there is data, they are also those that the volume uses, and runs between data sectors that are shorter than any
- * track. Throws what the readers of the dumps throw.
+ * Finds the lost sectors of an image: those that one byte other than 00 fills, which audio never has, and, if there is data, those that the
+ * volume uses, and runs between data sectors that are shorter than any track. With a sheet these two rules leave out its audio tracks, in
+ * which a constant silence of FF is possible too, and Mode 2 sectors in its Mode 2 tracks. All sectors of other modes in its data tracks
+ * count then, except in Mode 1 tracks that are Mode 2 throughout. Throws what the readers of the dumps throw.
  * @param {{ base: number, sectors: number }} image
  * @param {OtherSectors} found
  * @param {SheetTracks | null} tracks null without a sheet
- * @param {Dump[]} dumps of the disc, whose volumes are read if there is no sheet
+ * @param {Dump[]} dumps of the disc, whose volumes are read
  * @returns {Promise<Lost>}
  */
 export async function lostSectors({ base, sectors }, { others, filled, mode2 }, tracks, dumps) {
     const range = { first: base, last: base + sectors - 1 };
-    const isMode2 = (/** @type {KindRun} */ { kind }) => kind === SECTOR_KIND.MODE2;
     const notMode2 = others.filter(it => !isMode2(it));
     const runs = joinedRuns(mode2.length > 0 ? notMode2 : others);
-    const reasons = new Uint8Array(sectors);
-    const mark = (/** @type {Run[]} */ some, /** @type {LostIn} */ why) =>
-        some.forEach(({ first, last }) => reasons.fill(REASONS.indexOf(why) + 1, first - base, last - base + 1));
-    if (tracks !== null) {
-        const isOther = (/** @type {Run} */ track) => others.some(it => isMode2(it) && isWithin(track, it));
-        mark(commonRuns(runs, joinedRuns(tracks.mode1.filter(it => !isOther(it)))), 'track');
-        mark(commonRuns(joinedRuns(notMode2), joinedRuns(tracks.mode2)), 'mode2');
-        return { ...byReasons(others, base, reasons), used: null };
-    }
-    mark(filled.filter(({ byte }) => byte !== 0), 'filled');
+    const audio = tracks === null ? [] : joinedRuns(tracks.audio);
+    const asInSheet = joinedRuns([...audio, ...tracks === null ? [] : commonRuns(others.filter(isMode2), joinedRuns(tracks.mode2))]);
+    const marks = new LostMarks(range);
+    const ofOneByte = (/** @type {(byte: number) => boolean} */ isIt) => joinedRuns(filled.filter(({ byte }) => isIt(byte)));
+    marks.add(ofOneByte(byte => byte !== 0 && byte !== SILENCE), 'filled');
+    marks.add(runsWithout(ofOneByte(byte => byte === SILENCE), audio), 'filled');
     const used = runs.length > 0 && !isWithin(range, runs[0]) ? await usedByAll(dumps) : null;
     const hollow = others.filter(({ kind }) => kind === SECTOR_KIND.MODE0 || kind === SECTOR_KIND.OTHER);
-    if (used !== null) mark(commonRuns(runs, blocksInUse(used, range, runs, [...filled, ...hollow])), 'volume');
-    for (const run of runs.filter(it => isHole(it, range))) mark([run], mode2.some(it => it.last === run.first - 1) ? 'mode2' : 'track');
-    return { ...byReasons(others, base, reasons), used };
+    const inUse = used === null ? [] : commonRuns(runs, blocksInUse(used, range, runs, [...filled, ...hollow]));
+    marks.add(runsWithout(inUse, asInSheet), 'volume');
+    const ends = new Set(mode2.map(({ last }) => last + 1));
+    const holes = runs.filter(it => isHole(it, range));
+    marks.add(runsWithout(holes.filter(({ first }) => !ends.has(first)), asInSheet), 'track');
+    marks.add(runsWithout(holes.filter(({ first }) => ends.has(first)), asInSheet), 'mode2');
+    if (tracks !== null) {
+        const isOther = (/** @type {Run} */ track) => others.some(it => isMode2(it) && isWithin(track, it));
+        marks.add(commonRuns(runs, joinedRuns(tracks.mode1.filter(it => !isOther(it)))), 'track');
+        marks.add(commonRuns(joinedRuns(notMode2), joinedRuns(tracks.mode2)), 'mode2');
+    }
+    return { ...byReasons(others, base, marks.reasons), used };
+}
+
+/** @param {KindRun} run */
+function isMode2({ kind }) {
+    return kind === SECTOR_KIND.MODE2;
+}
+
+/** For each sector of an image, why it is lost. */
+class LostMarks {
+    /** @param {Run} range of the image */
+    constructor({ first, last }) {
+        this.first = first;
+        /** The place of the reason in REASONS, from 1 on; 0 if the sector is not lost. */
+        this.reasons = new Uint8Array(last - first + 1);
+    }
+
+    /**
+     * @param {Run[]} runs
+     * @param {LostIn} why
+     */
+    add(runs, why) {
+        for (const { first, last } of runs) this.reasons.fill(REASONS.indexOf(why) + 1, first - this.first, last - this.first + 1);
+    }
 }
 
 /**

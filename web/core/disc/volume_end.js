@@ -1,9 +1,10 @@
 // Determines which blocks a volume uses, and whether an image ends before its volume does.
 
-import { sliceOf } from '../bytes.js';
 import { failedBy } from '../faults.js';
 import { VolumeReader, descriptorsOf, endOfExtent, filesOf, numberInBoth } from '../iso/index.js';
 import { LAST_BASE, SECTOR_SIZE } from '../module/index.js';
+import { sliceOf } from '../readers/index.js';
+import { joinedForm1, joinedUser } from '../sectors/index.js';
 
 /** @typedef {import('./disc.js').DiscImage} DiscImage */
 /** @typedef {import('../sectors/runs.js').Run} Run */
@@ -48,12 +49,26 @@ async function ifVolume(reading) {
 }
 
 /**
- * A reader from the start of a track to the end of its image: the volume may be longer than the track.
+ * The volume of a Mode 1 or Mode 2 track, which may be longer than the track, and its descriptors; null if there is none.
  * @param {DiscImage} image
  * @param {DiscImage} part the track in it
  */
-function volumeReader(image, part) {
-    return sliceOf(image.reader, (part.base - image.base) * SECTOR_SIZE, image.reader.size);
+async function volumeIn(image, part) {
+    const reader = sliceOf(image.reader, (part.base - image.base) * SECTOR_SIZE, image.reader.size);
+    for (const userIn of [joinedUser, joinedForm1]) {
+        const volume = new VolumeReader(reader, part.base, userIn);
+        const descriptors = await ifVolume(descriptorsOf(volume));
+        if (descriptors !== null) return { volume, descriptors };
+    }
+    return null;
+}
+
+/**
+ * The files of a volume; null if it cannot be read.
+ * @param {VolumeReader} volume
+ */
+function filesIn({ reader, base, userIn }) {
+    return ifVolume(filesOf(reader, base, userIn));
 }
 
 /**
@@ -63,11 +78,11 @@ function volumeReader(image, part) {
  * @returns {Promise<UsedBlocks | null>}
  */
 export async function blocksOfVolume({ image, part, later }) {
-    const reader = volumeReader(image, part);
-    const descriptors = await ifVolume(descriptorsOf(new VolumeReader(reader, part.base)));
-    if (descriptors === null) return null;
+    const found = await volumeIn(image, part);
+    if (found === null) return null;
+    const { volume, descriptors } = found;
     const end = part.base + (numberInBoth(descriptors.primary, VOLUME_BLOCKS) || Infinity);
-    const { files, own } = await ifVolume(filesOf(reader, part.base)) || { files: [], own: new Map() };
+    const { files, own } = await filesIn(volume) || { files: [], own: new Map() };
     const isBelieved = (/** @type {FileEntry} */ file) =>
         file.size > 0 && (file.fault === null || READ.includes(file.fault.code)) && endOfExtent(file) <= end;
     return [
@@ -85,12 +100,11 @@ export async function blocksOfVolume({ image, part, later }) {
  * @returns {Promise<Lack | null>}
  */
 export async function lackOf(image, part, isAlone) {
-    const reader = volumeReader(image, part);
-    const volume = new VolumeReader(reader, part.base);
-    const descriptors = await ifVolume(descriptorsOf(volume));
-    const said = descriptors === null ? null : numberInBoth(descriptors.primary, VOLUME_BLOCKS);
-    if (said === null || said <= volume.sectors) return null;
-    const found = await ifVolume(filesOf(reader, part.base));
+    const own = await volumeIn(image, part);
+    const said = own === null ? null : numberInBoth(own.descriptors.primary, VOLUME_BLOCKS);
+    if (own === null || said === null || said <= own.volume.sectors) return null;
+    const { volume } = own;
+    const found = await filesIn(volume);
     const [first, files] = found === null ? [part.base, []] : [found.first, found.files];
     const [from, most] = [volume.sectors, said].map(count => part.base + count);
     const cut = files.find(it => it.fault?.code === 'extent/cut' && it.block < from && endOfExtent(it) <= most);

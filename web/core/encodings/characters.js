@@ -89,18 +89,17 @@ export class CharacterTable {
     }
 
     /**
-     * The parts of a text, each with its spellings.
+     * Yields the parts of a text, each with its spellings.
      * @param {string} text
+     * @returns {Generator<Uint8Array[]>}
      */
-    units(text) {
-        const units = [];
+    *units(text) {
         for (let at = 0; at < text.length;) {
             const length = longestIn(this.spellings, text, at, this.longestText);
             if (length === 0) throw lacks(this.name, text, at);
-            units.push(this.spellings.get(text.substr(at, length)) || []);
+            yield this.spellings.get(text.substr(at, length)) || [];
             at += length;
         }
-        return units;
     }
 
     /**
@@ -122,14 +121,18 @@ export class CharacterTable {
         const code = bytes[at] << 8 | bytes[at + 1];
         const known = at + 1 < bytes.length ? this.known[code] : undefined;
         if (known !== undefined) return known;
-        let [size, text, parameters] = [1, NO_CHARACTER, 0];
+        let size = 1;
+        let text = NO_CHARACTER;
+        let parameters = 0;
         let branch = this.root;
         let end = at;
         for (; end < bytes.length && branch.next !== null; end++) {
             const next = branch.next.get(bytes[end]);
             if (next === undefined) break;
             branch = next;
-            if (branch.text !== '') [size, text, parameters] = [end + 1 - at, branch.text, branch.parameters];
+            if (branch.text === '') continue;
+            size = end + 1 - at;
+            ({ text, parameters } = branch);
         }
         const given = bytes.subarray(at + size, at + size + parameters);
         if (given.length > 0) return { size: size + given.length, text: `${text}{${hexText(given)}}`, isCell: true };

@@ -7,14 +7,15 @@ import { CharacterTable } from './characters.js';
 /**
  * An encoding of texts. Options accept `name` and `aliases`, in capitals or not; lists show `label`; and `find` searches in it by default
  * if it is `searched`. `hasCharacters` is false if it only spells bytes. `space` and `wideSpace` are the texts that may fill up a shorter
- * one, '' if it has none. `units` cuts a text into parts and returns the spellings of each, the usual one first; `text` decodes bytes, with
- * U+FFFD for a byte that begins no character. `characterAt` decodes the character at a place, and returns how many bytes it has; `goesOn`
- * is whether a character may continue after a byte. `end` is the byte that ends a text, if it is not 00. `usual` is how its texts are
- * recognised, if it is a character set for a language other than Japanese.
+ * one, '' if it has none. `units` cuts a text into parts and returns the spellings of each, the usual one first; `parts`, if there is one,
+ * yields the same. `text` decodes bytes, with U+FFFD for a byte that begins no character. `characterAt` decodes the character at a place,
+ * and returns how many bytes it has; `goesOn` is whether a character may continue after a byte. `end` is the byte that ends a text, 0 or
+ * undefined if that is 00 or not known. `usual` is how its texts are recognised, if it is a character set of two bytes for a language other
+ * than Japanese, and `isSingle` whether it is one of one byte for the languages of Europe.
  * @typedef {{ name: string, label: string, aliases: string[], searched: boolean, hasCharacters: boolean, space: string, wideSpace: string,
- *     units: (text: string) => Uint8Array[][], text: (bytes: Uint8Array) => string,
+ *     units: (text: string) => Uint8Array[][], parts?: (text: string) => Iterable<Uint8Array[]>, text: (bytes: Uint8Array) => string,
  *     characterAt: (bytes: Uint8Array, at: number) => Character, goesOn: (byte: number) => boolean, end?: number,
- *     usual?: Usual, leftOut?: number[] }} Encoding
+ *     usual?: Usual, isSingle?: boolean, leftOut?: number[] }} Encoding
  */
 /**
  * How many bytes a character has, and their text; `isCell` if the text already has parameters as codes.
@@ -22,7 +23,10 @@ import { CharacterTable } from './characters.js';
  */
 /** @typedef {{ first: number, last: number, score: number }} Usual pairs of bytes that are frequent in texts, and the score of each */
 /** @typedef {Uint8Array | 'end' | null} Filler what fills up a shorter text: bytes, the byte that ends texts, or the encoding's space */
-/** @typedef {{ name: string, label?: string, aliases?: string[], searched?: boolean, usual?: Usual }} Names an encoding's properties */
+/**
+ * Properties of an encoding.
+ * @typedef {{ name: string, label?: string, aliases?: string[], searched?: boolean, usual?: Usual, isSingle?: boolean }} Names
+ */
 
 export const SPACES = { space: ' ', wideSpace: '\u3000' };
 
@@ -32,12 +36,13 @@ export class TableEncoding {
      * @param {Names} names
      * @param {(table: CharacterTable) => void} fill
      */
-    constructor({ name, label = name, aliases = [], searched = false, usual }, fill) {
+    constructor({ name, label = name, aliases = [], searched = false, usual, isSingle = false }, fill) {
         this.name = name;
         this.label = label;
         this.aliases = aliases;
         this.searched = searched;
         this.usual = usual;
+        this.isSingle = isSingle;
         this.hasCharacters = true;
         this.space = SPACES.space;
         this.wideSpace = SPACES.wideSpace;
@@ -58,6 +63,11 @@ export class TableEncoding {
 
     /** @param {string} text */
     units(text) {
+        return [...this.parts(text)];
+    }
+
+    /** @param {string} text */
+    parts(text) {
         return this.table.units(text);
     }
 
@@ -138,12 +148,33 @@ export function wideSpaceIn(encoding) {
 }
 
 /**
+ * The same encoding for texts that end with a byte.
+ * @param {Encoding} encoding
+ * @param {number | undefined} end if it is undefined, the encoding is returned as it is
+ * @returns {Encoding}
+ */
+export function withEnd(encoding, end) {
+    return end === undefined ? encoding : Object.assign(Object.create(encoding), { end });
+}
+
+/**
+ * The bytes that end a text: one byte, or in UTF-16 one unit, FFFF for FF.
+ * @param {Encoding} encoding
+ */
+export function endOf(encoding) {
+    const { end = 0 } = encoding;
+    const { length: unit } = spaceIn(encoding) || [0];
+    if (!encoding.hasCharacters || unit !== 2 || encoding instanceof TableEncoding) return Uint8Array.of(end);
+    return end === 0xFF ? Uint8Array.of(end, end) : encodeText(encoding, String.fromCharCode(end));
+}
+
+/**
  * The bytes that fill up a shorter text, or null if the encoding has no space.
  * @param {Encoding} encoding
  * @param {Filler} filler
  */
 export function fillerOf(encoding, filler) {
-    return filler === 'end' ? Uint8Array.of(encoding.end || 0) : filler || spaceIn(encoding);
+    return filler === 'end' ? endOf(encoding) : filler || spaceIn(encoding);
 }
 
 /**
@@ -162,24 +193,31 @@ export function fillsOf(encoding) {
 }
 
 /** Bytes that may fill up the room after a text, besides the wide space. */
-const FILLING = [0x00, 0x20, 0xFF];
+const NUL = 0x00;
+const BLANK = 0x20;
+const FULL = 0xFF;
 
 /**
- * How many bytes after a text only fill up its room. The last byte that ends texts, mostly 00, is not one of them.
+ * How many bytes after a text only fill up its room. The last 00 and the last byte that ends texts do not belong to it. In a field of fixed
+ * width all others do; elsewhere FF only if texts end with a different byte, and a single space only before such a byte.
  * @param {Encoding} encoding
  * @param {Uint8Array} bytes
  * @param {number} from where the text ends in them
  * @param {number} [to] where the next text begins
+ * @param {boolean} [isField]
  */
-export function fillingAfter(encoding, bytes, from, to = bytes.length) {
+export function fillingAfter(encoding, bytes, from, to = bytes.length, isField = false) {
     const wide = wideSpaceIn(encoding);
     if (wide !== null && from < to && bytes[from] === wide[0] && wide[0] !== 0) return repeatedAfter(wide, bytes, from, to);
     const value = bytes[from];
-    if (from >= to || !FILLING.includes(value)) return 0;
+    if (from >= to || ![NUL, BLANK, FULL].includes(value)) return 0;
+    const last = encoding.end || 0;
+    if (value === FULL && last === NUL && !isField) return 0;
     const { length: unit } = spaceIn(encoding) || [0];
     let end = from;
     while (end < to && bytes[end] === value) end += 1;
-    const count = end - from - (value === (encoding.end || 0) ? unit : 0);
+    const count = end - from - (value === NUL || value === last ? unit : 0);
+    if (value === BLANK && count === unit && !isField && ![NUL, last].includes(bytes[end])) return 0;
     return Math.max(count - count % unit, 0);
 }
 

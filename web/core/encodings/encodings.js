@@ -7,7 +7,7 @@ import { EUC_JP } from './euc_jp.js';
 import { EUC_KR } from './euc_kr.js';
 import { GBK } from './gbk.js';
 import { HEX } from './hex.js';
-import { tableEncoding } from './table.js';
+import { SINGLE_BYTE } from './single_byte.js';
 import { UTF16BE, UTF16LE } from './utf16.js';
 import { UTF8 } from './utf8.js';
 import { textOf1252 } from './windows_1252.js';
@@ -15,7 +15,7 @@ import { textOf1252 } from './windows_1252.js';
 /** @typedef {import('./encoding.js').Encoding} Encoding */
 
 /** @type {Encoding[]} all encodings, in the order in which they are listed and searched */
-export const ENCODINGS = [HEX, CP932, EUC_JP, UTF8, UTF16LE, UTF16BE, BIG5, GBK, EUC_KR];
+export const ENCODINGS = [HEX, CP932, EUC_JP, UTF8, UTF16LE, UTF16BE, BIG5, GBK, EUC_KR, ...SINGLE_BYTE];
 
 /** The encodings that are searched if none is named: those of Japanese discs. */
 export const SEARCHED = ENCODINGS.filter(({ searched }) => searched);
@@ -77,12 +77,4 @@ export function textsOfFile(bytes) {
 export function tableTextOf(bytes) {
     if (bytes.length > LARGEST_TABLE) throw new Fault('text/large-table', { size: bytes.length, most: LARGEST_TABLE });
     return textOfFile(bytes);
-}
-
-/**
- * The encoding of a `.tbl` file. Throws a Fault that names the line.
- * @param {Uint8Array} bytes
- */
-export function tableOf(bytes) {
-    return tableEncoding(tableTextOf(bytes));
 }

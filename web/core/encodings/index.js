@@ -2,8 +2,8 @@
 
 export { lacks, numbersOf } from './characters.js';
 export { CP932 } from './cp932.js';
-export { TableEncoding, encodeText, fillerOf, fillingAfter, fillsOf, spaceIn, usualBytes } from './encoding.js';
-export { ENCODINGS, SEARCHED, USUAL_ENCODING, encodingOf, markOf, tableTextOf, textOfFile, textsOfFile } from './encodings.js';
+export { TableEncoding, encodeText, endOf, fillerOf, fillingAfter, usualBytes, withEnd } from './encoding.js';
+export { ENCODINGS, SEARCHED, encodingOf, markOf, tableTextOf, textOfFile, textsOfFile } from './encodings.js';
 export { endOfFilling, fillerSizeAt, sizeBeforeFilling } from './filling.js';
-export { linesLeftOut, tableEncoding } from './table.js';
+export { tableEncoding } from './table.js';
 export { windowsText } from './windows_1252.js';

@@ -2,6 +2,7 @@
 
 import { Fault, remark } from '../faults.js';
 import { bytesOfHex } from '../hex_digits.js';
+import { isTurnDue, letOthersIn } from '../turns.js';
 import { TableEncoding } from './encoding.js';
 
 /** The most bytes and characters of an entry, so that the cost of a line is bounded. */
@@ -31,13 +32,55 @@ const OTHER_TOOLS = /^([@!([{]|[$*/]?([0-9A-Fa-f]{2})+=$|\$[0-9A-Fa-f]+=.*,%)/;
  * @param {string} file
  */
 export function tableEncoding(file) {
-    const made = new TableEncoding({ name: 'the table' }, () => {});
-    file.split(/\r?\n/).forEach((line, i) => {
-        const start = line.slice(0, LONGEST_LINE);
-        if (SILENT.test(start)) return;
-        if (OTHER_TOOLS.test(start)) return void made.leftOut.push(i + 1);
-        addLine(made, start, i + 1);
-    });
+    const made = emptyTable();
+    for (const [line, number] of numberedLines(file)) readLine(made, line, number);
+    return whole(made);
+}
+
+/**
+ * As `tableEncoding`, with turns for others in between.
+ * @param {string} file
+ * @param {import('../turns.js').Signal} [signal]
+ */
+export async function tableInTurns(file, signal) {
+    const made = emptyTable();
+    for (const [line, number] of numberedLines(file)) {
+        if (isTurnDue()) await letOthersIn(signal);
+        readLine(made, line, number);
+    }
+    return whole(made);
+}
+
+function emptyTable() {
+    return new TableEncoding({ name: 'the table' }, () => {});
+}
+
+/**
+ * The beginnings of the lines of a table, and their numbers.
+ * @param {string} file
+ * @returns {Generator<[string, number]>}
+ */
+function* numberedLines(file) {
+    for (let at = 0, number = 1, end = 0; end >= 0; at = end + 1, number++) {
+        end = file.indexOf('\n', at);
+        const line = file.slice(at, Math.min(end < 0 ? file.length : end, at + LONGEST_LINE));
+        yield [line.endsWith('\r') ? line.slice(0, -1) : line, number];
+    }
+}
+
+/**
+ * @param {TableEncoding} made
+ * @param {string} line
+ * @param {number} number
+ */
+function readLine(made, line, number) {
+    if (SILENT.test(line)) return;
+    if (OTHER_TOOLS.test(line)) made.leftOut.push(number);
+    else addLine(made, line, number);
+}
+
+/** @param {TableEncoding} made of all lines */
+function whole(made) {
     if (made.leftOut.length > 0 && made.table.spellings.size === 0) throw new Fault('text/empty-table', {});
     return made;
 }

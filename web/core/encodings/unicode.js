@@ -5,6 +5,23 @@ import { SPACES } from './encoding.js';
 
 /** @typedef {import('./encoding.js').Encoding} Encoding */
 
+/** How many characters have a known part. */
+const MOST_KNOWN = 1 << 12;
+
+/**
+ * The function that returns the part of a character. It keeps some, so that a long text does not need new bytes for each character.
+ * @param {(character: string) => Uint8Array} bytesOf
+ */
+function partsBy(bytesOf) {
+    /** @type {Map<string, Uint8Array[]>} */
+    const known = new Map();
+    return (/** @type {string} */ character) => {
+        const part = known.get(character) || [bytesOf(character)];
+        if (known.size < MOST_KNOWN) known.set(character, part);
+        return part;
+    };
+}
+
 /**
  * @param {string} name
  * @param {(character: string) => Uint8Array} bytesOf
@@ -22,6 +39,13 @@ export function unicodeEncoding(name, bytesOf, goesOn, sizeAt) {
             return '';
         }
     };
+    const partOf = partsBy(bytesOf);
+    /** @param {string} text */
+    function* parts(text) {
+        const lacking = text.search(/\p{Cs}/u);
+        if (lacking >= 0) throw lacks(name, text, lacking);
+        for (const character of text) yield partOf(character);
+    }
     return {
         name,
         label: name,
@@ -29,11 +53,8 @@ export function unicodeEncoding(name, bytesOf, goesOn, sizeAt) {
         searched: true,
         hasCharacters: true,
         ...SPACES,
-        units(text) {
-            const lacking = text.search(/\p{Cs}/u);
-            if (lacking >= 0) throw lacks(name, text, lacking);
-            return Array.from(text, character => [bytesOf(character)]);
-        },
+        units: text => [...parts(text)],
+        parts,
         text: bytes => loose.decode(bytes),
         characterAt(bytes, at) {
             const wanted = sizeAt(bytes, at);

@@ -25,6 +25,7 @@ import { walked } from './walk.js';
  * @typedef {{ files: FileEntry[], faults: Remark[], entries: FileEntry[], udf: boolean, own: Map<number, OwnBlock>, tables: number[],
  *     first: number }} VolumeFiles
  */
+/** @typedef {(bytes: Uint8Array) => Uint8Array} UserIn concatenates the user data of whole sectors */
 /** @typedef {{ path: string, size: number, extents: FileEntry[] }} WholeFile a file, with its extents in the order of its bytes */
 
 const MOST_DESCRIPTORS = 64;
@@ -45,10 +46,12 @@ export class VolumeReader {
     /**
      * @param {Reader} reader
      * @param {number} base
+     * @param {UserIn} userIn
      */
-    constructor(reader, base) {
+    constructor(reader, base, userIn) {
         this.reader = reader;
         this.base = base;
+        this.userIn = userIn;
         this.sectors = sectorCount(reader.size);
         /** The number that the volume gives the first sector. */
         this.first = 0;
@@ -82,7 +85,7 @@ export class VolumeReader {
         const index = extent - this.first;
         const known = this.kept.get(index);
         if (count === 1 && known) return known;
-        const user = joinedUser(await readBytes(this.reader, index * SECTOR_SIZE, count * SECTOR_SIZE));
+        const user = this.userIn(await readBytes(this.reader, index * SECTOR_SIZE, count * SECTOR_SIZE));
         if (this.kept.size === MOST_KEPT) this.kept.clear();
         if (count === 1) this.kept.set(index, user);
         return user;
@@ -103,10 +106,11 @@ export class VolumeReader {
  * The files of a track's volume. Throws a Fault, `volume`, if there is none, and the errors of the reader.
  * @param {Reader} reader of the track
  * @param {number} base the block of its first sector
+ * @param {UserIn} [userIn] by default for Mode 1
  * @returns {Promise<VolumeFiles>}
  */
-export async function filesOf(reader, base) {
-    const volume = new VolumeReader(reader, base);
+export async function filesOf(reader, base, userIn = joinedUser) {
+    const volume = new VolumeReader(reader, base, userIn);
     const { primary, joliet, udf, count } = await descriptorsOf(volume);
     const { first, own: self } = await foundRoot(volume, rootOf(primary).extent);
     volume.first = first;
@@ -198,8 +202,10 @@ export function filesAt(files, block, offset) {
  * @param {VolumeReader} volume
  */
 export async function descriptorsOf(volume) {
-    let [primary, joliet] = [new Uint8Array(0), /** @type {Uint8Array | null} */ (null)];
-    let [ended, udf, count] = [false, false, 0];
+    let primary = new Uint8Array(0);
+    let joliet = /** @type {Uint8Array | null} */ (null);
+    let [ended, udf] = [false, false];
+    let count = 0;
     const most = volume.available(FIRST_DESCRIPTOR, MOST_DESCRIPTORS);
     for (let i = 0; i < most; i++) {
         const user = await volume.user(FIRST_DESCRIPTOR + i, 1);

@@ -2,5 +2,5 @@
 
 export { fileOrder } from './file_order.js';
 export { readerOfFile } from './file_reader.js';
-export { VolumeReader, descriptorsOf, endOfExtent, filesAt, filesLines, filesOf, wholeFile } from './files.js';
+export { VolumeReader, descriptorsOf, endOfExtent, filesAt, filesOf, wholeFile } from './files.js';
 export { SIZE_FIELD, numberInBoth } from './records.js';

@@ -188,7 +188,8 @@ async function rockRidge(blocks, area) {
  * @returns {AsyncGenerator<RecordPlace>}
  */
 export async function* entriesOfDirectory(blocks, user, reading) {
-    let [before, name] = [0, /** @type {Uint8Array | null} */ (null)];
+    let before = 0;
+    let name = /** @type {Uint8Array | null} */ (null);
     for (const record of recordsOf(user, reading.fault)) {
         if (isSelf(record) || isParent(record)) continue;
         const goesOn = name !== null && name.length === record.name.length && sameBytes(name, record.name);

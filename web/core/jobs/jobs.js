@@ -5,10 +5,9 @@ import { sumsOfRange, surveyRange } from '../sectors/index.js';
 import { diffRange, differRange, mergeRange, replaceRange, userRange } from '../tasks/index.js';
 import { findIn, textsOfRange } from '../texts/index.js';
 
-/** @type {Required<import('../crew/jobs.js').JobTable>} */
+/** @type {Required<import('../pool/jobs.js').JobTable>} */
 export const JOBS = Object.freeze({
     survey: (calls, [bytes], block, args) => surveyRange(calls, bytes, block, args),
-    kinds: (calls, [bytes], block) => ({ block, records: calls.kinds(bytes) }),
     sums: (calls, [bytes], block, args) => sumsOfRange(calls, bytes, block, args),
     find: (_, [bytes], first, args) => findIn(bytes, first, args),
     diff: (calls, [old, fresh], first) => diffRange(calls, old, fresh, first),

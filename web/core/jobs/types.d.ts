@@ -3,17 +3,15 @@
 import { TextOptions, FoundText } from '../texts/range.js';
 import { Found, Limits, Wanted } from '../texts/find.js';
 import { Summed } from '../sectors/sums.js';
-import { RangeSurvey, Survey, SurveyArgs } from '../sectors/survey.js';
+import { RangeSurvey, SurveyArgs } from '../sectors/survey.js';
 import { How, Lines } from '../script/sector_lines.js';
 import { Differing } from '../tasks/compare.js';
 import { UserRange } from '../tasks/convert.js';
 import { Merged } from '../tasks/merge.js';
 
-declare module '../crew/jobs.js' {
+declare module '../pool/jobs.js' {
     interface Jobs {
         survey: { args: SurveyArgs; answer: RangeSurvey };
-        /** The records have only kinds. */
-        kinds: { args: SurveyArgs; answer: Survey };
         sums: { args: { surveys: boolean } & SurveyArgs; answer: Summed };
         find: { args: { texts: Wanted[] } & Limits; answer: Found[] };
         diff: { args: {}; answer: Lines };

@@ -12,14 +12,13 @@ export class Arena {
     /** @param {WebAssembly.Module} module of libcdpatch, with 32-bit addresses of memory */
     constructor(module) {
         this.exports = /** @type {Record<string, any>} */ (inMemory(() => new WebAssembly.Instance(module)).exports);
-        this.answer = Math.ceil(Number(this.exports.__heap_base.value) / 16) * 16;
+        this.answer = Math.ceil(this.exports.__heap_base.value / 16) * 16;
         this.patch = this.answer + ANSWER_SIZE;
         this.fresh = this.patch + PATCH_STRUCT.BYTES;
         this.old = this.fresh + PATCH_SIZE;
         this.arena = this.old + PATCH_SIZE;
         /** @type {{ at: number, back: boolean }[]} the lent ranges, and whether each was given back */
         this.lent = [];
-        this.places = { answer: BigInt(this.answer), patch: BigInt(this.patch), fresh: BigInt(this.fresh), old: BigInt(this.old) };
         this.memory = new Uint8Array(0);
         this.view = new DataView(this.memory.buffer);
         this.heldSize = 0;
@@ -75,17 +74,17 @@ export class Arena {
             const at = end;
             if (typeof piece !== 'number') this.memory.set(piece, at);
             end += sizes[i];
-            return BigInt(at);
+            return at;
         });
     }
 
     /**
      * A copy of bytes of the memory.
-     * @param {number | bigint} at
-     * @param {number | bigint} size
+     * @param {number} at
+     * @param {number} size
      */
     copied(at, size) {
-        return this.memory.slice(Number(at), Number(at) + Number(size));
+        return this.memory.slice(at, at + size);
     }
 
     /** @param {...Uint8Array} pieces texts or sectors, for the calls that use places in the held bytes */
@@ -103,9 +102,9 @@ export class Arena {
     /**
      * Calls a function of the module that writes a text, and returns a copy of the text.
      * @param {string} name
-     * @param {...(number | bigint)} given its arguments before the address of the text
+     * @param {...number} given its arguments before the address of the text
      */
     line(name, ...given) {
-        return this.copied(this.answer, this.exports[name](...given, this.places.answer));
+        return this.copied(this.answer, Number(this.exports[name](...given, this.answer)));
     }
 }

@@ -5,9 +5,10 @@ import { MOST_PATCHES, SECTORS_IN_HAND, STEP, VERB } from './records.js';
 import { SectorCalls } from './sector_calls.js';
 
 /**
- * A run, and the memory that is lent to it: the addresses of that memory, of its hand, and of its step; the arguments of the two calls;
- * and the number of patches in its script.
- * @typedef {{ at: number, sectors: number, step: number, script: bigint[], entries: bigint[], rooms: bigint[], patches: number }} ScriptRun
+ * A run, with the addresses of the memory that is lent to it (`at`, where the run itself lies, is the first), the size of its script, the
+ * number of entries that have room, and the number of patches in the script.
+ * @typedef {{ at: number, step: number, rooms: number, sectors: number, entries: number, room: bigint, text: number, size: bigint,
+ *     patches: number }} ScriptRun
  */
 /** @typedef {{ number: number, start: number, size: number }} LinePlace a line's number, and the range of its bytes in the script */
 /**
@@ -22,6 +23,9 @@ import { SectorCalls } from './sector_calls.js';
  *     size: number }} Step
  */
 
+// What begins a run of an invalid script returns, as a signed number; its first step is the line that says why.
+const INVALID = -2;
+
 /** Has a method for each call that the core makes. Arguments are copied to the arena, or held there, and answers are copies. */
 export class Calls extends SectorCalls {
     /**
@@ -31,7 +35,7 @@ export class Calls extends SectorCalls {
      */
     firstLine(from) {
         const size = BigInt(this.heldSize - this.within(from));
-        if (!this.exports.cdpatch_first_line(BigInt(this.arena + from), size, this.places.answer)) return null;
+        if (!this.exports.cdpatch_first_line(this.arena + from, size, this.answer)) return null;
         const number = (/** @type {number} */ place) => this.view.getUint32(this.answer + place, true);
         return { size: number(LINE_STRUCT.SIZE), taken: number(LINE_STRUCT.TAKEN) };
     }
@@ -39,16 +43,14 @@ export class Calls extends SectorCalls {
     /**
      * Reads a line of the held text, and returns its CONTENT. If that is a patch, `patchRead` returns it.
      * @param {number} version
-     * @param {number} number
      * @param {number} earlier
      * @param {number} from
      * @param {number} size
      * @returns {number}
      */
-    readLine(version, number, earlier, from, size) {
-        const { patch, fresh, old } = this.places;
-        const at = BigInt(this.arena + this.within(from + size) - size);
-        return this.exports.cdpatch_read_line(version, number, BigInt(earlier), at, BigInt(size), patch, fresh, old);
+    readLine(version, earlier, from, size) {
+        const at = this.arena + this.within(from + size) - size;
+        return this.exports.cdpatch_read_line(version, BigInt(earlier), at, BigInt(size), this.patch, this.fresh, this.old);
     }
 
     /**
@@ -113,19 +115,19 @@ export class Calls extends SectorCalls {
         const sizes = [RUN, STEP_SIZE, ROOMS, SECTORS_IN_HAND * SECTOR_SIZE, room * ENTRY, length];
         const at = this.lend(sizes.reduce((sum, size) => sum + size, 0));
         let end = at;
-        const [run, step, rooms, sectors, entries, text] = sizes.map(size => (end += size) - size);
+        const [, step, rooms, sectors, entries, text] = sizes.map(size => (end += size) - size);
         let filled = text;
         for (const piece of script) {
             this.memory.set(piece, filled);
             filled += piece.length;
         }
-        const made = { at, sectors, step, script: [text, length].map(BigInt), entries: [entries, room].map(BigInt),
-            rooms: [sectors, SECTORS_IN_HAND, rooms, step].map(BigInt), patches: -1 };
-        const given = [base, BigInt(imageSize === null ? -1 : imageSize), flags];
+        const run = { at, step, rooms, sectors, entries, room: BigInt(room), text, size: BigInt(length), patches: -1 };
+        const known = BigInt(imageSize === null ? -1 : imageSize);
         const begin = this.exports.cdpatch_run_begin;
-        if (base === base >>> 0) made.patches = Number(begin(BigInt(run), ...made.script, ...given, ...made.entries));
-        if (made.patches >= 0) return made;
-        this.runEnd(made);
+        if (base === base >>> 0) run.patches = Number(begin(at, text, run.size, base, known, flags, entries, run.room));
+        if (run.patches === INVALID) run.patches = 0;
+        if (run.patches >= 0) return run;
+        this.runEnd(run);
         throw new RangeError(`no run from block ${base} on`);
     }
 
@@ -134,10 +136,10 @@ export class Calls extends SectorCalls {
      * @param {ScriptRun} run
      * @returns {LinePlace[]}
      */
-    runLines({ entries: [first], patches }) {
+    runLines({ entries, patches }) {
         const { BYTES, NUMBER, START, SIZE } = ENTRY_STRUCT;
         return Array.from({ length: patches }, (_, i) => {
-            const number = (/** @type {number} */ place) => this.view.getUint32(Number(first) + i * BYTES + place, true);
+            const number = (/** @type {number} */ place) => this.view.getUint32(entries + i * BYTES + place, true);
             return { number: number(NUMBER), start: number(START), size: number(SIZE) };
         });
     }
@@ -148,10 +150,8 @@ export class Calls extends SectorCalls {
      * @param {number} done how many bytes of the last step were moved, 0 at first
      * @returns {Step}
      */
-    runNext({ at, sectors, step, script, entries, rooms }, done) {
-        // Written out, because spreading the three arrays takes ten times as long as the call.
-        this.exports.cdpatch_run_next(BigInt(at), BigInt(done), script[0], script[1], entries[0], entries[1],
-            rooms[0], rooms[1], rooms[2], rooms[3]);
+    runNext({ at: run, step, rooms, sectors, entries, room, text, size: length }, done) {
+        this.exports.cdpatch_run_next(run, BigInt(done), text, length, entries, room, sectors, BigInt(SECTORS_IN_HAND), rooms, step);
         const number = (/** @type {number} */ place) => this.view.getUint32(step + place, true);
         const { KIND, STATUS, NUMBER, RESULT, BLOCK, OFFSET, AT, PLACE, SIZE, TEXT } = STEP_STRUCT;
         const kind = number(KIND);

@@ -1,9 +1,8 @@
 // The calls of libcdpatch on sectors and images, with JavaScript bytes and numbers. cdpatch.h documents each call.
 
-import { newBytes } from '../faults.js';
 import { Arena } from './arena.js';
 import { ADDRESS_SIZE, COLUMNS, DIAGONALS, DIGEST_SIZE, SECTOR_SIZE, SHA1_STRUCT, USER_SIZE } from './numbers.js';
-import { RECORD, RECORD_SIZE, sectorCount } from './records.js';
+import { RECORD_SIZE, sectorCount } from './records.js';
 
 /** The place of the header in a sector, and its size. */
 const HEADER_AT = 12;
@@ -25,9 +24,12 @@ export class SectorCalls extends Arena {
         return this.exports.cdpatch_version() >>> 0;
     }
 
-    /** @param {Uint8Array} sector */
+    /**
+     * @param {Uint8Array} sector
+     * @returns {number}
+     */
     kind(sector) {
-        return Number(this.exports.cdpatch_kind(this.put(sized(sector, SECTOR_SIZE))[0]));
+        return this.exports.cdpatch_kind(this.put(sized(sector, SECTOR_SIZE))[0]);
     }
 
     /**
@@ -35,7 +37,7 @@ export class SectorCalls extends Arena {
      * @param {number} block
      */
     address(block) {
-        const made = block === block >>> 0 && this.exports.cdpatch_address(block, this.places.answer);
+        const made = block === block >>> 0 && this.exports.cdpatch_address(block, this.answer);
         return made ? this.copied(this.answer, ADDRESS_SIZE) : null;
     }
 
@@ -58,8 +60,8 @@ export class SectorCalls extends Arena {
         const count = Math.floor(user.length / USER_SIZE);
         const [from, sectors] = this.put(sized(user, count * USER_SIZE), count * SECTOR_SIZE);
         for (let i = 0; i < count; i++) {
-            if (!this.exports.cdpatch_address(block + i, this.places.answer)) throw new RangeError(`block ${block + i} has no address`);
-            this.exports.cdpatch_encode(this.places.answer, from + BigInt(i * USER_SIZE), sectors + BigInt(i * SECTOR_SIZE));
+            if (!this.exports.cdpatch_address(block + i, this.answer)) throw new RangeError(`block ${block + i} has no address`);
+            this.exports.cdpatch_encode(this.answer, from + i * USER_SIZE, sectors + i * SECTOR_SIZE);
         }
         return this.copied(sectors, count * SECTOR_SIZE);
     }
@@ -75,19 +77,6 @@ export class SectorCalls extends Arena {
         const known = block === block >>> 0 && this.exports.cdpatch_survey(from, BigInt(count), block, records, BigInt(count));
         if (!known) throw new RangeError(`${count} sectors from block ${block} on`);
         return this.copied(records, RECORD_SIZE * count);
-    }
-
-    /**
-     * The records of whole sectors, in which only the kinds are set.
-     * @param {Uint8Array} sectors
-     */
-    kinds(sectors) {
-        const records = newBytes(RECORD_SIZE * sectorCount(sectors.length));
-        const [from] = this.put(sectors);
-        for (let i = 0; i < records.length / RECORD_SIZE; i++) {
-            records[RECORD_SIZE * i + RECORD.KIND] = Number(this.exports.cdpatch_kind(from + BigInt(SECTOR_SIZE * i)));
-        }
-        return records;
     }
 
     /**
@@ -146,7 +135,7 @@ export class SectorCalls extends Arena {
      * @returns {number}
      */
     heldEdc(from, end) {
-        return this.exports.cdpatch_edc(BigInt(this.arena + from), BigInt(this.within(end) - from)) >>> 0;
+        return this.exports.cdpatch_edc(this.arena + from, BigInt(this.within(end) - from)) >>> 0;
     }
 
     /**
@@ -158,7 +147,7 @@ export class SectorCalls extends Arena {
         const sector = this.arena + this.within(at + SECTOR_SIZE) - SECTOR_SIZE;
         const marks = this.answer;
         this.memory.fill(0, sector + HEADER_AT, sector + HEADER_AT + HEADER_SIZE);
-        this.exports.cdpatch_find_broken(BigInt(sector), this.places.answer, BigInt(marks + COLUMNS));
+        this.exports.cdpatch_find_broken(sector, marks, marks + COLUMNS);
         for (let i = marks; i < marks + COLUMNS + DIAGONALS; i++) if (this.memory[i] !== 0) return false;
         return true;
     }

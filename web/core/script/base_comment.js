@@ -38,7 +38,8 @@ export function scriptForBase({ pieces: [head, ...lines], ...script }, base) {
 export function basesNamed(text) {
     /** @type {NamedBase[]} */
     const found = [];
-    let [line, counted] = [1, 0];
+    let line = 1;
+    let counted = 0;
     for (let at = text.indexOf(HASH); at >= 0; at = text.indexOf(HASH, at + 1)) {
         if (text[at + 2] !== LETTER_B || at > 0 && text[at - 1] !== LINE_FEED) continue;
         const end = text.indexOf(LINE_FEED, at);

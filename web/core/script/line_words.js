@@ -64,7 +64,7 @@ export function partOfWord(parts, word) {
 export function contentOf(calls, version, line) {
     const bytes = new TextEncoder().encode(line);
     calls.hold(bytes);
-    return calls.readLine(version, 1, 0, 0, bytes.length);
+    return calls.readLine(version, 0, 0, bytes.length);
 }
 
 /**
@@ -88,8 +88,9 @@ export function faultyWord(calls, line, fault) {
  * @param {number} number
  */
 export function wordsOn(text, number) {
-    const [message, named] = [new TextDecoder().decode(text).trimEnd(), `line ${number}: `];
-    return message.slice(message.indexOf(named) + named.length);
+    const message = new TextDecoder().decode(text).trimEnd();
+    const prefix = `line ${number}: `;
+    return message.slice(message.indexOf(prefix) + prefix.length);
 }
 
 /**

@@ -55,7 +55,7 @@ class LineReader {
         if (found instanceof Uint8Array || (this.version === 0 && found.length > 0)) return this.readEach(lines);
         for (const { number, start, size } of found) {
             const from = start - this.head.length - 1;
-            this.calls.readLine(this.version, number, 0, from, size);
+            this.calls.readLine(this.version, 0, from, size);
             const patch = this.calls.patchRange();
             this.patches.push({ ...patch, number: this.number + number - 1, line: lines.subarray(from, from + size) });
         }
@@ -73,10 +73,11 @@ class LineReader {
         let from = 0;
         for (let line = this.calls.firstLine(0); line !== null; line = this.calls.firstLine(from)) {
             this.number += 1;
-            const content = this.calls.readLine(this.version, this.number, 0, from, line.size);
+            const content = this.calls.readLine(this.version, 0, from, line.size);
             if (isFault(content)) return this.calls.faultLine(this.number, content);
             if (content !== CONTENT.PATCH && content !== CONTENT.NOTHING) {
-                [this.version, this.head] = [content, lines.subarray(from, from + line.size)];
+                this.version = content;
+                this.head = lines.subarray(from, from + line.size);
                 return this.read(lines.subarray(from + line.taken));
             }
             from += line.taken;

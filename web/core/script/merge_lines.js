@@ -83,17 +83,6 @@ class Merging {
 }
 
 /**
- * The lines of a script, in order, that new lines which set bytes would replace.
- * @param {ScriptModel} script
- * @param {string[]} incoming
- * @param {(line: ScriptLine) => boolean} isMade whether a line was generated like the new ones, and not typed
- */
-export function replacedLines(script, incoming, isMade) {
-    const read = linesRead(new ScriptModel(script.calls, scriptOf(incoming)));
-    return [...new Set(read.flatMap(({ patch }) => linesFor(script, patch, isMade)))].sort(byNumber);
-}
-
-/**
  * The lines of a script, in order, that write some of the bytes of new lines which set bytes, but begin at none of their places.
  * @param {ScriptModel} script
  * @param {string[]} incoming
@@ -107,23 +96,11 @@ export function linesBeside(script, incoming) {
 
 /**
  * Merges lines that set bytes, and do not overlap, with a script, and returns the texts of all lines. Each new line is put in the place of
- * the first line that it replaces, or at the end.
- * @param {ScriptModel} script
- * @param {string[]} incoming
- * @param {(line: ScriptLine) => boolean} isMade whether a line was generated like the new ones, and not typed
- */
-export function mergedLines(script, incoming, isMade) {
-    const merging = new Merging(script, isMade);
-    for (const line of linesRead(new ScriptModel(script.calls, scriptOf(incoming)))) merging.add(line);
-    return merging.merged();
-}
-
-/**
- * Like mergedLines, for tens of thousands of lines. Other tasks get turns in between, in which the script must not change. Build the new
+ * the first line that it replaces, or at the end. Other tasks get turns in between, in which the script must not change. Build the new
  * script from the lines with `modelInParts`, which gives turns too.
  * @param {ScriptModel} script
  * @param {string[]} incoming
- * @param {(line: ScriptLine) => boolean} isMade
+ * @param {(line: ScriptLine) => boolean} isMade whether a line was generated like the new ones, and not typed
  * @param {import('../turns.js').Signal} [signal]
  */
 export async function mergedInTurns(script, incoming, isMade, signal) {
@@ -136,10 +113,11 @@ export async function mergedInTurns(script, incoming, isMade, signal) {
 }
 
 /**
- * Like linesGivingWay, with turns for other tasks in between, in which the script must not change.
+ * The lines of a script, in order, that new lines which set bytes would replace. Other tasks get turns in between, in which the script must
+ * not change.
  * @param {ScriptModel} script
  * @param {string[]} incoming
- * @param {(line: ScriptLine) => boolean} isMade
+ * @param {(line: ScriptLine) => boolean} isMade whether a line was generated like the new ones, and not typed
  * @param {import('../turns.js').Signal} [signal]
  */
 export async function replacedLinesInTurns(script, incoming, isMade, signal) {

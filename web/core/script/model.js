@@ -51,7 +51,8 @@ export function byNumber(a, b) {
  * @param {Queried[]} queried the lines, in order, with their bytes
  */
 export function writersIn(block, lines, queried) {
-    const [writers, start] = [new Uint32Array(USER_SIZE), block * USER_SIZE];
+    const writers = new Uint32Array(USER_SIZE);
+    const start = block * USER_SIZE;
     let next = 0;
     return queried.map(({ number, offset }) => {
         for (; next < lines.length && lines[next].number < number; next++) {
@@ -63,18 +64,22 @@ export function writersIn(block, lines, queried) {
     });
 }
 
+/**
+ * What a model has read of its script.
+ * @typedef {Pick<ScriptModel, 'joined' | 'lines' | 'head' | 'version' | 'patches' | 'faults' | 'size' | 'blocks' | 'tooMany'>} ScriptState
+ */
+
 /** The lines of a script, at least one. */
 export class ScriptModel {
     /**
      * @param {Calls} calls
      * @param {string} text
+     * @param {string[]} [texts] those of its lines that are read now
      */
-    constructor(calls, text) {
+    constructor(calls, text, texts = linesOfText(text)) {
         this.calls = calls;
         /** The whole text, null if it has to be joined again. */
-        this.joined = /** @type {string | null} */ (null);
-        /** @type {ScriptLine[]} */
-        this.lines = [];
+        this.joined = /** @type {string | null} */ (text);
         /** The index of the head line, or of the line in its place; -1 if all lines are blank or comments. */
         this.head = -1;
         this.version = 0;
@@ -86,7 +91,8 @@ export class ScriptModel {
         this.blocks = new Map();
         /** Whether there are too many patches. Then the content of a line depends on the lines before it. */
         this.tooMany = false;
-        this.readText(text);
+        /** @type {ScriptLine[]} */
+        this.lines = this.entered(texts, 1);
     }
 
     /** The whole text. It is joined again only after a change. */
@@ -105,34 +111,34 @@ export class ScriptModel {
      * @param {string} text
      */
     readText(text) {
-        this.begin(text);
-        this.lines = this.entered(text, linesOfText(text), 1);
+        this.adopt(new ScriptModel(this.calls, text));
     }
 
-    /** @param {string} text the new text, of which no line is read yet */
-    begin(text) {
-        Object.assign(this, { joined: text, lines: [], head: -1, version: 0, patches: 0, faults: 0, size: 0, blocks: new Map(),
-            tooMany: false });
-    }
-
-    /** @param {ScriptModel} other the model whose lines are moved to this one */
-    adopt({ joined, lines, head, version, patches, faults, size, blocks, tooMany }) {
-        Object.assign(this, { joined, lines, head, version, patches, faults, size, blocks, tooMany });
+    /** @param {ScriptState} other whose lines are moved to this one */
+    adopt(other) {
+        this.joined = other.joined;
+        this.lines = other.lines;
+        this.head = other.head;
+        this.version = other.version;
+        this.patches = other.patches;
+        this.faults = other.faults;
+        this.size = other.size;
+        this.blocks = other.blocks;
+        this.tooMany = other.tooMany;
     }
 
     /**
      * Reads lines, and adds them to the counts.
-     * @param {string} text
-     * @param {string[]} texts its lines
+     * @param {string[]} texts
      * @param {number} first the number of the first one
      */
-    entered(text, texts, first) {
+    entered(texts, first) {
         const { calls } = this;
         let at = 0;
-        calls.hold(new TextEncoder().encode(text));
+        calls.hold(new TextEncoder().encode(texts.join('\n')));
         return texts.map((own, i) => {
             const { size, taken } = calls.firstLine(at) || { size: 0, taken: 0 };
-            const content = calls.readLine(this.version, first + i, this.patches, at, size);
+            const content = calls.readLine(this.version, this.patches, at, size);
             at += taken;
             if (this.head < 0 && content !== CONTENT.NOTHING) {
                 this.head = first + i - 1;
@@ -170,12 +176,19 @@ export class ScriptModel {
         const { head, version } = this;
         const isMany = count > MANY;
         if (!isMany) for (const line of this.lines.slice(at, at + count)) this.count(line, -1);
-        if (at <= head) Object.assign(this, { head: -1, version: 0 });
-        const incoming = this.entered(texts.join('\n'), texts, at + 1);
+        if (at <= head) {
+            this.head = -1;
+            this.version = 0;
+        }
+        const incoming = this.entered(texts, at + 1);
         this.lines = this.lines.slice(0, at).concat(incoming, this.lines.slice(at + count));
         this.joined = null;
-        const [stays, found] = [at + count <= head, this.head >= 0];
-        if (stays && !found) Object.assign(this, { head: head + incoming.length - count, version });
+        const stays = at + count <= head;
+        const found = this.head >= 0;
+        if (stays && !found) {
+            this.head = head + incoming.length - count;
+            this.version = version;
+        }
         const isOther = at <= head && (stays === found || this.version !== version);
         if (isOther || this.tooMany || isMany || this.lines.length === 0) this.readText(this.text());
         else if (incoming.length !== count) this.lines.forEach((line, i) => { line.number = i + 1; });
@@ -277,13 +290,11 @@ export class ScriptModel {
  * @param {() => Promise<unknown>} turn is awaited between two parts
  */
 export async function modelInParts(calls, text, turn) {
-    const model = new ScriptModel(calls, '');
     const texts = linesOfText(text);
-    model.begin(text);
-    for (let at = 0; at < texts.length; at += READ_AT_ONCE) {
-        if (at > 0) await turn();
-        const part = texts.slice(at, at + READ_AT_ONCE);
-        model.lines = model.lines.concat(model.entered(part.join('\n'), part, at + 1));
+    const model = new ScriptModel(calls, text, texts.slice(0, READ_AT_ONCE));
+    for (let at = READ_AT_ONCE; at < texts.length; at += READ_AT_ONCE) {
+        await turn();
+        model.lines = model.lines.concat(model.entered(texts.slice(at, at + READ_AT_ONCE), at + 1));
     }
     return model;
 }

@@ -2,7 +2,7 @@
 
 import { ByteList, PieceCutter } from '../bytes.js';
 import { RUN_FLAG, STATUS, STEP } from '../module/index.js';
-import { ReadAhead } from '../read_ahead.js';
+import { ReadAhead } from '../readers/index.js';
 import { isTurnDue, letOthersIn } from '../turns.js';
 
 /** @typedef {import('../module/calls.js').Calls} Calls */
@@ -81,7 +81,8 @@ export function* stepsOf(calls, script, base, size, flags) {
  */
 export async function runScript(calls, reader, script, how, log, take) {
     const { base, carry = false, withoutOld = false, mostBetween = BETWEEN_HELD } = how;
-    const [ahead, out] = [new ReadAhead(reader), take && new JoinedPieces(take)];
+    const ahead = new ReadAhead(reader);
+    const out = take && new JoinedPieces(take);
     const flags = (carry ? RUN_FLAG.CARRY : 0) + (withoutOld ? RUN_FLAG.WITHOUT_OLD : 0);
     let status = STATUS.DONE;
     for (const step of stepsOf(calls, [script], base, reader.size, flags)) {
@@ -92,8 +93,9 @@ export async function runScript(calls, reader, script, how, log, take) {
         } else if (kind === STEP.LOG) log(step, calls.stepBytes(step));
         else if (kind === STEP.END) status = step.status;
         else if (out !== null) {
-            const bytes = kind === STEP.WRITE ? calls.stepBytes(step) :
-                size <= mostBetween ? ahead.here(at, size) || await ahead.bytesOn(at, size) : null;
+            const isNear = kind !== STEP.WRITE && size <= mostBetween;
+            const between = isNear ? ahead.here(at, size) || await ahead.bytesOn(at, size) : null;
+            const bytes = kind === STEP.WRITE ? calls.stepBytes(step) : between;
             await (bytes === null ? out.giveBytes() : out.join(at, bytes));
         }
         if (isTurnDue()) await letOthersIn();

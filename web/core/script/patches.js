@@ -2,7 +2,7 @@
 
 import { ByteList, PieceKeeper, pieceWithin } from '../bytes.js';
 import { RESULT, SECTOR_SIZE, STATUS } from '../module/index.js';
-import { pieceReader } from '../piece_reader.js';
+import { pieceReader } from '../readers/index.js';
 import { runScript } from './patch_run.js';
 
 /** @typedef {import('../module/calls.js').Calls} Calls */

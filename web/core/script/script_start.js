@@ -17,7 +17,7 @@ function firstLineSaying(calls, text, version) {
     for (let from = 0; ;) {
         const line = calls.firstLine(from);
         if (line === null) return null;
-        const content = calls.readLine(version, 1, 0, from, line.size);
+        const content = calls.readLine(version, 0, from, line.size);
         if (content !== CONTENT.NOTHING) return { content, line: text.subarray(from, from + line.size) };
         from += line.taken;
     }

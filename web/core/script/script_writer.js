@@ -28,7 +28,7 @@ function tooManyPatches(calls, patches) {
     if (patches === 0) return false;
     const line = new TextEncoder().encode(lineText(lines => lines.rebuild(0)));
     calls.hold(line);
-    return calls.readLine(1, 2, patches - 1, 0, line.length) !== CONTENT.PATCH;
+    return calls.readLine(1, patches - 1, 0, line.length) !== CONTENT.PATCH;
 }
 
 /**

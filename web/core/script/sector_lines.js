@@ -48,10 +48,10 @@ function canBeNamed(calls, address) {
     const line = new LineList();
     line.address(0, address);
     calls.hold(line.bytes());
-    return calls.readLine(NEWEST_VERSION.content, 2, 0, 0, line.size - 1) === CONTENT.PATCH;
+    return calls.readLine(NEWEST_VERSION.content, 0, 0, line.size - 1) === CONTENT.PATCH;
 }
 
-/** @type {import('../crew/jobs.js').Job<'lines'>} */
+/** @type {import('../pool/jobs.js').Job<'lines'>} */
 export const linesJob = (calls, [old, fresh], _, { blocks, how }) => linesBetween(calls, { blocks, old, fresh }, how);
 
 /**

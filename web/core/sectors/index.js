@@ -1,10 +1,11 @@
 // Sectors of an image: their layout, their runs, and their surveys.
 
+export { gapsIn } from './gaps.js';
 export { MODE2, edcOfMode2, isDamagedMode2, isSoundMode2, isTestedMode2, mode2Counts, mode2Runs } from './mode2.js';
 export { settledMode2, testMode2 } from './mode2.js';
-export { addToRuns, blocksIn, commonRuns, firstBlocks, joinedRuns, runOf, runsWithout } from './runs.js';
-export { FIELDS, HEADER_OFFSET, USER_OFFSET, addressIn, addressText, asWords, blockAt, differingSectors } from './sector.js';
-export { hasOtherAddress, hasZeroByte, imageTooLong, isFilled, joinedUser, sameAddress, sectorOf, sectorsAt } from './sector.js';
-export { userOf, userOfRange } from './sector.js';
+export { addToRuns, blocksIn, commonRuns, joinedRuns, runOf, runsWithout } from './runs.js';
+export { FIELDS, USER_OFFSET, addressIn, addressOf, addressText, asWords, blockAt, differingSectors } from './sector.js';
+export { hasOtherAddress, hasZeroByte, imageTooLong, isFilled, joinedForm1, joinedUser, sameAddress, sectorOf } from './sector.js';
+export { sectorsAt, userOf, userOfRange } from './sector.js';
 export { sumsOfRange } from './sums.js';
-export { auditText, findingOf, isDamaged, isSound, kindRuns, listText, surveyCounts, surveyRange, wrongRuns } from './survey.js';
+export { auditText, isDamaged, isSound, kindRuns, surveyCounts, surveyRange } from './survey.js';

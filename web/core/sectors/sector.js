@@ -11,7 +11,12 @@ import { MOST_SECTORS, SECTOR_SIZE, USER_SIZE, sectorCount } from '../module/ind
 export const FIELDS = Object.freeze({ sync: 0, header: 12, user: 16, edc: 2064, zeros: 2068, parity: 2076 });
 export const HEADER_OFFSET = FIELDS.header;
 export const USER_OFFSET = FIELDS.user;
+const FORM1_OFFSET = 24;
 const WORDS = SECTOR_SIZE / 4;
+
+/** The first pause, before block 0: its sectors, and its length in seconds. */
+const PAUSE = 150;
+const PAUSE_SECONDS = 2;
 
 /**
  * Whether an image has more bytes than cdpatch accepts.
@@ -118,6 +123,19 @@ export function joinedUser(bytes, user = newBytes(sectorCount(bytes.length) * US
     return user;
 }
 
+/**
+ * Concatenates the user data of whole Mode 2 sectors of Form 1 (CD-ROM XA).
+ * @param {Uint8Array} bytes
+ */
+export function joinedForm1(bytes) {
+    const user = newBytes(sectorCount(bytes.length) * USER_SIZE);
+    for (let i = 0; i < sectorCount(bytes.length); i++) {
+        const at = i * SECTOR_SIZE + FORM1_OFFSET;
+        user.set(bytes.subarray(at, at + USER_SIZE), i * USER_SIZE);
+    }
+    return user;
+}
+
 /** Memory for the user data of a range. It is reused, because an allocation costs more than the copy. */
 let userRoom = new Uint8Array(0);
 
@@ -161,13 +179,25 @@ export function addressText(address) {
 }
 
 /**
+ * The address of a block, or null if it has none. The first pause is the blocks from -150 to -1, with the addresses 00:00:00 to 00:01:74.
+ * @param {Calls} calls
+ * @param {number} block
+ */
+export function addressOf(calls, block) {
+    if (block < -PAUSE || block >= 0) return calls.address(block);
+    const address = calls.address(block + PAUSE);
+    if (address !== null) address[1] -= PAUSE_SECONDS;
+    return address;
+}
+
+/**
  * Whether an address is not that of a block. False if the block has no address.
  * @param {Calls} calls
  * @param {Uint8Array} address
  * @param {number} block
  */
 export function hasOtherAddress(calls, address, block) {
-    const own = calls.address(block);
+    const own = addressOf(calls, block);
     return own !== null && !sameBytes(own, address);
 }
 
@@ -178,7 +208,7 @@ export function hasOtherAddress(calls, address, block) {
  */
 export function blockAt(calls, address) {
     const [minute, second, frame] = Array.from(address, byte => 10 * (byte >> 4) + (byte & 15));
-    const block = (minute * 60 + second) * 75 + frame - 150;
-    const made = block < 0 ? null : calls.address(block);
+    const block = (minute * 60 + second) * 75 + frame - PAUSE;
+    const made = addressOf(calls, block);
     return made !== null && sameBytes(made, address) ? block : null;
 }

@@ -5,7 +5,7 @@ import { newBytes } from '../faults.js';
 import { RECORD, RECORD_SIZE, SECTOR_KIND, SECTOR_SIZE, STATUS, sectorCount } from '../module/index.js';
 import { MODE2, isDamagedMode2, testMode2 } from './mode2.js';
 import { addToRuns, runOf } from './runs.js';
-import { asWords, isFilled } from './sector.js';
+import { addressIn, asWords, blockAt, hasOtherAddress, isFilled } from './sector.js';
 
 /** @typedef {import('../module/calls.js').Calls} Calls */
 
@@ -17,9 +17,12 @@ import { asWords, isFilled } from './sector.js';
  * @typedef {{ block: number, records: Uint8Array }} Survey
  */
 
+/** @typedef {Run & { by: number }} MovedRun sectors with the addresses of the blocks that are `by` later */
+
 /**
- * With the runs that one byte fills, and the findings in Mode 2 sectors, which are empty if these were not tested.
- * @typedef {Survey & { filled: FilledRun[], mode2: Uint8Array }} RangeSurvey
+ * With the runs that one byte fills, those with the addresses of other blocks, and the findings in Mode 2 sectors, which are empty if these
+ * were not tested.
+ * @typedef {Survey & { filled: FilledRun[], moved: MovedRun[], mode2: Uint8Array }} RangeSurvey
  */
 
 /**
@@ -43,11 +46,30 @@ import { asWords, isFilled } from './sector.js';
 export function surveyRange(calls, bytes, block, { shift = 0, mode2 = false } = {}) {
     const records = shift === 0 ? calls.survey(bytes, block) : shiftedSurvey(calls, bytes, block + shift);
     const found = mode2 ? testMode2(calls, bytes, records, block + shift) : newBytes(0);
-    return { block, records, filled: filledRuns(bytes, records, block), mode2: found };
+    const moved = movedRuns(calls, bytes, records, { block, shift, mode2: found });
+    return { block, records, filled: filledRuns(bytes, records, block), moved, mode2: found };
 }
 
 /**
- * The records of sectors whose first block may be below 0. A block below 0 has no address, so it cannot have a wrong one.
+ * The runs of sectors with the addresses of other blocks.
+ * @param {Calls} calls
+ * @param {Uint8Array} bytes
+ * @param {Uint8Array} records of the same sectors
+ * @param {{ block: number, shift: number, mode2: Uint8Array }} range its first block, and the findings in Mode 2 sectors
+ */
+function movedRuns(calls, bytes, records, { block, shift, mode2 }) {
+    /** @type {MovedRun[]} */
+    const moved = [];
+    for (let i = 0; i < sectorCount(bytes.length); i++) {
+        if (records[i * RECORD_SIZE + RECORD.ADDRESS] === 0 && (mode2[i] & MODE2.ADDRESS) === 0) continue;
+        const own = blockAt(calls, addressIn(bytes, i));
+        if (own !== null) addToRuns(moved, { ...runOf(block + i), by: own - (block + i + shift) });
+    }
+    return moved;
+}
+
+/**
+ * The records of sectors whose first block may be below 0, such as those of the first pause.
  * @param {Calls} calls
  * @param {Uint8Array} bytes
  * @param {number} block
@@ -55,7 +77,10 @@ export function surveyRange(calls, bytes, block, { shift = 0, mode2 = false } = 
 function shiftedSurvey(calls, bytes, block) {
     const at = SECTOR_SIZE * Math.min(Math.max(-block, 0), sectorCount(bytes.length));
     const before = calls.survey(bytes.subarray(0, at), 0);
-    for (let i = RECORD.ADDRESS; i < before.length; i += RECORD_SIZE) before[i] = 0;
+    for (let i = 0; i * RECORD_SIZE < before.length; i++) {
+        const isMode1 = before[i * RECORD_SIZE + RECORD.KIND] === SECTOR_KIND.MODE1;
+        before[i * RECORD_SIZE + RECORD.ADDRESS] = Number(isMode1 && hasOtherAddress(calls, addressIn(bytes, i), block + i));
+    }
     return joinedBytes([before, calls.survey(bytes.subarray(at), Math.max(block, 0))]);
 }
 
@@ -72,7 +97,8 @@ function filledRuns(bytes, records, block) {
     for (let i = 0; i < sectorCount(bytes.length); i++) {
         if (records[i * RECORD_SIZE + RECORD.KIND] !== SECTOR_KIND.NOSYNC || !isFilled(words, i)) continue;
         // Most sectors of silence follow another one. Creating a run for each would cost more than everything else.
-        const [before, byte] = [filled[filled.length - 1], bytes[i * SECTOR_SIZE]];
+        const before = filled[filled.length - 1];
+        const byte = bytes[i * SECTOR_SIZE];
         if (before && before.last === block + i - 1 && before.byte === byte) before.last = block + i;
         else filled.push({ ...runOf(block + i), byte });
     }

@@ -7,7 +7,7 @@ import { FIELDS, differingSectors, edcOfMode2, isSound, sectorOf, sectorsAt } fr
 
 /** @typedef {import('../module/calls.js').Calls} Calls */
 /** @typedef {import('../bytes.js').Reader} Reader */
-/** @typedef {import('../crew/crew.js').Sharing} Sharing */
+/** @typedef {import('../pool/pool.js').Sharing} Sharing */
 /** @typedef {import('../script/sector_lines.js').Left} Left */
 /** @typedef {import('../script/sector_lines.js').Lines} Lines */
 /** @typedef {import('../script/script_writer.js').Script} Script */
@@ -59,11 +59,11 @@ export function diffRange(calls, old, fresh, first, how) {
  * @param {Sharing} [watch]
  * @returns {Promise<Comparison>}
  */
-export async function compareTrack({ calls, crew }, { image }, fresh, options = {}, watch = {}) {
+export async function compareTrack({ calls, pool }, { image }, fresh, options = {}, watch = {}) {
     const { skipDamaged, skipMode2, partial, take } = options;
     const parts = new ScriptParts();
     if (take !== undefined) await take(new TextEncoder().encode(`${headLine()}\n${baseComment(image.base)}`));
-    await crew.share('diff', [image.reader, fresh], {}, { step: COMPARED_STEP, ...watch, base: image.base }, async lines => {
+    await pool.share('diff', [image.reader, fresh], {}, { step: COMPARED_STEP, ...watch, base: image.base }, async lines => {
         if (take === undefined) return parts.push(lines);
         parts.count(lines);
         return take(lines.text);
@@ -86,16 +86,16 @@ export function isToMode2({ why, kinds }) {
 
 /**
  * Finds the sectors in which the image of a track and another one of the same size differ. They are passed to `take` in order.
- * @param {Pick<Engine, 'crew'>} engine
+ * @param {Pick<Engine, 'pool'>} engine
  * @param {Pick<OpenedTrack, 'image'>} opened
  * @param {Reader} fresh
  * @param {(differing: Differing) => void | Promise<void>} take
  * @param {Sharing} [watch]
  * @returns {Promise<Differences>}
  */
-export async function findDifferences({ crew }, { image }, fresh, take, watch) {
+export async function findDifferences({ pool }, { image }, fresh, take, watch) {
     const found = { sectors: 0, onlyCodes: 0 };
-    await crew.share('differ', [image.reader, fresh], {}, { ...watch, base: image.base }, differing => {
+    await pool.share('differ', [image.reader, fresh], {}, { ...watch, base: image.base }, differing => {
         found.sectors += differing.blocks.length;
         found.onlyCodes += onlyCodesIn(differing);
         return take(differing);

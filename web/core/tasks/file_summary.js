@@ -2,14 +2,17 @@
 
 import { kindName } from '../module/index.js';
 import { blocksIn, kindRuns } from '../sectors/index.js';
-import { findingsIn, unsurveyedTracks } from './inform.js';
+import { unsurveyedTracks } from './inform.js';
+import { ifVerified, noVerdict, verdictOf } from './verdict.js';
 
 /** @typedef {import('../disc/disc.js').Disc} Disc */
 /** @typedef {import('../disc/disc.js').DiscFile} DiscFile */
 /** @typedef {import('../disc/dat.js').Hashes} Hashes */
+/** @typedef {import('../disc/dat.js').KnownDumps} KnownDumps */
 /** @typedef {import('../facts.js').FileKind} FileKind */
 /** @typedef {import('./inform.js').Found} Found */
 /** @typedef {import('./inform.js').SurveyedTrack} SurveyedTrack */
+/** @typedef {import('./verdict.js').Verdict} Verdict */
 /**
  * A file of a disc, its hashes and findings, and the number of bytes after its last whole sector.
  * @typedef {{ file: DiscFile, hashes: Required<Hashes>, surveys: (SurveyedTrack & Found)[], tail: number }} FileFound
@@ -22,7 +25,7 @@ import { findingsIn, unsurveyedTracks } from './inform.js';
  * `tested` sectors were tested, and the addresses of `addressed` ones. `untested` sectors have no codes that show damage.
  * @typedef {HashedFile & { kind: 'image' | FileKind, kinds: string, sectors: [string, number][] | null, tail: number, short: number,
  *     tested: number, addressed: number, damaged: number, elsewhere: number, lost: number, untested: number,
- *     findings: number }} FileSummary
+ *     verdict: Verdict }} FileSummary
  */
 
 /** Begins the column of kinds for a file that is not part of a disc. The description of the file follows. */
@@ -58,11 +61,10 @@ function kindsText(sectors, unsurveyed, more) {
  * The summary of a file of a disc.
  * @param {Disc} disc
  * @param {FileFound} found
- * @param {number} file its index
  * @param {string} changed the time at which it was changed, '' if unknown
  * @returns {FileSummary}
  */
-export function summaryOf(disc, found, file, changed) {
+export function summaryOf(disc, found, changed) {
     const { file: { name, reader }, hashes, surveys, tail } = found;
     const sum = (/** @type {(it: FileFound['surveys'][0]) => number} */ of) => surveys.reduce((all, it) => all + of(it), 0);
     const [mode1, mode2] = [sum(it => it.mode1), sum(it => it.mode2.sectors)];
@@ -70,13 +72,26 @@ export function summaryOf(disc, found, file, changed) {
     const short = blocksIn(surveys.flatMap(({ lack }) => lack ? [lack.missing] : []));
     const sectors = kindCounts(surveys);
     const left = tested > 0 ? mode2 - tested : 0;
+    const unsurveyed = unsurveyedKinds(disc, disc.files.indexOf(found.file));
+    const named = surveys.every(it => it.isAudio) && mode1 + mode2 === 0 ? [] : sectors;
     return {
-        name, size: reader.size, changed, hashes, kind: 'image',
-        kinds: kindsText(sectors, unsurveyedKinds(disc, file), { untested: left, tail, short }),
+        name, size: reader.size, changed, hashes, kind: 'image', kinds: kindsText(named, unsurveyed, { untested: left, tail, short }),
         sectors: surveys.length > 0 ? sectors : null, tail, short, tested: mode1 + tested, addressed: mode1 + mode2,
         damaged: sum(it => it.damaged + it.mode2.damaged), elsewhere: sum(it => it.elsewhere + it.mode2.elsewhere),
-        lost: sum(it => blocksIn(it.lost)), untested: sum(it => blocksIn(it.untested)), findings: findingsIn(found),
+        lost: sum(it => blocksIn(it.lost)), untested: sum(it => blocksIn(it.untested)),
+        verdict: verdictOf({ ...found, unread: unsurveyedTracks(disc).filter(it => disc.files[it.file] === found.file).length }),
     };
+}
+
+/**
+ * The summary of a file that a DAT may verify.
+ * @param {FileSummary} file
+ * @param {KnownDumps | null} known
+ * @param {string} own the file's name without its directory
+ */
+export function summaryByDat(file, known, own) {
+    const found = known && known.find(file.size, file.hashes, own);
+    return found && !found.isBad ? { ...file, verdict: ifVerified(file.verdict) } : file;
 }
 
 /**
@@ -97,6 +112,6 @@ function unsurveyedKinds(disc, file) {
  * @returns {FileSummary}
  */
 export function otherSummary(file, kind, what) {
-    const none = { tail: 0, short: 0, tested: 0, addressed: 0, damaged: 0, elsewhere: 0, lost: 0, untested: 0, findings: 0 };
-    return { ...file, kind, kinds: `${NO_IMAGE}${what}`, sectors: null, ...none };
+    const none = { tail: 0, short: 0, tested: 0, addressed: 0, damaged: 0, elsewhere: 0, lost: 0, untested: 0 };
+    return { ...file, kind, kinds: `${NO_IMAGE}${what}`, sectors: null, ...none, verdict: noVerdict() };
 }

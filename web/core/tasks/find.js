@@ -24,17 +24,17 @@ import { replaceBytes } from './replace_bytes.js';
 /**
  * Finds a text in a track. An encoding in which it occurs only in the middle of characters is listed last. Throws a Fault: `find/empty`,
  * `text` if no encoding has its characters, `cancelled`.
- * @param {Pick<Engine, 'crew'>} engine
+ * @param {Pick<Engine, 'pool'>} engine
  * @param {Pick<OpenedTrack, 'contents'>} opened
  * @param {WantedText & { limit: number }} options how many hits are kept in each encoding, one at least
  * @param {Watch} [watch]
  * @returns {Promise<FoundText>}
  */
-export async function findText({ crew }, opened, { text, loose, limit, ...options }, watch) {
+export async function findText({ pool }, opened, { text, loose, limit, ...options }, watch) {
     if (text === '') throw new Fault('find/empty', {});
     const { part } = await opened.contents();
     const { encodings, names, faults } = encodingsWith(options.encodings, text, loose);
-    const [best = null, ...others] = await searchText(crew, part, { text, encodings, limit, loose }, watch);
+    const [best = null, ...others] = await searchText(pool, part, { text, encodings, limit, loose }, watch);
     return { image: part, best, others, searched: names, faults };
 }
 

@@ -1,14 +1,15 @@
-// The tasks that a user does with a disc, for all doors. Tasks return data. Doors ask, show the progress, and print or draw.
+// The tasks that a user does with a disc, for all interfaces. Tasks return data. Interfaces ask, show the progress, and print or draw.
 
 export { applyInMemory, applyScript } from './apply.js';
 export { checkLists } from './check_lists.js';
 export { commonPart, isSameRange } from './common_part.js';
 export { FIELD_COUNT, SECOND_STATE, compareTrack, diffRange, differRange, findDifferences, isToMode2 } from './compare.js';
-export { extractFile, passUser, userRange } from './convert.js';
-export { NO_IMAGE, otherSummary, summaryOf } from './file_summary.js';
+export { extractFile, passUser, passWithoutSubchannels, userRange } from './convert.js';
+export { examineDisc, examineFile } from './examine.js';
+export { NO_IMAGE, otherSummary, summaryByDat, summaryOf } from './file_summary.js';
 export { findText, findTextAt } from './find.js';
-export { CollectedSurvey, findingsIn, foundInSurvey, surveyedTrack, surveyedTracks, tailOf, unsurveyedTracks } from './inform.js';
-export { COLUMN, NOT_IN_DAT, NOT_TESTED, NO_DAT, lacksHash, listedColumns, saidOfDump, saidOfFile } from './listed_line.js';
+export { CollectedSurvey, foundInSurvey, surveyedTrack, surveyedTracks, unsurveyedTracks } from './inform.js';
+export { COLUMN, NOT_TESTED, NO_DAT, lacksHash, listedColumns, saidOfFile } from './listed_line.js';
 export { ESCAPED_BYTE, SURROGATE_OF_BYTE, listedName, nameOfListed } from './listed_name.js';
 export { mergeRange } from './merge.js';
 export { OpenedTrack, openTrack, trackBeside } from './opened.js';
@@ -22,3 +23,4 @@ export { patchedExtents, placeOfLength, placesOfFile, replaceFile } from './repl
 export { assertBase, validScript } from './script_for.js';
 export { exportTable, importRows, importTable, leftTable, newTextsOf, roomInTrack } from './table.js';
 export { undoScript } from './undo.js';
+export { verdictOf } from './verdict.js';

@@ -1,9 +1,11 @@
 // Determines which tracks of a disc are surveyed, and the findings of each survey.
 
 import { joinedBytes } from '../bytes.js';
-import { MODE1, MODE2_TRACKS, lackOf, lostSectors, otherSectors, sheetTracks } from '../disc/index.js';
-import { SECTOR_SIZE } from '../module/index.js';
-import { addToRuns, blocksIn, mode2Counts, settledMode2, surveyCounts } from '../sectors/index.js';
+import { imageAround, lackOf, lostSectors, otherSectors, sheetTracks } from '../disc/index.js';
+import { LAST_BASE, SECTOR_SIZE, sectorCount } from '../module/index.js';
+import { sliceOf } from '../readers/index.js';
+import { addToRuns, blocksIn, commonRuns, gapsIn, isTestedMode2, joinedRuns, mode2Counts, mode2Runs } from '../sectors/index.js';
+import { settledMode2, surveyCounts } from '../sectors/index.js';
 import { addressShift } from './common_part.js';
 
 /** @typedef {import('../disc/disc.js').Disc} Disc */
@@ -11,21 +13,26 @@ import { addressShift } from './common_part.js';
 /** @typedef {import('../disc/lost.js').Lost} Lost */
 /** @typedef {import('../disc/lost.js').SheetTracks} SheetTracks */
 /** @typedef {import('../disc/volume_end.js').Lack} Lack */
+/** @typedef {import('../sectors/runs.js').Run} Run */
+/** @typedef {import('../sectors/survey.js').FilledRun} FilledRun */
+/** @typedef {import('../sectors/survey.js').MovedRun} MovedRun */
 /** @typedef {import('../sectors/survey.js').RangeSurvey} RangeSurvey */
 /** @typedef {import('../sectors/survey.js').Survey} Survey */
 /** @typedef {Pick<import('./opened.js').OpenedTrack, 'disc' | 'track' | 'image' | 'part'>} Opened */
 /**
  * A track that is surveyed, as the `part` of an `image`, whose sectors are `shift` blocks later by their addresses. `isWhole` means that
- * the image is a whole file, and `isAlone` that the disc has no other track according to the cue sheet. `sheetTracks` lists the data tracks
- * in the image according to the cue sheet, null without a sheet.
+ * the image is a whole file, and `isAlone` that the disc has no other track according to the cue sheet. `sheetTracks` lists the tracks of
+ * the file according to the cue sheet, null without a sheet. `isAudio`: nothing but the survey can show that there is data.
  * @typedef {{ number: number, file: number, image: DiscImage, part: DiscImage, shift: number, isWhole: boolean, isAlone: boolean,
- *     sheetTracks: SheetTracks | null }} SurveyedTrack
+ *     sheetTracks: SheetTracks | null, isAudio: boolean }} SurveyedTrack
  */
 /**
- * The findings of an image: the counts of its Mode 1 and Mode 2 sectors, and the settled findings in the latter (`mode2Found`); how many
- * sectors of both are `wrong`; the sectors that are lost or not tested; and the blocks of its volume that it lacks.
+ * The findings of an image: the counts of its Mode 1 and Mode 2 sectors, and the settled findings in the latter (`mode2Found`); how many of
+ * them are `unproven`, because no code matches, so that the codes show nothing; how many sectors of both are `wrong`; the sectors that are
+ * lost or not tested, and the bytes that fill all lost ones (`fillers`); the blocks of its volume that it lacks; and the places before
+ * which sectors are missing or extra.
  * @typedef {ReturnType<typeof surveyCounts> & { survey: Survey, mode2: ReturnType<typeof mode2Counts>, mode2Found: Uint8Array,
- *     lack: Lack | null } & Lost} Found
+ *     unproven: number, fillers: number[], lack: Lack | null, gaps: MovedRun[] } & Lost} Found
  */
 
 /**
@@ -47,28 +54,74 @@ function hasOneTrack({ sheet, tracks }) {
  * @returns {SurveyedTrack}
  */
 export function surveyedTrack({ disc, track: { number, file }, image, part }) {
-    const whole = { isWhole: true, isAlone: hasOneTrack(disc), sheetTracks: sheetTracks(disc, file, image.base) };
+    const whole = { isWhole: true, isAlone: hasOneTrack(disc), isAudio: false, sheetTracks: sheetTracks(disc, file, image.base) };
     return { number, file, image, part, shift: addressShift(image), ...whole };
 }
 
 /**
- * The tracks of a disc that are surveyed, one for each image. If the addresses of several tracks in one file imply different bases, each of
- * these tracks is surveyed separately.
+ * The tracks of a disc that are surveyed, each with the image in which it lies. Together these images are all sectors of their files: one
+ * for each file, or, if the addresses of several data tracks in a file imply different bases, one for each of these tracks, with its pregap
+ * and with the audio up to the next one.
  * @param {Disc} disc
  */
 export function surveyedTracks(disc) {
-    const tracks = disc.tracks.filter(({ image }) => image !== null);
-    return tracks.flatMap(track => {
-        const { number, type, file, image, part } = track;
-        if (image === null || part === null) return [];
-        const others = tracks.filter(it => it.file === file);
-        const isWhole = others.every(it => it.image?.base === image.base);
-        if (isWhole) return others[0] === track ? [surveyedTrack({ disc, track, image, part })] : [];
-        const ifType = (/** @type {string[]} */ types) =>
-            types.includes(type) ? [{ first: part.base, last: part.base + part.sectors - 1 }] : [];
-        const own = { mode1: ifType([MODE1]), mode2: ifType(MODE2_TRACKS) };
-        return [{ number, file, image: part, part, shift: addressShift(part), isWhole, isAlone: false, sheetTracks: own }];
+    return disc.files.flatMap((_, file) => surveyedInFile(disc, file));
+}
+
+/**
+ * @param {Disc} disc
+ * @param {number} file
+ * @returns {SurveyedTrack[]}
+ */
+function surveyedInFile(disc, file) {
+    const data = disc.tracks.filter(it => it.file === file).flatMap(track => {
+        const { image, part } = track;
+        return image === null || part === null ? [] : [{ disc, track, image, part }];
     });
+    if (data.length === 0) return surveyedAudio(disc, file);
+    if (data.every(it => it.image.base === data[0].image.base)) return [surveyedTrack(data[0])];
+    const starts = data.map(({ track: { at, pregap } }, i) => i === 0 ? 0 : Number(at) - pregap);
+    return data.map(({ track: { number, at }, image, part }, i) => {
+        const reader = sliceOf(image.reader, starts[i], i + 1 < starts.length ? starts[i + 1] : image.reader.size);
+        const around = imageAround(part, reader, (Number(at) - starts[i]) / SECTOR_SIZE);
+        const own = sheetTracks(disc, file, around.base - starts[i] / SECTOR_SIZE);
+        const places = { isWhole: false, isAlone: false, isAudio: false, sheetTracks: own };
+        return { number, file, image: around, part, shift: addressShift(around), ...places };
+    });
+}
+
+/**
+ * The sectors of a file that has only audio according to its samples or the cue sheet; none if their places in it are not known.
+ * @param {Disc} disc
+ * @param {number} file
+ * @returns {SurveyedTrack[]}
+ */
+function surveyedAudio(disc, file) {
+    const own = disc.tracks.filter(it => it.file === file);
+    if (own.some(({ type, at }) => at === null || !['', 'AUDIO'].includes(type))) return [];
+    const [{ name, reader }, [{ number, block, pregap }]] = [disc.files[file], own];
+    const base = Math.max(Number(block) - pregap / SECTOR_SIZE, 0);
+    const image = { name, reader, base: base > LAST_BASE ? 0 : base, addressed: null, sectors: sectorCount(reader.size), tail: 0 };
+    const places = { isWhole: true, isAlone: false, isAudio: true, sheetTracks: sheetTracks(disc, file, image.base) };
+    return image.sectors === 0 ? [] : [{ number, file, image, part: image, shift: 0, ...places }];
+}
+
+/**
+ * A track that was taken for audio, with the base that the addresses of most of its data show; null if it has no data elsewhere.
+ * @param {SurveyedTrack} track
+ * @param {RangeSurvey} survey
+ * @returns {SurveyedTrack | null}
+ */
+export function trackWithData(track, { moved }) {
+    if (!track.isAudio || moved.length === 0) return null;
+    const { by } = moved.reduce((most, run) => run.last - run.first > most.last - most.first ? run : most);
+    const addressed = track.image.base + by;
+    const image = { ...track.image, base: Math.max(addressed, 0), addressed };
+    const later = image.base - track.image.base;
+    const moves = (/** @type {Run[]} */ runs) => runs.map(({ first, last }) => ({ first: first + later, last: last + later }));
+    const { sheetTracks: own } = track;
+    const tracks = own && { mode1: moves(own.mode1), mode2: moves(own.mode2), audio: moves(own.audio) };
+    return { ...track, image, part: image, shift: addressShift(image), sheetTracks: tracks };
 }
 
 /** Collects the surveys of the ranges of an image, which are added in order. */
@@ -82,18 +135,22 @@ export class CollectedSurvey {
         this.mode2 = [];
         /** @type {RangeSurvey['filled']} */
         this.filled = [];
+        /** @type {RangeSurvey['moved']} */
+        this.moved = [];
     }
 
-    /** @param {Survey & Partial<RangeSurvey>} range what is missing was not surveyed */
-    add({ records, mode2, filled = [] }) {
+    /** @param {RangeSurvey} range */
+    add({ records, mode2, filled, moved }) {
         this.records.push(records);
-        if (mode2) this.mode2.push(mode2);
+        this.mode2.push(mode2);
         filled.forEach(run => addToRuns(this.filled, run));
+        moved.forEach(run => addToRuns(this.moved, run));
     }
 
     /** @returns {RangeSurvey} */
     whole() {
-        return { block: this.block, records: joinedBytes(this.records), mode2: joinedBytes(this.mode2), filled: this.filled };
+        const [records, mode2] = [this.records, this.mode2].map(parts => joinedBytes(parts));
+        return { block: this.block, records, mode2, filled: this.filled, moved: this.moved };
     }
 }
 
@@ -103,12 +160,25 @@ export class CollectedSurvey {
  * @param {RangeSurvey} survey of the whole image
  * @returns {Promise<Found>}
  */
-export async function foundInSurvey({ image, part, isAlone, sheetTracks: tracks }, { filled, mode2, ...survey }) {
+export async function foundInSurvey({ image, part, isAlone, sheetTracks: tracks }, { filled, moved, mode2, ...survey }) {
     const lack = await lackOf(image, part, isAlone);
     const mode2Found = settledMode2(mode2);
     const lost = await lostSectors(image, otherSectors(survey, filled, mode2Found), tracks, [{ image, part, later: 0 }]);
-    const [counts, ofMode2] = [surveyCounts(survey), mode2Counts(survey.records, mode2Found)];
-    return { survey, ...counts, wrong: counts.wrong + ofMode2.wrong, mode2: ofMode2, mode2Found, ...lost, lack };
+    const counts = surveyCounts(survey);
+    const ofMode2 = mode2Counts(survey.records, mode2Found);
+    const unproven = ofMode2.tested > 0 ? [] : commonRuns(lost.untested, mode2Runs(mode2, survey.block, isTestedMode2));
+    return { survey, ...counts, wrong: counts.wrong + ofMode2.wrong, mode2: ofMode2, mode2Found, unproven: blocksIn(unproven), ...lost,
+        fillers: bytesOfLost(lost.lost, filled), lack, gaps: gapsIn({ ...survey, moved }, mode2Found) };
+}
+
+/**
+ * The bytes that fill lost sectors; none unless each of these is filled with one byte.
+ * @param {Run[]} lost
+ * @param {FilledRun[]} filled
+ */
+function bytesOfLost(lost, filled) {
+    const own = commonRuns(filled, joinedRuns(lost));
+    return blocksIn(own) === blocksIn(lost) ? [...new Set(own.map(({ byte }) => byte))] : [];
 }
 
 /**
@@ -119,13 +189,4 @@ export async function foundInSurvey({ image, part, isAlone, sheetTracks: tracks 
 export function tailOf({ files, tracks }, file) {
     const isOfSectors = tracks.every(it => it.file !== file || (it.sectors !== null && /^(AUDIO)?$|\/2352$/.test(it.type)));
     return isOfSectors ? files[file].reader.size % SECTOR_SIZE : 0;
-}
-
-/**
- * Counts the findings of a file: the blocks in which something is wrong, and one for each way in which it is cut.
- * @param {{ surveys: Pick<Found, 'wrong' | 'lost' | 'lack'>[], tail: number }} found
- */
-export function findingsIn({ surveys, tail }) {
-    const blocks = surveys.map(({ wrong, lost, lack }) => wrong + blocksIn(lost) + Number(lack !== null && lack.isSure));
-    return blocks.reduce((sum, count) => sum + count, Number(tail > 0));
 }

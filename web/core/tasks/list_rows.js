@@ -1,7 +1,8 @@
 // Reads the rows of a translator's lists: tables and PO files.
 
+import { SEARCHED } from '../encodings/index.js';
 import { Fault, failedBy, remark } from '../faults.js';
-import { Glyphs, MARKS, NO_BLOCK, Table, entriesOfPo, isPo, longTextOf } from '../texts/index.js';
+import { Glyphs, KeptTexts, MARKS, NO_BLOCK, Table, entriesOfPo, isPo, longTextOf } from '../texts/index.js';
 import { isTurnDue, letOthersIn } from '../turns.js';
 
 /** @typedef {import('../disc/disc.js').DiscFile} DiscFile */
@@ -15,15 +16,15 @@ import { isTurnDue, letOthersIn } from '../turns.js';
  * A row of a table, or a place of an entry of a PO file: its name, the place of the old text, the room there that the row names, or -1,
  * and the encoding, or ''. `fault` is the reason why the row cannot be read as it was meant, or null. A fuzzy entry has no new text.
  * `isInFile` is whether the offset counts from the beginning of a plain file: then the block is 0. `fill` is the code of the filler of a
- * record of fixed width, '' for other texts.
+ * record of fixed width, '' for other texts. `kept` has what was computed of the texts, if other rows have the same.
  * @typedef {RowName & { block: number, offset: number, room: number, encoding: string, text: string, fresh: string,
  *     fault: Remark<'list/cell-runs-on' | 'po/plural' | 'po/no-place'> | null, isFuzzy: boolean, isInFile: boolean,
- *     fill: string }} ListRow
+ *     fill: string, kept?: KeptTexts }} ListRow
  */
 /**
  * The rows of some lists: those with a new text, and those without one that were asked for; the number of fuzzy entries, which are left
  * out; and the characters of new texts that no old text has.
- * @typedef {{ rows: ListRow[], fuzzy: number, glyphs: import('../texts/glyphs.js').Glyph[] }} ReadLists
+ * @typedef {{ rows: ListRow[], fuzzy: number, glyphs: string[] }} ReadLists
  */
 
 const LIST_COLUMNS = ['block', 'offset', 'text', 'new', 'room', 'encoding', 'fill'];
@@ -35,7 +36,7 @@ const MOST_ROWS = 1000000;
 /** How many rows at the start may name the columns. Other rows, such as a title, may come first. */
 const MOST_HEADS = 20;
 
-/** The most bytes of a list, and the most characters of the texts of all rows. */
+/** The most bytes of a list; and the most characters of the texts of all rows, counted once for each encoding that a row may be in. */
 const MOST_LISTED = 1 << 28;
 
 /** Collects the rows of lists. */
@@ -55,8 +56,8 @@ class RowCollector {
     add(row) {
         this.fuzzy += Number(row.isFuzzy);
         this.count += Number(row.fresh !== '');
-        // An entry of a PO file may have a long text and many places.
-        this.characters += row.text.length + row.fresh.length;
+        // An entry of a PO file may have a long text and many places, and a row that names no encoding is tried in all usual ones.
+        this.characters += (row.text.length + row.fresh.length) * (row.encoding === '' ? SEARCHED.length : 1);
         if (this.count > MOST_ROWS) throw new Fault('list/too-many-rows', { most: MOST_ROWS });
         if (this.characters > MOST_LISTED) throw new Fault('list/too-many-characters', { most: MOST_LISTED });
         this.glyphs.add(row);
@@ -134,24 +135,6 @@ function allRows(list, name) {
     return isPo(list) ? poRows(list, name) : tableRows(list, name);
 }
 
-/**
- * Yields the rows of a list that have a new text. Throws a Fault if none of its first rows names the columns, or if a line of a PO file is
- * not valid.
- * @param {string} list
- * @param {(row: ListRow) => boolean} [isAlso] selects rows without a new text that are returned too
- * @param {Signal} [signal]
- * @param {string} [name] of the list, if there are several
- * @returns {AsyncGenerator<ListRow>}
- */
-export async function* listRows(list, isAlso = () => false, signal, name = '') {
-    for (const row of allRows(list, name)) {
-        if (isTurnDue()) await letOthersIn(signal);
-        if (row === null) continue;
-        if (row.fresh === '' && row.fault === null && !isAlso(row)) continue;
-        yield row;
-    }
-}
-
 /** A comment in a PO file about the places of an entry in one encoding: their smallest room, the encoding, and the filler. */
 const PO_FACTS = /^room (\d{1,9}) bytes?(?:, ([^,]+))?(?:, fill (\S+))?/;
 
@@ -185,6 +168,7 @@ const PLACES_AT_ONCE = 1000;
  * @returns {Generator<ListRow | null>}
  */
 function* poRows(list, name) {
+    const kept = new KeptTexts();
     for (const found of entriesOfPo(list)) {
         if (found === null) {
             yield null;
@@ -194,7 +178,7 @@ function* poRows(list, name) {
         const entry = {
             list: name, unit: /** @type {'line'} */ ('line'), number: line, place: '', block: -1, offset: -1, room: -1, encoding: '',
             fill: '', text, fresh: isFuzzy ? '' : fresh, fault: isPlural && fresh !== '' ? remark('po/plural', {}) : null,
-            isFuzzy: isFuzzy && fresh !== '', isInFile: false,
+            isFuzzy: isFuzzy && fresh !== '', isInFile: false, ...places.length > 1 && { kept },
         };
         yield* placedRows(entry, isFuzzy ? [] : places, factsIn(comments));
     }

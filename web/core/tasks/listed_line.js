@@ -14,9 +14,9 @@ export const NOT_TESTED = '-';
 
 /** The value of the column of the DAT if none was given, and if none of its dumps is the file. */
 export const NO_DAT = '-';
-export const NOT_IN_DAT = 'not in the DAT';
+const NOT_IN_DAT = 'not in the DAT';
 
-/** The indices of columns. A line of version 1.3.0 ends after SAID, the column of the DAT. */
+/** The indices of columns. SAID is that of the DAT. */
 export const COLUMN = Object.freeze({ NAME: 0, KINDS: 1, DAMAGED: 2, FINDINGS: 3, ELSEWHERE: 4, SHA1: 5, SAID: 6, BYTES: 7, CHANGED: 8,
     CRC32: 9, MD5: 10 });
 
@@ -25,7 +25,7 @@ export const COLUMN = Object.freeze({ NAME: 0, KINDS: 1, DAMAGED: 2, FINDINGS: 3
  * @param {DumpFound | null} found the dump that is the file
  * @param {TextOf} textOf
  */
-export function saidOfDump(found, textOf) {
+function saidOfDump(found, textOf) {
     return found === null ? NOT_IN_DAT : listedName(textOf(remark('dat/dump', found)));
 }
 
@@ -57,8 +57,8 @@ export function saidOfFile(known, { size, hashes, own }, textOf) {
  * @param {TextOf} textOf
  */
 export function listedColumns(file, known, own, textOf) {
-    const { name, kinds, tested, damaged, findings, addressed, elsewhere, size, changed, hashes } = file;
-    const numbers = [tested > 0 && damaged, tested + findings > 0 && findings, addressed > 0 && elsewhere];
+    const { name, kinds, tested, damaged, verdict: { total }, addressed, elsewhere, size, changed, hashes } = file;
+    const numbers = [tested > 0 && damaged, tested + total > 0 && total, addressed > 0 && elsewhere];
     const said = known === null ? NO_DAT : saidOfFile(known, { size, hashes, own }, textOf);
     return [listedName(name), kinds, ...numbers.map(it => it === false ? NOT_TESTED : String(it)), hashes.sha1, said, String(size),
         ...[changed, hashes.crc32, hashes.md5].map(it => it || NOT_TESTED)];

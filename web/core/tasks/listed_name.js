@@ -13,8 +13,10 @@ export const ESCAPED_BYTE = /([\uDC80-\uDCFF])/u;
 export function listedName(name) {
     const digits = (/** @type {string} */ it) => (it.codePointAt(0) || 0).toString(16);
     const byte = (/** @type {string} */ it) => (it.charCodeAt(0) - SURROGATE_OF_BYTE).toString(16);
-    return name.replace(/[\p{C}\p{Zl}\p{Zp}\\]/gu, it =>
-        it === '\\' ? '\\\\' : ESCAPED_BYTE.test(it) ? `\\x${byte(it)}` : `\\u{${digits(it)}}`);
+    return name.replace(/[\p{C}\p{Zl}\p{Zp}\\]/gu, it => {
+        if (it === '\\') return '\\\\';
+        return ESCAPED_BYTE.test(it) ? `\\x${byte(it)}` : `\\u{${digits(it)}}`;
+    });
 }
 
 /**

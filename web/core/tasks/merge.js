@@ -2,8 +2,9 @@
 
 import { joinedBytes, sameBytes } from '../bytes.js';
 import { RECORD, RECORD_SIZE, SECTOR_KIND, SECTOR_SIZE, sectorCount } from '../module/index.js';
-import { FIELDS, addToRuns, addressIn, asWords, differingSectors, edcOfMode2, isDamagedMode2, isFilled } from '../sectors/index.js';
-import { isSound, isSoundMode2, runOf, sectorOf, sectorsAt, testMode2 } from '../sectors/index.js';
+import { addToRuns, addressIn, addressOf, asWords, differingSectors, isFilled } from '../sectors/index.js';
+import { isSound, isSoundMode2, isTestedMode2, runOf, sectorOf, sectorsAt, testMode2 } from '../sectors/index.js';
+import { STATE, hasSameContents, replacementOf } from './merge_sector.js';
 
 /** @typedef {import('../module/calls.js').Calls} Calls */
 /** @typedef {import('../disc/lost.js').OtherSectors} OtherSectors */
@@ -12,24 +13,26 @@ import { isSound, isSoundMode2, runOf, sectorOf, sectorsAt, testMode2 } from '..
 /** @typedef {Run & { elsewhere: boolean }} DamagedRun `elsewhere` if an image has a sound sector with the address of a different block */
 /**
  * The findings of a repair, as runs of blocks. `taken`: blocks copied from one other image for each run. `doubtful`: those of them whose
- * damaged sector has a different EDC and different data, unless one byte fills it and nothing disputes the copy. `damaged`: blocks that no
- * image repairs. `alike`: those of them with the same bytes in all images that have the block. `disputed`: taken blocks in which other
- * images are also sound, but different. `wrongAddress`: blocks that keep a sound sector with the address of a different block.
- * `differing`, for each other image: blocks in which both are sound, but different. `different` is their number, and `same` the number of
- * blocks with the same bytes. `others`: blocks that are neither Mode 1 in any image nor sound, with their kinds in the first one. `filled`:
- * those of them that one byte fills there. `unlike`: those of them with different bytes in some image.
+ * copy nothing in the replaced sector confirms, unless the sector was lost and one byte fills it, and nothing disputes the copy. `damaged`:
+ * blocks that no image repairs. `alike`: those of them with the same bytes in all images that have the block. `disputed`: taken blocks in
+ * which other images are also sound, but different. `wrongAddress`: blocks that keep a sound sector with the address of a different block.
+ * `others`: blocks that were not repaired, are neither sound nor Mode 1 in any image, and are not tested Mode 2, with their kinds in the
+ * repaired image. `filled`: those of them that one byte fills there. `unlike`: those of them that are different in some image.
  *
- * `mode2`: blocks that are Mode 2 in the repaired image. `unsound`: those of `others` that count as damaged if any image has sound Mode 2.
- * `sound`: how many blocks are sound Mode 2 in any image.
- * @typedef {{ taken: RunOf[], doubtful: RunOf[], damaged: DamagedRun[], alike: Run[], disputed: Run[], wrongAddress: Run[],
- *     differing: Run[][], different: number[], same: number[], unlike: Run[], unsound: DamagedRun[], sound: number } & OtherSectors} Found
+ * For each other image, `same` is the number of blocks with the same bytes, `differing` lists the blocks in which both are sound, but
+ * different, and `differingUntested` the Mode 2 blocks that were not tested in the repaired image, and are different in the other one,
+ * where they are not damaged.
+ *
+ * `mode2`: blocks that are Mode 2 after the repair. `tested`: how many blocks of the repaired image have codes, which are those of Mode 1
+ * and of sound Mode 2. `sound`: how many blocks are sound Mode 2 in any image. If there are any, then `unsound`, some of `others`, are
+ * damaged. If there are none, no Mode 2 sector was tested, and `unclear`, some of `others`, are also `unlike`.
+ * @typedef {{ taken: RunOf[], doubtful: RunOf[], damaged: DamagedRun[], alike: Run[], disputed: Run[], wrongAddress: Run[], unlike: Run[],
+ *     unsound: DamagedRun[], unclear: Run[] } & OtherSectors} FoundRuns
+ * @typedef {FoundRuns & { differing: Run[][], differingUntested: Run[][], same: number[], tested: number, sound: number }} Found
  */
 /** @typedef {Found & { sectors: Uint8Array, end: number }} Merged with the copied sectors, and the block after the range */
 /** @typedef {{ records: Uint8Array, mode2: Uint8Array }} Tested the records of sectors, and the findings in those of Mode 2 */
-
-/** The place of the mode byte, and the size of the EDC. */
-const MODE_OFFSET = 15;
-const EDC_SIZE = 4;
+/** @typedef {import('./merge_sector.js').Copy & { image: number, kind: number }} Copy a sector of one of the images, and its SECTOR_KIND */
 
 /**
  * Selects the sectors of other images that repair a range of sectors. A job for a worker.
@@ -62,7 +65,6 @@ class RangeMerge {
         this.images = images;
         this.first = first;
         this.shift = shift;
-        this.numbers = others.map((_, other) => other);
         this.words = asWords(old);
         this.tested = [testedSectors(calls, old), ...others.map((other, i) => testedAt(calls, other, places[i]))];
         this.unlike = new Uint8Array(count); // 1 where some image has different bytes
@@ -74,77 +76,84 @@ class RangeMerge {
 
     /** @param {number} i the index of a sector in the range */
     merge(i) {
-        const { found, tested } = this;
-        const block = this.first + i;
-        const sound = this.numbers.filter(other => isSoundAt(tested[other + 1], i));
-        const isKept = isSoundAt(tested[0], i);
-        const home = sound.filter(other => this.isHome(other + 1, i));
-        const better = isKept ? home.filter(other => !this.isHome(0, i) && this.hasSameContents(other + 1, i)) : home;
-        if (tested.some(it => isSoundMode2(it.mode2[i]))) found.sound += 1;
-        const from = better.length > 0 ? this.take(i, better) + 1 : 0;
-        if (kindAt(tested[from], i) === SECTOR_KIND.MODE2) addToRuns(found.mode2, runOf(block));
-        if (from > 0) return;
-        if (!isKept) return void this.leave(i, sound.length > 0);
-        if (this.calls.address(block + this.shift) !== null && !this.isHome(0, i)) addToRuns(found.wrongAddress, runOf(block));
-        for (const other of sound) if (!this.hasSameContents(other + 1, i)) addDifferent(found, block, other);
-    }
-
-    /**
-     * Whether the i-th sector of an image has the address of its block. False if the block has no address.
-     * @param {number} image
-     * @param {number} i
-     */
-    isHome(image, i) {
-        const own = this.calls.address(this.first + i + this.shift);
-        return own !== null && sameBytes(own, addressIn(this.images[image], i));
-    }
-
-    /**
-     * Whether two sound sectors differ only in their header, as only those of Mode 2 can: no code of theirs includes it.
-     * @param {number} image
-     * @param {number} i
-     */
-    hasSameContents(image, i) {
-        const [old, other] = [this.images[0], this.images[image]].map(it => sectorOf(it, i));
-        return hasSame(old, other, FIELDS.user, SECTOR_SIZE);
-    }
-
-    /**
-     * Copies the sector that fits the damaged one best. Returns its image.
-     * @param {number} i
-     * @param {number[]} home the other images in which it is sound and has the right address
-     */
-    take(i, home) {
         const { found } = this;
         const block = this.first + i;
-        const damaged = sectorOf(this.images[0], i);
-        const candidates = home.map(other => ({ other, sector: sectorOf(this.images[other + 1], i) }));
-        const fits = candidates.map(({ sector }) => fitOf(damaged, sector));
-        const best = Math.max(...fits);
-        const { other, sector } = candidates[fits.indexOf(best)];
-        this.sectors.push(sector);
-        addToRuns(found.taken, { ...runOf(block), other });
-        const isDisputed = candidates.some(it => differingSectors(sector, it.sector).length > 0);
-        if (isDisputed) addToRuns(found.disputed, runOf(block));
-        if (best === 0 && (isDisputed || !hasFilledUser(damaged))) addToRuns(found.doubtful, { ...runOf(block), other });
-        return other;
+        const address = addressOf(this.calls, block + this.shift);
+        const copies = this.images.map((_, image) => this.copyIn(image, i, address));
+        const [own, ...others] = copies;
+        const isSoundIn = (/** @type {Copy} */ { state }) => state === STATE.SOUND;
+        found.tested += Number(own.kind === SECTOR_KIND.MODE1 || isSoundIn(own));
+        found.sound += Number(copies.some(it => it.kind === SECTOR_KIND.MODE2 && isSoundIn(it)));
+        const replacement = replacementOf(own, others);
+        const { kind } = replacement === null ? own : replacement.copy;
+        if (kind === SECTOR_KIND.MODE2) addToRuns(found.mode2, runOf(block));
+        if (replacement !== null) this.take(block, replacement);
+        else if (own.state === STATE.UNTESTED) this.keepUntested(block, own, others);
+        else if (!isSoundIn(own)) this.leave(i, copies);
+        else {
+            if (address !== null && !own.isHome) addToRuns(found.wrongAddress, runOf(block));
+            const differing = others.filter(it => isSoundIn(it) && !hasSameContents(own, it));
+            for (const { image } of differing) addToRuns(found.differing[image - 1], runOf(block));
+        }
     }
 
     /**
-     * Notes a sector that no image repairs.
+     * @param {number} image
      * @param {number} i
-     * @param {boolean} elsewhere whether it is sound in an image, with the address of a different block
+     * @param {Uint8Array | null} address of the block, null if it has none
+     * @returns {Copy}
      */
-    leave(i, elsewhere) {
-        const { found, tested, images: [old], unlike } = this;
+    copyIn(image, i, address) {
+        const { [image]: bytes } = this.images;
+        const isHome = address !== null && sameBytes(address, addressIn(bytes, i));
+        return { image, bytes: sectorOf(bytes, i), isHome, ...stateAt(this.tested[image], i) };
+    }
+
+    /**
+     * @param {number} block
+     * @param {import('./merge_sector.js').Replacement<Copy>} replacement
+     */
+    take(block, { copy, isDisputed, isDoubtful }) {
+        const { found } = this;
+        const run = { ...runOf(block), other: copy.image - 1 };
+        this.sectors.push(copy.bytes);
+        addToRuns(found.taken, run);
+        if (isDisputed) addToRuns(found.disputed, runOf(block));
+        if (isDoubtful) addToRuns(found.doubtful, run);
+    }
+
+    /**
+     * Notes a Mode 2 sector that was not tested, and the images in which it is different. A damaged or lost copy says nothing.
+     * @param {number} block
+     * @param {Copy} own
+     * @param {Copy[]} others
+     */
+    keepUntested(block, own, others) {
+        const { found } = this;
+        const unlike = others.filter(it => it.state !== STATE.LOST && !hasSameContents(own, it));
+        const known = unlike.filter(({ state }) => state !== STATE.DAMAGED);
+        addToRuns(found.others, { ...runOf(block), kind: own.kind });
+        for (const { image } of known) addToRuns(found.differingUntested[image - 1], runOf(block));
+        if (known.length > 0) addToRuns(found.unlike, runOf(block));
+        else if (unlike.some(({ kind }) => kind === SECTOR_KIND.MODE2)) addToRuns(found.unclear, runOf(block));
+    }
+
+    /**
+     * Notes a damaged or lost sector that no image repairs.
+     * @param {number} i
+     * @param {Copy[]} copies
+     */
+    leave(i, copies) {
+        const { found, images: [old], unlike } = this;
         const block = this.first + i;
-        const isMode1 = tested.some(it => kindAt(it, i) === SECTOR_KIND.MODE1);
-        const isUnsound = elsewhere || tested.some(it => isDamagedMode2(it.mode2[i]));
+        const elsewhere = copies.some(({ state }) => state === STATE.SOUND);
+        const isMode1 = copies.some(({ kind }) => kind === SECTOR_KIND.MODE1);
+        const isUnsound = elsewhere || copies.some(({ state }) => state === STATE.DAMAGED);
         if (isMode1) addToRuns(found.damaged, { ...runOf(block), elsewhere });
         else if (isUnsound) addToRuns(found.unsound, { ...runOf(block), elsewhere });
-        if ((isMode1 || isUnsound) && tested.length > 1 && unlike[i] === 0) addToRuns(found.alike, runOf(block));
+        if ((isMode1 || isUnsound) && copies.length > 1 && unlike[i] === 0) addToRuns(found.alike, runOf(block));
         if (isMode1) return;
-        const kind = kindAt(tested[0], i);
+        const [{ kind }] = copies;
         addToRuns(found.others, { ...runOf(block), kind });
         const isOneByte = kind === SECTOR_KIND.NOSYNC && isFilled(this.words, i);
         if (isOneByte) addToRuns(found.filled, { ...runOf(block), byte: old[i * SECTOR_SIZE] });
@@ -153,59 +162,15 @@ class RangeMerge {
 }
 
 /**
- * @param {Found} found
- * @param {number} block
- * @param {number} other
- */
-function addDifferent({ differing, different }, block, other) {
-    different[other] += 1;
-    addToRuns(differing[other], runOf(block));
-}
-
-/**
- * How well a sound sector fits a damaged one: 2 if it has the same EDC, 1 if it has the same data that the EDC includes, else 0.
- * @param {Uint8Array} damaged
- * @param {Uint8Array} sector
- */
-function fitOf(damaged, sector) {
-    const isMode2 = sector[MODE_OFFSET] === 2;
-    const [from, edc] = isMode2 ? [FIELDS.user, edcOfMode2(sector)] : [FIELDS.header, FIELDS.edc];
-    if (hasSame(damaged, sector, edc, edc + EDC_SIZE)) return 2;
-    return Number(hasSame(damaged, sector, from, edc));
-}
-
-/**
- * Whether a damaged sector consists of one repeated byte after its header.
- * @param {Uint8Array} damaged
- */
-function hasFilledUser(damaged) {
-    return damaged.subarray(FIELDS.user).every(byte => byte === damaged[FIELDS.user]);
-}
-
-/**
- * @param {Uint8Array} a
- * @param {Uint8Array} b
- * @param {number} from
- * @param {number} end
- */
-function hasSame(a, b, from, end) {
-    return sameBytes(a.subarray(from, end), b.subarray(from, end));
-}
-
-/**
+ * What the codes of a sector show, as a STATE, and its SECTOR_KIND.
  * @param {Tested} tested
  * @param {number} i
  */
-function kindAt({ records }, i) {
-    return records[i * RECORD_SIZE + RECORD.KIND];
-}
-
-/**
- * @param {Tested} tested
- * @param {number} i
- */
-function isSoundAt({ records, mode2 }, i) {
-    return isSound(records, i * RECORD_SIZE) || isSoundMode2(mode2[i]);
+function stateAt({ records, mode2 }, i) {
+    const kind = records[i * RECORD_SIZE + RECORD.KIND];
+    if (isSound(records, i * RECORD_SIZE) || isSoundMode2(mode2[i])) return { kind, state: STATE.SOUND };
+    if (kind === SECTOR_KIND.MODE1 || isTestedMode2(mode2[i])) return { kind, state: STATE.DAMAGED };
+    return { kind, state: kind === SECTOR_KIND.MODE2 ? STATE.UNTESTED : STATE.LOST };
 }
 
 /**
@@ -213,10 +178,10 @@ function isSoundAt({ records, mode2 }, i) {
  * @returns {Found}
  */
 export function nothingFound(others) {
-    const differing = Array.from({ length: others }, () => []);
-    const [different, same] = [0, 0].map(none => new Array(others).fill(none));
+    const [differing, differingUntested] = [0, 1].map(() => Array.from({ length: others }, () => []));
     const runs = { taken: [], doubtful: [], damaged: [], alike: [], disputed: [], wrongAddress: [], others: [], filled: [], unlike: [] };
-    return { ...runs, mode2: [], unsound: [], differing, different, same, sound: 0 };
+    const same = new Array(others).fill(0);
+    return { ...runs, mode2: [], unsound: [], unclear: [], differing, differingUntested, same, tested: 0, sound: 0 };
 }
 
 /**

@@ -4,20 +4,19 @@ import { readBytes } from '../bytes.js';
 import { newBytes } from '../faults.js';
 import { SECTOR_SIZE, USER_SIZE } from '../module/index.js';
 import { USER_OFFSET } from '../sectors/index.js';
-import { codesLeftOut, controlsTyped } from '../texts/index.js';
-import { changesOfList, encodingsOfRows } from './list.js';
-import { rowsOfLists } from './list_rows.js';
+import { fittedLists } from './fitted_lists.js';
+import { placeInImage } from './rows_in_image.js';
 
 /** @typedef {import('../bytes.js').Reader} Reader */
 /** @typedef {import('../disc/disc.js').DiscFile} DiscFile */
 /** @typedef {import('./engine.js').Watch} Watch */
-/** @typedef {import('./list.js').FileChange} FileChange */
+/** @typedef {{ at: number, bytes: Uint8Array }} FileChange new bytes at a place in a plain file */
 /** @typedef {import('./opened.js').OpenedTrack} OpenedTrack */
 /** @typedef {import('./opened.js').TrackContents} TrackContents */
 /** @typedef {Omit<import('./table.js').ImportOptions, 'isAlso'>} ImportOptions */
 /**
- * The changes of the file in the order of their places, null if some rows do not fit and all are needed; and what `importTable` reports.
- * @typedef {{ changes: FileChange[] | null } & Omit<import('./table.js').ImportedTable, 'script' | 'old'>} FileImport
+ * The changes of the file in the order of their places, null if some rows do not fit and all are needed.
+ * @typedef {import('./fitted_lists.js').FittedLists & { changes: FileChange[] | null }} FileImport
  */
 
 /**
@@ -66,12 +65,11 @@ export function openPlainFile({ name, reader }) {
  * @param {Watch} [watch] receives the number of rows
  * @returns {Promise<FileImport>}
  */
-export async function importIntoFile(opened, { lists, encodings, isAsked, fill = null, partial }, watch = {}) {
+export async function importIntoFile(opened, { lists, fill, partial, ...options }, watch = {}) {
     const { part } = await opened.contents();
-    const encodingsFor = encodingsOfRows(encodings, isAsked);
-    const { rows, fuzzy, glyphs } = await rowsOfLists(lists, undefined, watch.signal);
-    const { changes, left } = await changesOfList(part, rows, encodingsFor, fill, watch);
-    const codes = await codesLeftOut(rows, encodingsFor, watch.signal);
-    const unusual = [...glyphs, ...await controlsTyped(rows, encodingsFor, watch.signal)];
-    return { count: rows.length, changes: partial || left.length === 0 ? changes : null, left, codes, fuzzy, glyphs: unusual };
+    /** @type {FileChange[]} */
+    const changes = [];
+    const place = placeInImage(part, fill, ({ offset }, _, __, bytes) => changes.push({ at: offset, bytes }));
+    const fitted = await fittedLists(lists, place, options, watch);
+    return { ...fitted, changes: partial || fitted.left.length === 0 ? changes : null };
 }

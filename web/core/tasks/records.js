@@ -1,9 +1,9 @@
 // Lists the records of a table of fixed width: one row for each, whether it is likely to be a text or not.
 
-import { fillerOf, fillerSizeAt, sizeBeforeFilling } from '../encodings/index.js';
+import { fillerOf, fillerSizeAt, sizeBeforeFilling, withEnd } from '../encodings/index.js';
 import { hexText } from '../hex_digits.js';
 import { readerOfFile, wholeFile } from '../iso/index.js';
-import { ReadAhead } from '../read_ahead.js';
+import { ReadAhead } from '../readers/index.js';
 import { EncodingChooser, cellOf, shownPlace, visible } from '../texts/index.js';
 import { isTurnDue, letOthersIn } from '../turns.js';
 import { exportedPieces } from './table.js';
@@ -20,8 +20,8 @@ import { exportedPieces } from './table.js';
  * @typedef {{ every: number, length: number, skip?: number, limit?: number }} Layout
  */
 /**
- * The file, and the encoding, or null for the usual one in which the records read best.
- * @typedef {Layout & { entries: FileEntry[], encoding: Encoding | null } & Pick<ExportOptions, 'form' | 'freshOf'>} RecordOptions
+ * The file, and the encoding, or null for the usual one in which the records read best; and the byte that ends texts, if it is known.
+ * @typedef {Layout & { entries: FileEntry[], encoding: Encoding | null } & Pick<ExportOptions, 'form' | 'freshOf' | 'end'>} RecordOptions
  */
 /** @typedef {{ at: number, bytes: Uint8Array }} TableRecord where its text begins in the file, and the bytes of the text */
 
@@ -44,12 +44,12 @@ export async function exportRecords(opened, { entries, form, freshOf, ...options
     const file = wholeFile(entries);
     const { reader, placeOf } = readerOfFile(part, file);
     const records = () => recordsIn(reader, options, watch);
-    const encoding = options.encoding || await bestEncoding(records());
+    const encoding = withEnd(options.encoding || await bestEncoding(records()), options.end);
     const filler = await usualFiller(encoding, records());
     const fill = codeOfBytes(filler);
     const listed = (/** @type {TableRecord} */ { at, bytes }) => {
-        const [place, text] = [shownPlace(part, placeOf(at)), textOf(encoding, bytes)];
-        return { ...place, ...text, room: options.length, encoding: encoding.name, file: `${visible(file.path)}+${at}`, fill };
+        const place = { ...shownPlace(part, placeOf(at)), file: `${visible(file.path)}+${at}` };
+        return { ...place, ...textOf(encoding, bytes), room: options.length, encoding: encoding.name, fill };
     };
     return { encoding, filler, table: exportedPieces(listedIn(records(), listed), { form, freshOf }, true) };
 }

@@ -1,9 +1,10 @@
 // Repairs the image of a track with other dumps of the same disc.
 
-import { PieceCutter, sliceOf } from '../bytes.js';
+import { PieceCutter } from '../bytes.js';
 import { lostSectors, sheetTracks } from '../disc/index.js';
 import { SECTOR_SIZE, sectorCount } from '../module/index.js';
-import { addToRuns, commonRuns, joinedRuns, runsWithout } from '../sectors/index.js';
+import { sliceOf } from '../readers/index.js';
+import { addToRuns, blocksIn, commonRuns, joinedRuns, runsWithout } from '../sectors/index.js';
 import { addressShift, commonPart, firstBlock, rangesOf, shiftOf } from './common_part.js';
 import { tailsDiffer } from './compare.js';
 import { nothingFound } from './merge.js';
@@ -11,8 +12,8 @@ import { trackBeside } from './opened.js';
 
 /** @typedef {import('../bytes.js').Piece} Piece */
 /** @typedef {import('../module/calls.js').Calls} Calls */
-/** @typedef {import('../crew/crew.js').Sharer} Sharer */
-/** @typedef {import('../crew/crew.js').Sharing} Sharing */
+/** @typedef {import('../pool/pool.js').Sharer} Sharer */
+/** @typedef {import('../pool/pool.js').Sharing} Sharing */
 /** @typedef {import('../disc/disc.js').DiscImage} DiscImage */
 /** @typedef {import('../disc/lost.js').KindRun} KindRun */
 /** @typedef {import('../disc/lost.js').Lost['lost'][0]} LostRun */
@@ -25,26 +26,33 @@ import { trackBeside } from './opened.js';
 /** @typedef {import('./merge.js').Merged} Merged */
 /** @typedef {import('./opened.js').OpenedTrack} OpenedTrack */
 /**
- * The reason why a repair is refused, and the index of the dump. `apart`: it has no block in common with the image, and `first` lists the
- * first blocks of both. `different`: more than a hundredth of its sectors are sound and different, and `shift` is the shift that the
- * addresses show, or null.
- * @typedef {{ why: 'apart', other: number, first: number[] } | { why: 'different', other: number, shift: Shift | null }} Refusal
+ * The reason why a repair is refused. `untested`: the image has no sector with codes, so that nothing shows damage. The others have the
+ * index of a dump. `apart`: it has no block in common with the image, and `first` lists the first blocks of both. `different`: more
+ * than a hundredth of the `common` blocks are different: `sound` blocks are sound in both, and `untested` ones were not tested in the
+ * image. `shift` is the shift that the addresses show, or null.
+ * @typedef {{ why: 'untested' } | { why: 'apart', other: number, first: number[] }
+ *     | { why: 'different', other: number, common: number, sound: number, untested: number, shift: Shift | null }} Refusal
  */
 /**
  * The findings of a repair. If it is `refused`, the repaired image must be discarded. Sectors that are neither Mode 1 nor tested Mode 2 in
- * any dump are `lost` or `untested`, and the `unlike` ones among the latter are different in some dump. For each other dump, `ranges` lists
- * its blocks, and `tails` tells whether the bytes after the last sector differ, if that is the same sector.
- * @typedef {Omit<Found, 'others' | 'filled' | 'unsound' | 'sound' | 'unlike'> & { refused: Refusal | null, sectors: number,
- *     lost: LostRun[], untested: KindRun[], unlike: KindRun[], ranges: Ranges[], tails: boolean[] }} Repair
+ * any dump are `lost` or `untested`, and the `unlike` ones among the latter are different in some dump. For each other dump, `different` is
+ * the number of the sectors in `differing`, `ranges` lists its blocks, and `tails` tells whether the bytes after the last sector differ, if
+ * that is the same sector.
+ * @typedef {Omit<Found, 'others' | 'filled' | 'unsound' | 'unclear' | 'sound' | 'unlike'> & { refused: Refusal | null, sectors: number,
+ *     different: number[], lost: LostRun[], untested: KindRun[], unlike: KindRun[], ranges: Ranges[], tails: boolean[] }} Repair
  */
 
-/** An image is refused if more than one in this many of its sectors is sound and different. */
+/** A dump is refused if more than one in this many sectors is sound or untested in the image, and different in the dump. */
 const MOST_DIFFERENT = 100;
 
+/** The findings that are runs of blocks of the image alone. */
+const RUNS = /** @type {const} */ (['damaged', 'unsound', 'alike', 'disputed', 'wrongAddress', 'others', 'filled', 'unlike', 'unclear',
+    'mode2']);
+
 /**
- * Repairs the image of a track with other dumps, in the blocks that both have. A sector that is not consistent is copied whole from a dump
- * in which it is consistent and has the address of its block. The tail is not changed. The pieces of the repaired image are passed to
- * `take` at once, before it is known whether the repair is refused. Throws what the readers throw, and a Fault, `cancelled`.
+ * Repairs the image of a track with other dumps, in the blocks that both have. A damaged or lost sector is copied whole from a dump in
+ * which it is sound and has the address of its block. The tail is not changed. The pieces of the repaired image are passed to `take` at
+ * once, before it is known whether the repair is refused. Throws what the readers throw, and a Fault, `cancelled`.
  * @param {Engine} engine
  * @param {OpenedTrack} opened
  * @param {OpenedTrack[]} dumps
@@ -52,18 +60,17 @@ const MOST_DIFFERENT = 100;
  * @param {Sharing} [watch]
  * @returns {Promise<Repair>}
  */
-export async function repairTrack({ calls, crew }, opened, dumps, take, watch = {}) {
+export async function repairTrack({ calls, pool }, opened, dumps, take, watch = {}) {
     const { image } = opened;
     const tracks = dumps.map(dump => trackBeside(opened, dump));
     const others = tracks.map(track => track.image);
     const parts = others.map(other => commonPart(image, other));
+    const isApart = parts.some(({ from, to }) => from === to);
+    const all = isApart ? nothingFound(others.length) : await mergeImages(pool, image, others, parts, take, watch);
+    const { others: notTested, filled, ...found } = settled(all);
+    const refused = await refusalOf(calls, image, others, parts, all);
     const ranges = others.map(other => rangesOf(image, other));
-    const apart = parts.findIndex(({ from, to }) => from === to);
-    const { others: notTested, filled, ...found } = settled(apart >= 0 ? nothingFound(others.length)
-        : await mergeImages(crew, image, others, parts, take, watch));
-    const refused = apart >= 0 ? /** @type {Refusal} */ ({ why: 'apart', other: apart, first: [image, others[apart]].map(firstBlock) })
-        : await tooDifferent(calls, image, others, parts, found);
-    const shared = { ...found, refused, sectors: sectorCount(image.reader.size), ranges };
+    const shared = { ...found, refused, sectors: sectorCount(image.reader.size), different: found.differing.map(blocksIn), ranges };
     if (refused !== null) return { ...shared, unlike: [], lost: [], untested: [], tails: others.map(() => false) };
     const dumpsOfAll = [{ ...opened, later: 0 }, ...tracks.map((track, i) =>
         ({ ...track, later: parts[i].later + image.base - track.image.base }))];
@@ -79,21 +86,24 @@ export async function repairTrack({ calls, crew }, opened, dumps, take, watch = 
  * 2 sectors have codes, and they were not tested.
  * @param {Found} found
  */
-function settled({ unsound, sound, ...found }) {
-    if (sound === 0) return { ...found, mode2: [], alike: commonRuns(found.alike, joinedRuns(found.damaged)) };
+function settled({ unsound, unclear, sound, ...found }) {
+    if (sound === 0) {
+        const alike = commonRuns(found.alike, joinedRuns(found.damaged));
+        return { ...found, mode2: [], alike, unlike: joinedRuns([...found.unlike, ...unclear]) };
+    }
     const damaged = [...found.damaged, ...unsound].sort((a, b) => a.first - b.first);
     return { ...found, damaged, others: runsWithout(found.others, joinedRuns(unsound)) };
 }
 
 /**
- * @param {Sharer} crew
+ * @param {Sharer} pool
  * @param {DiscImage} old
  * @param {DiscImage[]} others
  * @param {CommonPart[]} parts of the image that each dump has
  * @param {(piece: Piece) => void | Promise<void>} take
  * @param {Sharing} how
  */
-async function mergeImages(crew, old, others, parts, take, how) {
+async function mergeImages(pool, old, others, parts, take, how) {
     const found = nothingFound(others.length);
     const sectors = sectorCount(old.reader.size);
     const pieces = new PieceCutter(take);
@@ -104,7 +114,7 @@ async function mergeImages(crew, old, others, parts, take, how) {
         const progress = how.progress && ((/** @type {number} */ done) => how.progress?.(from + done, sectors));
         const readers = [partReader(old, from, stops[i + 1], 0),
             ...present.map(other => partReader(others[other], from, stops[i + 1], parts[other].later))];
-        await crew.share('merge', readers, { shift }, { ...how, progress, base: old.base + from }, async answer => {
+        await pool.share('merge', readers, { shift }, { ...how, progress, base: old.base + from }, async answer => {
             addAnswer(found, answer, present);
             await cutAnswer(pieces, answer, old.base);
         });
@@ -114,18 +124,27 @@ async function mergeImages(crew, old, others, parts, take, how) {
 }
 
 /**
- * The reason to refuse a repair after the comparison, or null. It names the dump that differs most.
+ * The reason to refuse a repair, or null. Of the dumps that are too different, it names the one that differs most.
  * @param {Calls} calls
  * @param {DiscImage} image
  * @param {DiscImage[]} others
  * @param {CommonPart[]} parts
- * @param {Pick<Found, 'different' | 'differing'>} found
+ * @param {Found} found
  * @returns {Promise<Refusal | null>}
  */
-async function tooDifferent(calls, image, others, parts, { different, differing }) {
-    if (!different.some((count, i) => count * MOST_DIFFERENT > parts[i].to - parts[i].from)) return null;
-    const other = different.indexOf(Math.max(...different));
-    return { why: 'different', other, shift: await shiftOf(calls, image, others[other], differing[other]) };
+async function refusalOf(calls, image, others, parts, { tested, differing, differingUntested }) {
+    const apart = parts.findIndex(({ from, to }) => from === to);
+    if (apart >= 0) return { why: 'apart', other: apart, first: [image, others[apart]].map(firstBlock) };
+    if (tested === 0) return { why: 'untested' };
+    const counts = parts.map(({ from, to }, other) => {
+        const [sound, untested] = [differing, differingUntested].map(runs => blocksIn(runs[other]));
+        return { other, common: to - from, sound, untested };
+    });
+    const [most] = counts.filter(it => (it.sound + it.untested) * MOST_DIFFERENT > it.common)
+        .sort((a, b) => b.sound + b.untested - a.sound - a.untested);
+    if (most === undefined) return null;
+    const runs = [differing, differingUntested].flatMap(all => all[most.other]);
+    return { why: 'different', ...most, shift: await shiftOf(calls, image, others[most.other], joinedRuns(runs)) };
 }
 
 /**
@@ -157,17 +176,17 @@ function partReader({ reader }, from, to, later) {
  * @param {Merged} answer
  * @param {number[]} present the indices of the other images that have the range
  */
-function addAnswer(found, { taken, doubtful, differing, different, same, sound, ...answer }, present) {
+function addAnswer(found, { taken, doubtful, ...answer }, present) {
     for (const run of taken) addToRuns(found.taken, { ...run, other: present[run.other] });
     for (const run of doubtful) addToRuns(found.doubtful, { ...run, other: present[run.other] });
-    found.sound += sound;
-    for (const name of /** @type {const} */ (['damaged', 'unsound', 'alike', 'disputed', 'wrongAddress', 'others', 'filled', 'unlike',
-        'mode2'])) {
-        for (const run of answer[name]) addToRuns(/** @type {Run[]} */ (found[name]), run);
-    }
-    differing.forEach((runs, i) => runs.forEach(run => addToRuns(found.differing[present[i]], run)));
-    different.forEach((count, i) => { found.different[present[i]] += count; });
-    same.forEach((count, i) => { found.same[present[i]] += count; });
+    for (const name of RUNS) for (const run of answer[name]) addToRuns(/** @type {Run[]} */ (found[name]), run);
+    found.tested += answer.tested;
+    found.sound += answer.sound;
+    present.forEach((other, i) => {
+        found.same[other] += answer.same[i];
+        for (const run of answer.differing[i]) addToRuns(found.differing[other], run);
+        for (const run of answer.differingUntested[i]) addToRuns(found.differingUntested[other], run);
+    });
 }
 
 /**

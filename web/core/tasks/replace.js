@@ -26,33 +26,33 @@ export function assertHasRoom({ name }, fresh, room) {
 }
 
 /**
- * Collects the lines that replace texts, in the order of their places, and the texts that are left out, with the reasons.
- * @template {import('../sectors/sector.js').Place} T
- * @param {OrderedImage} image
+ * Fits texts, in the order of their places, and returns those that are left out, with the reasons.
+ * @template T
  * @param {T[]} texts
+ * @param {(text: T) => number} placeOf the place of a text, in bytes
  * @param {Watch} watch
- * @param {(text: T, before: T | null) => Promise<{ lines: Lines, size: number }>} replace returns the lines, and how many bytes they
- *     replace. It throws a Fault if there are none, for example if the text overlaps `before`, the text before it
+ * @param {(text: T, before: T | null) => Promise<number>} fit returns how many bytes are replaced. It throws a Fault if the text does not
+ *     fit, for example if it overlaps `before`, the text before it
  */
-export async function replacedEach(image, texts, { signal, progress }, replace) {
-    const parts = new ScriptParts();
+export async function fittedEach(texts, placeOf, { signal, progress }, fit) {
     /** @type {{ text: T, why: import('../facts.js').Remark }[]} */
     const left = [];
-    let [last, end] = [/** @type {T | null} */ (null), 0];
+    let last = /** @type {T | null} */ (null);
+    let end = 0;
     for (const [i, text] of texts.entries()) {
         await letOthersIn(signal);
         if (progress) progress(i, texts.length);
-        const at = bytesBefore(image, text);
+        const at = placeOf(text);
         try {
-            const { lines, size } = await replace(text, at < end ? last : null);
-            parts.push(lines);
-            [last, end] = [text, at + size];
+            const size = await fit(text, at < end ? last : null);
+            last = text;
+            end = at + size;
         } catch (error) {
             if (!(error instanceof Fault)) throw error;
             left.push({ text, why: remark(error.code, error.facts) });
         }
     }
-    return { parts, left };
+    return left;
 }
 
 /**
@@ -66,11 +66,13 @@ export async function replacedEach(image, texts, { signal, progress }, replace) 
  * @param {Watch} [watch]
  */
 export async function replaceHits({ calls }, opened, { image, encoding, hits, freshFor, inside = false }, watch = {}) {
-    const { parts, left } = await replacedEach(image, hits, watch, async (hit, before) => {
+    const parts = new ScriptParts();
+    const left = await fittedEach(hits, hit => bytesBefore(image, hit), watch, async (hit, before) => {
         const { bytes, doubt } = await contextOf(image, encoding, hit, 0);
         if (before !== null) throw new Fault('replace/overlaps', {});
         if (doubt !== null && !inside) throw new Fault(doubt.code, doubt.facts);
-        return { lines: await replaceBytes(calls, image, hit, bytes, freshFor(hit.size)), size: hit.size };
+        parts.push(await replaceBytes(calls, image, hit, bytes, freshFor(hit.size)));
+        return hit.size;
     });
     return { script: await fittingScript(calls, opened.image, parts), left };
 }

@@ -1,9 +1,10 @@
 // Creates the script that replaces a file of a disc.
 
-import { firstAfter, sliceOf } from '../bytes.js';
+import { firstAfter } from '../bytes.js';
 import { Fault } from '../faults.js';
 import { SIZE_FIELD, endOfExtent } from '../iso/index.js';
 import { SECTOR_SIZE, USER_SIZE } from '../module/index.js';
+import { filledReader, sliceOf } from '../readers/index.js';
 import { USER_OFFSET } from '../sectors/index.js';
 import { ScriptParts, scriptForBase } from '../script/index.js';
 import { bytesAround } from '../texts/index.js';
@@ -16,7 +17,7 @@ import { replaceBytes } from './replace_bytes.js';
 /** @typedef {import('../iso/files.js').FileEntry} FileEntry */
 /** @typedef {import('../iso/files.js').VolumeFiles} VolumeFiles */
 /** @typedef {import('../iso/files.js').WholeFile} WholeFile */
-/** @typedef {import('../crew/crew.js').Sharing} Sharing */
+/** @typedef {import('../pool/pool.js').Sharing} Sharing */
 /** @typedef {import('../script/model.js').UserRange} UserRange */
 /** @typedef {import('../script/sector_lines.js').Left} Left */
 /** @typedef {import('../script/script_writer.js').Script} Script */
@@ -152,7 +153,7 @@ function recordsByKey(entries, extents) {
  * @param {Sharing} [how]
  * @returns {Promise<Replacement>}
  */
-export async function replaceFile({ calls, crew }, opened, { entries, newFile, fill }, how = {}) {
+export async function replaceFile({ calls, pool }, opened, { entries, newFile, fill }, how = {}) {
     const { names, ...file } = await fileOfTrack(opened, entries);
     const { path, size, extents } = file;
     const { part: image } = opened;
@@ -173,26 +174,9 @@ export async function replaceFile({ calls, crew }, opened, { entries, newFile, f
         const old = sliceOf(image.reader, first * SECTOR_SIZE, (first + count) * SECTOR_SIZE);
         const readers = [old, sliceOf(filled, before, before + count * USER_SIZE)];
         const shared = { ...how, base: extent.block, units: [SECTOR_SIZE, USER_SIZE] };
-        await crew.share('replace', readers, { end: extent.block * USER_SIZE + lengths[i] }, shared, lines => parts.push(lines));
+        await pool.share('replace', readers, { end: extent.block * USER_SIZE + lengths[i] }, shared, lines => parts.push(lines));
         before += lengths[i];
     }
     const script = parts.left.length > 0 ? null : scriptForBase(parts.script(calls), opened.image.base);
     return { script, left: parts.left, file, sharing };
-}
-
-/**
- * A reader of a file that is padded to a size with one byte.
- * @param {Reader} reader
- * @param {number} size
- * @param {number} [fill]
- * @returns {Reader}
- */
-function filledReader(reader, size, fill = 0) {
-    return {
-        size,
-        async read(at, length) {
-            if (at < reader.size) return reader.read(at, Math.min(length, reader.size - at));
-            return new Uint8Array(Math.min(length, size - at)).fill(fill);
-        },
-    };
 }

@@ -1,45 +1,45 @@
 // Exports the texts of a track as a table or a PO file for translators, and imports their lists with new texts.
 
 import { Fault } from '../faults.js';
-import { NO_BLOCK, PoFile, allTexts, codesLeftOut, controlsTyped, haveSameText, rowText, stretchesOf } from '../texts/index.js';
+import { ScriptParts } from '../script/index.js';
+import { NO_BLOCK, PoFile, allTexts, haveSameText, rowText, stretchesOf } from '../texts/index.js';
 import { letOthersIn } from '../turns.js';
-import { encodingsOfRows, replaceList, roomOfRow } from './list.js';
+import { fittedLists, fittedRows } from './fitted_lists.js';
+import { placeInImage, roomOfRow } from './rows_in_image.js';
 import { rowsOfLists } from './list_rows.js';
+import { replaceBytes } from './replace_bytes.js';
 import { fittingScript } from './script_for.js';
 
 /** @typedef {import('../disc/disc.js').DiscFile} DiscFile */
-/** @typedef {import('../encodings/encoding.js').Encoding} Encoding */
 /** @typedef {import('../encodings/encoding.js').Filler} Filler */
 /** @typedef {import('../script/script_writer.js').Script} Script */
 /** @typedef {import('../texts/all_texts.js').ListedText} ListedText */
 /** @typedef {import('../texts/all_texts.js').Stretch} Stretch */
-/** @typedef {import('../texts/codes.js').LeftCode} LeftCode */
 /** @typedef {import('../texts/range.js').TextOptions} TextOptions */
 /** @typedef {import('./engine.js').Engine} Engine */
 /** @typedef {import('./engine.js').Watch} Watch */
-/** @typedef {import('./list.js').LeftRow} LeftRow */
+/** @typedef {import('./fitted_lists.js').LeftRow} LeftRow */
+/** @typedef {import('./fitted_lists.js').RowEncodings} RowEncodings */
 /** @typedef {import('./list_rows.js').ListRow} ListRow */
-/** @typedef {import('./list_rows.js').ReadLists} ReadLists */
 /** @typedef {import('./opened.js').OpenedTrack} OpenedTrack */
 /**
  * What is exported: the texts of files or directories (`paths`), or all of them; as a table with tabs, a table with commas and a byte order
- * mark, for spreadsheets, or a PO file; with at least a number of characters; and with the new text that `freshOf` finds, or ''.
- * @typedef {TextOptions & { paths?: string[], form?: 'tsv' | 'csv' | 'po', least?: number, freshOf?: FreshOf }} ExportOptions
+ * mark, for spreadsheets, or a PO file; with at least a number of characters; and with the new text that `freshOf` finds, or ''. `ended` is
+ * called as by allTexts.
+ * @typedef {TextOptions & { paths?: string[], form?: 'tsv' | 'csv' | 'po', least?: number, freshOf?: FreshOf,
+ *     ended?: (path: string, end: number) => void }} ExportOptions
  */
 /** @typedef {(listed: ListedText) => string | Promise<string>} FreshOf */
+/** @typedef {RowEncodings & { fill?: Filler }} RowOptions */
 /**
- * The encodings that texts of rows may have, which replace the names in rows if they were requested (`isAsked`); the filler; and whether a
- * script is created from the rows that fit if others do not.
- * @typedef {{ encodings: Encoding[], isAsked: boolean, fill?: Filler, partial: boolean }} RowOptions
- * The files with the lists, and which rows without a new text are read too.
- * @typedef {RowOptions & { lists: DiscFile[], isAlso?: (row: ListRow) => boolean }} ImportOptions
+ * The files with the lists, which rows without a new text are read too, and whether a script is created from the rows that fit if others
+ * do not.
+ * @typedef {RowOptions & { lists: DiscFile[], isAlso?: (row: ListRow) => boolean, partial: boolean }} ImportOptions
  */
 /**
- * The number of new texts; the finished script, null if no row fits or some do not and all are needed; the script that writes the old texts
- * of the rows without a new one; the rows that do not fit; the codes that new texts leave out; the number of fuzzy entries; and the
- * characters that only new texts have.
- * @typedef {{ count: number, script: Script | null, old: Script, left: LeftRow[], codes: LeftCode[], fuzzy: ReadLists['fuzzy'],
- *     glyphs: ReadLists['glyphs'] }} ImportedTable
+ * The finished script, null if no row fits or some do not and all are needed; and the script that writes the old texts of the rows without
+ * a new one.
+ * @typedef {import('./fitted_lists.js').FittedLists & { script: Script | null, old: Script }} ImportedTable
  */
 
 const COLUMN_NAMES = ['block', 'offset', 'bytes', 'room', 'encoding', 'file', 'text', 'new'];
@@ -62,7 +62,7 @@ function stretchesIn(stretches, paths) {
 }
 
 /** The new texts of lists, by the places and texts to which they belong. */
-export class NewTexts {
+class NewTexts {
     /** @param {ListRow[]} rows of which those that cannot be read as they were meant are not used */
     constructor(rows) {
         /** @type {Map<string, ListRow>} */
@@ -100,16 +100,16 @@ export async function newTextsOf(lists, watch = {}) {
 
 /**
  * Exports the texts of a track, in pieces, each with its number of texts. Throws a Fault, `no-file` or `cancelled`.
- * @param {Pick<Engine, 'crew'>} engine
+ * @param {Pick<Engine, 'pool'>} engine
  * @param {Pick<OpenedTrack, 'contents'>} opened
  * @param {ExportOptions} exported
  * @param {Watch} [watch]
  * @returns {AsyncGenerator<{ text: string, count: number }>}
  */
-export async function* exportTable({ crew }, opened, exported, watch) {
-    const { paths = [], form = 'tsv', least, freshOf, ...options } = exported;
+export async function* exportTable({ pool }, opened, exported, watch) {
+    const { paths = [], form = 'tsv', least, freshOf, ended, ...options } = exported;
     const { part, files } = await opened.contents();
-    const texts = allTexts(crew, part, stretchesIn(stretchesOf(part, files), paths), { options, least, ...watch });
+    const texts = allTexts(pool, part, stretchesIn(stretchesOf(part, files), paths), { options, least, ended, ...watch });
     yield* exportedPieces(texts, { form, freshOf, signal: watch && watch.signal });
 }
 
@@ -170,6 +170,20 @@ async function* poPieces(texts, freshOf, signal) {
 }
 
 /**
+ * A track as the place of rows, and the lines that write those that fit.
+ * @param {Pick<Engine, 'calls'>} engine
+ * @param {OpenedTrack} opened
+ * @param {Filler} [fill]
+ */
+async function linesInTrack({ calls }, opened, fill) {
+    const { image, part } = await opened.contents();
+    const parts = new ScriptParts();
+    const place = placeInImage(part, fill, async (row, window, old, fresh) =>
+        parts.push(await replaceBytes(calls, window, row, old, fresh, true)));
+    return { place, parts, script: () => fittingScript(calls, image, parts) };
+}
+
+/**
  * Creates the script of lists with new texts, which fits the image. Throws a Fault if the lists have no row with a new text or cannot be
  * read, or `cancelled`.
  * @param {Pick<Engine, 'calls'>} engine
@@ -178,42 +192,35 @@ async function* poPieces(texts, freshOf, signal) {
  * @param {Watch} [watch] receives the number of rows
  * @returns {Promise<ImportedTable>}
  */
-export async function importTable(engine, opened, { lists, isAlso, ...options }, watch = {}) {
-    await opened.contents();
-    const { rows, fuzzy, glyphs } = await rowsOfLists(lists, isAlso, watch.signal);
-    const { typed, ...made } = await importRows(engine, opened, rows, options, watch);
-    return { ...made, fuzzy, glyphs: [...glyphs, ...typed] };
+export async function importTable(engine, opened, { lists, fill, partial, ...options }, watch = {}) {
+    const [made, old] = [await linesInTrack(engine, opened, fill), await linesInTrack(engine, opened)];
+    const fitted = await fittedLists(lists, made.place, options, watch);
+    await fittedRows(fitted.others.map(row => ({ ...row, fresh: row.text })), old.place, options, { signal: watch.signal });
+    const script = partial || fitted.left.length === 0 ? await made.script() : null;
+    return { ...fitted, script, old: old.parts.script(engine.calls) };
 }
 
 /**
- * Creates the script of rows with new texts, as importTable does with those of lists.
+ * Creates the script of rows with new texts that fits the image, null if no row fits; and the rows that do not fit.
  * @param {Pick<Engine, 'calls'>} engine
  * @param {OpenedTrack} opened
  * @param {ListRow[]} rows
  * @param {RowOptions} options
- * @param {Watch} [watch] receives the number of rows
  */
-export async function importRows({ calls }, opened, rows, { encodings, isAsked, fill = null, partial }, watch = {}) {
-    const { signal } = watch;
-    const { image, part } = await opened.contents();
-    const encodingsFor = encodingsOfRows(encodings, isAsked);
-    const fresh = rows.filter(row => row.fresh !== '');
-    const { parts, left } = await replaceList(calls, part, fresh, encodingsFor, fill, watch);
-    const script = partial || left.length === 0 ? await fittingScript(calls, image, parts) : null;
-    const withoutNew = rows.flatMap(row => row.fresh === '' ? { ...row, fresh: row.text } : []);
-    const old = (await replaceList(calls, part, withoutNew, encodingsFor, null, { signal })).parts.script(calls);
-    const [codes, typed] = [await codesLeftOut(fresh, encodingsFor, signal), await controlsTyped(fresh, encodingsFor, signal)];
-    return { count: fresh.length, script, old, left, codes, typed };
+export async function importRows(engine, opened, rows, { fill, ...options }) {
+    const { place, script } = await linesInTrack(engine, opened, fill);
+    const { left } = await fittedRows(rows, place, options);
+    return { script: await script(), left };
 }
 
 /**
  * The room for the new text of a row in a track, as roomOfRow returns it.
  * @param {Pick<OpenedTrack, 'contents'>} opened
  * @param {ListRow} row
- * @param {Pick<RowOptions, 'encodings' | 'isAsked'>} options
+ * @param {RowEncodings} options
  */
-export async function roomInTrack(opened, row, { encodings, isAsked }) {
-    return roomOfRow((await opened.contents()).part, row, encodingsOfRows(encodings, isAsked));
+export async function roomInTrack(opened, row, options) {
+    return roomOfRow((await opened.contents()).part, row, options);
 }
 
 /** The columns of a table of rows that do not fit. Imports ignore the last one. */

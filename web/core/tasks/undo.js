@@ -3,7 +3,7 @@
 import { ByteList, readBytes } from '../bytes.js';
 import { cancelled } from '../faults.js';
 import { RESULT, SECTOR_SIZE } from '../module/index.js';
-import { readerForTwo } from '../read_ahead.js';
+import { readerForTwo } from '../readers/index.js';
 import { ScriptParts, scriptForBase } from '../script/index.js';
 import { differingSectors, sectorOf } from '../sectors/index.js';
 import { applyScript } from './apply.js';
@@ -12,7 +12,7 @@ import { watchedSectors } from './watched.js';
 
 /** @typedef {import('../bytes.js').Piece} Piece */
 /** @typedef {import('../bytes.js').Reader} Reader */
-/** @typedef {import('../crew/crew.js').Crew} Crew */
+/** @typedef {import('../pool/pool.js').Pool} Pool */
 /** @typedef {import('../script/sector_lines.js').Left} Left */
 /** @typedef {import('../script/sector_lines.js').Lines} Lines */
 /** @typedef {import('../script/script_writer.js').Script} Script */
@@ -70,7 +70,9 @@ class TakenBack {
 
     async compare() {
         const lines = this.given([this.patched.bytes().slice(), this.before.bytes().slice()], this.blocks);
-        [this.blocks, this.patched.size, this.before.size] = [[], 0, 0];
+        this.blocks = [];
+        this.patched.size = 0;
+        this.before.size = 0;
         lines.catch(() => {}); // the failure is thrown when these lines are awaited
         this.coming.push(lines);
         if (this.coming.length >= AT_ONCE) this.parts.push(await /** @type {typeof lines} */ (this.coming.shift()));
@@ -87,18 +89,19 @@ class TakenBack {
 /**
  * Builds the script that restores the image of the track after another script was applied to it. Throws what the reader throws, and a
  * Fault: `script/refused`, `script/other-base`, or `cancelled`.
- * @param {Pick<Engine, 'calls'> & { crew: Pick<Crew, 'given'> }} engine
+ * @param {Pick<Engine, 'calls'> & { pool: Pick<Pool, 'given'> }} engine
  * @param {Pick<OpenedTrack, 'image'>} opened before the script is applied
  * @param {Pieces} script
  * @param {{ carry?: boolean, long?: boolean }} [options] how the script is applied
  * @param {Watch} [watch]
  * @returns {Promise<Undo | NoUndo>}
  */
-export async function undoScript({ calls, crew }, { image }, script, options = {}, watch = {}) {
-    const [{ base }, { carry = false, long = false }] = [image, options];
+export async function undoScript({ calls, pool }, { image }, script, options = {}, watch = {}) {
+    const { base } = image;
+    const { carry = false, long = false } = options;
     const read = await validScript(calls, script, long);
     const both = readerForTwo(watchedSectors(image.reader, watch));
-    const back = new TakenBack(both, base, (pieces, blocks) => crew.given('lines', pieces, { blocks, how: { carry, heal: true } }));
+    const back = new TakenBack(both, base, (pieces, blocks) => pool.given('lines', pieces, { blocks, how: { carry, heal: true } }));
     const take = (/** @type {Piece} */ piece) => back.take(piece);
     const { outcomes } = await applyScript({ calls }, { reader: both, base }, read, { carry, mostBetween: 0, take });
     const parts = await back.end();

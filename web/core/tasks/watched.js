@@ -1,8 +1,8 @@
 // A reader that reports its progress and can be cancelled.
 
-import { watchedReader } from '../bytes.js';
 import { cancelled } from '../faults.js';
 import { SECTOR_SIZE, sectorCount } from '../module/index.js';
+import { watchedReader } from '../readers/index.js';
 
 /** @typedef {import('../bytes.js').Reader} Reader */
 /** @typedef {import('./engine.js').Watch} Watch */

@@ -80,32 +80,50 @@ function spelledAlike(encoding, character, loose) {
  * @param {string} text
  * @param {boolean} [loose]
  */
-export function unitsAlike(encoding, text, loose = false) {
+export function unitsAlike(encoding, text, loose) {
+    return [...partsAlike(encoding, text, loose)];
+}
+
+/**
+ * Yields what unitsAlike returns. For a long text, other work can get turns in between.
+ * @param {Encoding} encoding
+ * @param {string} text
+ * @param {boolean} [loose]
+ * @returns {Generator<Uint8Array[]>}
+ */
+export function* partsAlike(encoding, text, loose = false) {
     const wide = loose ? text.replace(HALF_WIDTH_KANA, it => it.normalize('NFKC')) : text;
     const whole = wide.replace(COMPOSING, it => it.normalize('NFC'));
-    /** @type {Uint8Array[][]} */
-    const units = [];
-    let [from, at] = [0, 0];
-    const pushPlain = () => {
-        try {
-            for (const unit of encoding.units(whole.slice(from, at))) units.push(unit);
-        } catch (error) {
-            throw failedBy(error, 'text/no-character') ? lacks(encoding.name, whole, from + error.facts.at) : error;
-        }
-    };
     const found = spellingsAsked.get(encoding) || [new Map(), new Map()];
     spellingsAsked.set(encoding, found);
     const alike = found[Number(loose)];
+    let [from, at] = [0, 0];
     for (const character of whole) {
         const spellings = alike.get(character) || spelledAlike(encoding, character, loose);
         alike.set(character, spellings);
         if (spellings.length > 0) {
-            pushPlain();
-            units.push(spellings);
+            yield* plainParts(encoding, whole, from, at);
+            yield spellings;
             from = at + character.length;
         }
         at += character.length;
     }
-    pushPlain();
-    return units;
+    yield* plainParts(encoding, whole, from, at);
+}
+
+/**
+ * The parts of a stretch of a text. A Fault counts the place of a character from the beginning of the text.
+ * @param {Encoding} encoding
+ * @param {string} whole
+ * @param {number} from
+ * @param {number} to
+ * @returns {Generator<Uint8Array[]>}
+ */
+function* plainParts(encoding, whole, from, to) {
+    const stretch = whole.slice(from, to);
+    try {
+        yield* encoding.parts ? encoding.parts(stretch) : encoding.units(stretch);
+    } catch (error) {
+        throw failedBy(error, 'text/no-character') ? lacks(encoding.name, whole, from + error.facts.at) : error;
+    }
 }

@@ -1,8 +1,9 @@
 // All texts of a track.
 
-import { sliceOf } from '../bytes.js';
 import { cancelled } from '../faults.js';
+import { hexText } from '../hex_digits.js';
 import { SECTOR_SIZE, USER_SIZE } from '../module/index.js';
+import { sliceOf } from '../readers/index.js';
 import { bytesBefore } from './context.js';
 import { BEYOND, keptOf } from './overlap.js';
 import { visible } from './visible.js';
@@ -10,7 +11,7 @@ import { visible } from './visible.js';
 /** @typedef {import('../disc/disc.js').OrderedImage} OrderedImage */
 /** @typedef {import('../sectors/sector.js').Place} Place */
 /** @typedef {import('../iso/files.js').FileEntry} FileEntry */
-/** @typedef {import('../crew/crew.js').Sharer} Sharer */
+/** @typedef {import('../pool/pool.js').Sharer} Sharer */
 /** @typedef {import('./range.js').TextOptions} TextOptions */
 /** @typedef {import('./range.js').FoundText} FoundText */
 /**
@@ -19,10 +20,11 @@ import { visible } from './visible.js';
  * @typedef {{ path: string, before: number, first: number, size: number }} Stretch
  */
 /**
- * Options of `allTexts`: `options` is the encoding, and whether each line is a separate text; `least` is the fewest characters of a text.
- * `signal` ends the job; `progress` is called with numbers of sectors.
+ * Options of `allTexts`: `options` is the encoding, whether each line is a separate text, and the byte that ends texts; `least` is the
+ * fewest characters of a text. `signal` ends the job; `progress` is called with numbers of sectors, and `ended` with the path of a file, or
+ * '', and the byte that was found to end its texts.
  * @typedef {{ options: TextOptions, least?: number, signal?: { aborted: boolean },
- *     progress?: (done: number, all: number) => void }} TextsHow
+ *     progress?: (done: number, all: number) => void, ended?: (path: string, end: number) => void }} TextsHow
  */
 /**
  * A text of a disc, or of a plain file: its place, how many bytes it has, and how many its room, the name of its encoding, its file with
@@ -37,6 +39,12 @@ export const NO_BLOCK = '-';
 /** The fewest characters of a row. A row for one line may have a single one. */
 const LEAST_CHARACTERS = 2;
 const LEAST_OF_LINES = 1;
+
+/**
+ * A byte that follows at least ENDED texts, and more than half of all in a file, ends its texts. Texts with a control code between them may
+ * have been joined: then each of these codes counts too.
+ */
+const ENDED = 6;
 
 /** How many stretches are searched at the same time. */
 const STRETCHES_AT_ONCE = 64;
@@ -76,20 +84,61 @@ export function stretchesOf(part, files) {
 }
 
 /**
+ * How many texts are followed by each byte.
+ * @param {FoundText[]} texts
+ */
+function countsAfter(texts) {
+    const counts = new Uint32Array(256);
+    for (const { after } of texts) if (after >= 0) counts[after] += 1;
+    return counts;
+}
+
+/**
+ * The byte that ends most texts of a file, if it is not 00; or undefined.
+ * @param {FoundText[]} texts
+ */
+function usualEnd(texts) {
+    const counts = countsAfter(texts);
+    const end = counts.indexOf(Math.max(...counts));
+    if (end === 0 || 2 * counts[end] <= texts.length) return undefined;
+    const code = `{${hexText(Uint8Array.of(end))}}`;
+    const codes = texts.reduce((count, { text }) => count + text.split(code).length - 1, 0);
+    return counts[end] + codes >= ENDED ? end : undefined;
+}
+
+/**
+ * The texts of a stretch. If a byte other than 00 ends most of them, they are recognised again by it.
+ * @param {Sharer} pool
+ * @param {OrderedImage} part
+ * @param {Stretch} stretch
+ * @param {Pick<TextsHow, 'options' | 'signal' | 'ended'>} how
+ * @param {import('../pool/pool.js').Sharing} watch
+ */
+async function textsOf(pool, part, stretch, { options, signal, ended }, watch) {
+    const texts = await recognisedIn(pool, part, stretch, options, watch);
+    const end = options.end === undefined ? usualEnd(texts) : undefined;
+    if (end === undefined) return texts;
+    const others = await recognisedIn(pool, part, stretch, { ...options, end }, { signal });
+    if (countsAfter(others)[end] < countsAfter(texts)[end]) return texts;
+    if (ended) ended(stretch.path, end);
+    return others;
+}
+
+/**
  * The texts of a stretch.
- * @param {Sharer} crew
+ * @param {Sharer} pool
  * @param {OrderedImage} part
  * @param {Stretch} stretch
  * @param {TextOptions} options
- * @param {import('../crew/crew.js').Sharing} watch
+ * @param {import('../pool/pool.js').Sharing} watch
  */
-async function textsOf(crew, { reader, order }, stretch, options, watch) {
+async function recognisedIn(pool, { reader, order }, stretch, options, watch) {
     /** @type {FoundText[][]} one list for each range */
     const found = [];
     const { first, size } = stretch;
     const sectors = sliceOf(order ? order.reader : reader, first * SECTOR_SIZE, (first + sectorsOf(stretch)) * SECTOR_SIZE);
     const take = (/** @type {FoundText[]} */ texts) => void found.push(texts);
-    await crew.share('texts', [sectors], { ...options, size }, { ...watch, beyond: BEYOND }, take);
+    await pool.share('texts', [sectors], { ...options, size }, { ...watch, beyond: BEYOND }, take);
     return keptOf(found.flat());
 }
 
@@ -119,13 +168,13 @@ export function shownPlace({ fileSize }, { block, offset }) {
 
 /**
  * Yields the texts of some stretches, in their order.
- * @param {Sharer} crew
+ * @param {Sharer} pool
  * @param {OrderedImage} part whose `order` is that of its files
  * @param {Stretch[]} stretches
  * @param {TextsHow} how
  * @returns {AsyncGenerator<ListedText[]>}
  */
-export async function* allTexts(crew, part, stretches, how) {
+export async function* allTexts(pool, part, stretches, how) {
     const { options, least = options.lines ? LEAST_OF_LINES : LEAST_CHARACTERS, signal, progress } = how;
     const all = stretches.reduce((sum, stretch) => sum + sectorsOf(stretch), 0);
     // A character has at most two UTF-16 units.
@@ -134,14 +183,15 @@ export async function* allTexts(crew, part, stretches, how) {
     const watchOne = () => {
         let own = 0;
         return { signal, progress: (/** @type {number} */ sectors) => {
-            [done, own] = [done + sectors - own, sectors];
+            done += sectors - own;
+            own = sectors;
             if (progress) progress(done, all);
         } };
     };
     for (let i = 0; i < stretches.length; i += STRETCHES_AT_ONCE) {
         if (signal && signal.aborted) throw cancelled();
         const some = stretches.slice(i, i + STRETCHES_AT_ONCE);
-        const found = await Promise.all(some.map(stretch => textsOf(crew, part, stretch, options, watchOne())));
+        const found = await Promise.all(some.map(stretch => textsOf(pool, part, stretch, how, watchOne())));
         yield found.flatMap((texts, k) => texts.filter(isLong).map(it => listedText(part, some[k], it)));
     }
 }

@@ -1,7 +1,6 @@
 // Finds the best way to read the bytes around a place as characters of one encoding.
 
-import { AFTER_KINDS } from './frequencies.js';
-import { ASCII, BAD, CONTROL, KANJI, codeAt } from './scores.js';
+import { BAD, KANJI, codeAt } from './scores.js';
 
 /** @typedef {import('./scores.js').Scores} Scores */
 
@@ -15,9 +14,6 @@ const FALL = 56;
 /** The score of a UTF-16 character that begins with 00 after a 00: the two bytes end a text in the other byte order. */
 const ZEROS = -FALL - 4;
 
-/** The bonus of a control code after another one: in many games two of them begin a new line, and do not end a text. */
-const SECOND_CONTROL = 20;
-
 /** Only this many kanji in a row count, and a character that repeats one of the last LAST_ONES does not. */
 const KANJI_IN_A_ROW = 6;
 const LAST_ONES = 3;
@@ -28,14 +24,9 @@ const MUTE = -2;
 /** The most bytes of a character. */
 const LONGEST = 3;
 
-const KINDS = AFTER_KINDS.length;
-
 /** Finds one path after the other, in the same arrays. */
 export class PathFinder {
     constructor() {
-        this.order = Int8Array.from(AFTER_KINDS.flat());
-        this.order[CONTROL * KINDS + CONTROL] = SECOND_CONTROL;
-        this.order[CONTROL * KINDS + ASCII] = 0;
         // For each place after the first one, the best path that ends there: its score, its start, the kind of its last character, and how
         // many kanji in a row it ends with.
         this.score = new Int32Array(MOST + LONGEST);
@@ -52,31 +43,32 @@ export class PathFinder {
      * @param {number} place
      */
     find(scores, bytes, low, place) {
-        const { score, start, kind, order } = this;
-        const { one, oneKind, pairKind, size } = scores;
+        const { score, start, kind } = this;
+        const { one, oneKind, pairKind, size, after } = scores;
         const origin = Math.max(low, place - BACK);
         const last = Math.min(bytes.length, origin + MOST) - origin;
-        let [from, to, most] = [0, 0, 0];
         for (let k = 0; k < LONGEST; k++) this.put(k, k, 0, 0, 0);
+        let best = 0;
         for (let k = 0; k < last; k++) {
             const at = origin + k;
             this.put(k + LONGEST, k + LONGEST, 0, 0, 0);
-            if (at > place + LONGEST && this.isOver(k, Math.max(most - FALL, 0))) break;
+            if (at > place + LONGEST && this.isOver(k, Math.max(score[best] - FALL, 0))) break;
             const byte = bytes[at];
-            const oneSum = one[byte] === BAD ? 0 : score[k] + one[byte] + order[kind[k] * KINDS + oneKind[byte]];
+            const oneSum = one[byte] === BAD ? 0 : score[k] + one[byte] + after[kind[k]][oneKind[byte]];
             if (oneSum > score[k + 1]) {
                 this.put(k + 1, start[k], oneSum, oneKind[byte], 0);
-                if (oneSum > most && at >= place) [from, to, most] = [start[k], k + 1, oneSum];
+                if (oneSum > score[best] && at >= place) best = k + 1;
             }
             const code = codeAt(scores, bytes, at, bytes.length);
             if (code === 0) continue;
-            const row = pairKind[code] !== KANJI ? 0 : score[k] > 0 ? this.row[k] + 1 : 1;
+            const before = score[k] > 0 ? this.row[k] : 0;
+            const row = pairKind[code] === KANJI ? before + 1 : 0;
             const sum = score[k] + this.added(scores, bytes, at, k, code, row);
             if (sum <= score[k + size]) continue;
             this.put(k + size, start[k], sum, pairKind[code], row);
-            if (sum > most && at >= place) [from, to, most] = [start[k], k + size, sum];
+            if (sum > score[best] && at >= place) best = k + size;
         }
-        return { start: origin + from, end: origin + to, score: most };
+        return { start: origin + start[best], end: origin + best, score: score[best] };
     }
 
     /**
@@ -111,12 +103,13 @@ export class PathFinder {
      * @param {number} code
      * @param {number} row the number of kanji in a row, with this one; 0 for other characters
      */
-    added({ size, wide, pair, pairKind }, bytes, at, k, code, row) {
+    added({ size, wide, pair, pairKind, after }, bytes, at, k, code, row) {
         const isEnd = wide && bytes[at] === 0 && at > 0 && bytes[at - 1] === 0;
         const score = isEnd ? ZEROS : pair[code];
         const seen = Math.max(at - k + this.start[k], at - LAST_ONES * size);
-        const counted = score <= 0 ? score : row > KANJI_IN_A_ROW ? MUTE : stoodBefore(bytes, at, size, seen) ? 0 : score;
-        return counted === 0 || counted === MUTE ? counted : counted + this.order[this.kind[k] * KINDS + pairKind[code]];
+        if (score > 0 && row > KANJI_IN_A_ROW) return MUTE;
+        const counted = score > 0 && stoodBefore(bytes, at, size, seen) ? 0 : score;
+        return counted === 0 || counted === MUTE ? counted : counted + after[this.kind[k]][pairKind[code]];
     }
 }
 

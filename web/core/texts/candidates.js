@@ -9,9 +9,9 @@ import { SURE } from './overlap.js';
 /**
  * A text from `start` to `end`, whose characters from `from` to `to` are scored: its score in bits, its encoding, on how many sides it has
  * a 00, whether it is accepted only because of its neighbours, and its characters, '' if they are not decoded yet. `limit` is where its
- * room ends at the latest, if it is in a table.
+ * room ends at the latest, if it has a length or is in a table; `isField` is whether it is in a field of fixed width.
  * @typedef {{ start: number, end: number, from: number, to: number, score: number, scores: Scores, zeros: number, isBeside: boolean,
- *     text: string, limit?: number }} Candidate
+ *     text: string, limit?: number, isField?: boolean }} Candidate
  */
 /** @typedef {{ covered: number, end: number }} Known how far an encoding has been searched, and where its last text ended */
 
@@ -26,11 +26,13 @@ export const MOST_EXTENSION = 40;
 const ZERO = 6;
 
 /**
- * The least average difference of neighbouring bytes in a text, unlike in a picture; the least share of distinct characters in a text; and
- * how many of its characters are compared, at most and at least.
+ * The least average difference of neighbouring bytes in a text, unlike in a picture, also in a character set of one byte; the least share
+ * of distinct characters in a text, and in one of an alphabet; and how many of its characters are compared, at most and at least.
  */
 const SMOOTH = 14;
+const SMOOTH_SINGLE = 6;
 const DISTINCT = 0.55;
+const DISTINCT_LETTERS = 0.3;
 const MOST_COMPARED = 24;
 const LEAST_COMPARED = 5;
 
@@ -114,7 +116,7 @@ export class CandidateFinder {
      * @returns {Candidate | null}
      */
     candidateAt(scores, bytes, at, known) {
-        const { size, wide, own, least } = scores;
+        const { size, wide, own, least, encoding: { isSingle } } = scores;
         const last = bytes[at - 1] << 8 | bytes[at];
         const first = bytes[at - 3] << 8 | bytes[at - 2];
         // The same character twice counts once.
@@ -123,10 +125,10 @@ export class CandidateFinder {
         const { start, end, score } = this.paths.find(scores, bytes, Math.min(known.end, place), place);
         known.covered = Math.max(end, at + 1);
         if (score / 4 + 2 * ZERO < SURE - LESS) return null;
-        const isSmooth = size < 3 && !own && isPicture(bytes, start, end);
+        const isSmooth = size < 3 && !own && isPicture(bytes, start, end, SMOOTH);
         // UTF-8 needs no check of its characters: few other bytes can be read as UTF-8.
         const text = size === 3 || isSmooth ? '' : scores.encoding.text(bytes.subarray(start, end));
-        if (isSmooth || isRepeated(text)) {
+        if (isSmooth || isRepeated(text, isSingle ? DISTINCT_LETTERS : DISTINCT)) {
             // A text may follow a picture.
             known.covered = Math.min(known.covered, at + MOST_EXTENSION);
             return null;
@@ -138,7 +140,8 @@ export class CandidateFinder {
         const before = reached.start === 0 || isZero(scores, bytes, reached.start - (wide ? 2 : 1));
         const zeros = Number(before) + Number(isZero(scores, bytes, reached.end));
         const bits = score / 4 + ZERO * zeros - (wide && reached.start % 2 === 1 ? ODD : 0);
-        const isText = bits >= SURE - LESS && (zeros === 2 || own || !goesOneWay(text));
+        const isOther = zeros < 2 && (own ? isSingle && isPicture(bytes, start, end, SMOOTH_SINGLE) : goesOneWay(text));
+        const isText = bits >= SURE - LESS && !isOther;
         if (!isText) return null;
         return { start: reached.start, end: reached.end, from: start, to: end, score: bits, scores, zeros, isBeside: false, text: whole };
     }
@@ -150,8 +153,8 @@ export class CandidateFinder {
  * @param {Uint8Array} bytes
  * @param {number} at
  */
-export function isZero({ wide, encoding: { end = 0 } }, bytes, at) {
-    return at >= bytes.length || (at >= 0 && bytes[at] === end && (!wide || bytes[at + 1] === 0));
+export function isZero({ wide, end }, bytes, at) {
+    return at >= bytes.length || (at >= 0 && bytes[at] === end[0] && (!wide || bytes[at + 1] === end[1]));
 }
 
 /**
@@ -159,19 +162,24 @@ export function isZero({ wide, encoding: { end = 0 } }, bytes, at) {
  * @param {Uint8Array} bytes
  * @param {number} start
  * @param {number} end
+ * @param {number} least the least average difference in a text
  */
-function isPicture(bytes, start, end) {
+function isPicture(bytes, start, end, least) {
     let steps = 0;
     for (let at = start + 1; at < end; at++) steps += Math.abs(bytes[at] - bytes[at - 1]);
-    return steps < SMOOTH * (end - start - 1);
+    return steps < least * (end - start - 1);
 }
 
-/** @param {string} text whether it repeats few characters. Counting them with a set would take three times as long. */
-function isRepeated(text) {
+/**
+ * Whether a text repeats few characters. Counting them with a set would take three times as long.
+ * @param {string} text
+ * @param {number} least the least share of distinct ones
+ */
+function isRepeated(text, least) {
     const compared = text.slice(0, MOST_COMPARED);
     let different = 0;
     for (let at = 0; at < compared.length; at++) different += Number(compared.indexOf(compared[at]) === at);
-    return compared.length >= LEAST_COMPARED && different < DISTINCT * compared.length;
+    return compared.length >= LEAST_COMPARED && different < least * compared.length;
 }
 
 /** @param {string} text whether its characters ascend in Unicode, or descend, as in a character table */
@@ -210,12 +218,12 @@ function extended(scores, bytes, start, end, low) {
  * @param {number} limit
  */
 export function readTo(scores, bytes, from, limit) {
-    const { wide, size, one, oneKind, pair } = scores;
+    const { wide, size, own, one, oneKind, pair } = scores;
     const isHalf = (/** @type {number} */ at) => at >= from && at < limit && oneKind[bytes[at]] === HALF_WIDTH;
     for (let at = from; ; ) {
         const code = codeAt(scores, bytes, at, limit);
         const isOne = at < limit && !wide && one[bytes[at]] !== BAD &&
-            (bytes[at] < 0x80 || oneKind[bytes[at]] < ASCII || (isHalf(at) && (isHalf(at - 1) || isHalf(at + 1))));
+            (bytes[at] < 0x80 || own || oneKind[bytes[at]] < ASCII || (isHalf(at) && (isHalf(at - 1) || isHalf(at + 1))));
         if (code > 0 && pair[code] > RAREST) at += size;
         else if (isOne) at += 1;
         else return at;

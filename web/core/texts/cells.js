@@ -95,7 +95,7 @@ export class Table {
      */
     *rows() {
         const { text, mark } = this;
-        for (let [at, number] = [0, 1]; at < text.length; number++) {
+        for (let at = 0, number = 1; at < text.length; number++) {
             /** @type {TableRow} */
             const row = { number, cells: [], isQuoted: true, overrun: 0 };
             let size = this.lineEndAt(at);

@@ -3,15 +3,18 @@
 import { usualBytes } from '../encodings/index.js';
 import { Fault, failedBy } from '../faults.js';
 import { bytesOfHex, hexText } from '../hex_digits.js';
-import { isTurnDue, letOthersIn } from '../turns.js';
-import { unitsAlike } from './alike.js';
+import { collectedInTurns, isTurnDue, letOthersIn } from '../turns.js';
+import { partsAlike } from './alike.js';
 import { charactersFrom } from './boundaries.js';
+import { keptForRow } from './kept_texts.js';
 
 /** @typedef {import('../encodings/encoding.js').Encoding} Encoding */
-/** @typedef {import('./glyphs.js').Glyph} Glyph */
+/** @typedef {import('../turns.js').Signal} Signal */
 /**
- * A row with its texts. `fill` is the code of the filler if it is a record of fixed width.
- * @typedef {import('../facts.js').RowName & { encoding: string, text: string, fresh: string, fill?: string }} CodedRow
+ * A row with its texts. `fill` is the code of the filler if it is a record of fixed width, and `kept` what was computed of its texts if
+ * other rows have the same.
+ * @typedef {import('../facts.js').RowName & { encoding: string, text: string, fresh: string, fill?: string,
+ *     kept?: import('./kept_texts.js').KeptTexts }} CodedRow
  */
 /**
  * A code that new texts leave out, as its digits; how often it is left out in all, in how many rows, and the names of the first of these.
@@ -35,8 +38,8 @@ const PLAIN = /^(?![=+@-])[\x20!\x23-\x7A|~\u3001-\u3003\u300C-\u300F\u3041-\u30
 
 const CODE = /\{((?:[0-9A-Fa-f]{2})+)\}/;
 
-/** Text that may be meant as a code. It is a code only if it has pairs of hexadecimal digits. */
-const LIKE_CODE = /\{[0-9A-Za-z]{1,16}\}/g;
+/** Text that may be meant as a code, also with spaces. It is a code only if it has pairs of hexadecimal digits. */
+const LIKE_CODE = /\{(?:[0-9A-Za-z]{1,16}|[0-9A-Fa-f]{2}(?: +[0-9A-Fa-f]{1,2}){1,15} *)\}/g;
 
 /** The error values that spreadsheets write for a formula that they cannot evaluate. */
 const FORMULA_ERROR = /^(Err:\d{3}|#(NAME\?|(REF|VALUE|DIV\/0|NUM|NULL|ERROR|SPILL|CALC|FIELD|BLOCKED|CONNECT|UNKNOWN|BUSY)!|N\/A))$/;
@@ -56,7 +59,44 @@ const FIRST_ROWS = 5;
  * @param {string} cell
  */
 export function unitsOfCell(encoding, cell) {
-    return cell.split(CODE).flatMap((part, i) => i % 2 === 1 ? [[bytesOfHex(part)]] : unitsAlike(encoding, part));
+    return [...partsOfCell(encoding, cell)];
+}
+
+/**
+ * Returns what unitsOfCell does for one of the texts of a row, computed once for all rows with the same texts. Other work gets turns.
+ * @param {CodedRow} row
+ * @param {Encoding} encoding
+ * @param {string} cell
+ * @param {Signal} [signal]
+ */
+export function unitsOfRow(row, encoding, cell, signal) {
+    return keptForRow(row, cell, `units ${encoding.name}`, () => collectedInTurns(partsOfCell(encoding, cell), signal));
+}
+
+/**
+ * The bytes of the new text of a row, computed once for all rows with the same texts. Other work gets turns in between. Throws a Fault if
+ * the text must be a mistake, or has a character that the encoding lacks.
+ * @param {CodedRow} row
+ * @param {Encoding} encoding
+ * @param {Signal} [signal]
+ */
+export function newBytesOf(row, encoding, signal) {
+    return keptForRow(row, row.fresh, `bytes ${encoding.name}`, async () => {
+        assertMeant(encoding, row.fresh);
+        return usualBytes(await unitsOfRow(row, encoding, row.fresh, signal));
+    });
+}
+
+/**
+ * @param {Encoding} encoding
+ * @param {string} cell
+ * @returns {Generator<Uint8Array[]>}
+ */
+function* partsOfCell(encoding, cell) {
+    for (const [i, part] of cell.split(CODE).entries()) {
+        if (i % 2 === 1) yield [bytesOfHex(part)];
+        else yield* partsAlike(encoding, part);
+    }
 }
 
 /**
@@ -109,53 +149,74 @@ function bytesOfSign(encoding, sign, most) {
 }
 
 /**
- * The control characters of a part of a cell that has no codes, each as a code.
+ * Yields the control characters of a part of a cell that has no codes, each as a code.
  * @param {Encoding} encoding
  * @param {string} part
  */
-function controlsOf(encoding, part) {
-    return (part.match(CONTROLS) || []).map(it => hexText(bytesOfSign(encoding, it, 1) || new Uint8Array(0)));
+function* controlsOf(encoding, part) {
+    for (const it of part.match(CONTROLS) || []) yield hexText(bytesOfSign(encoding, it, 1) || new Uint8Array(0));
 }
 
 /**
- * The codes of a cell, and its control characters, which were typed or pasted instead of codes. A code at its beginning does not count if
- * it is a character that is written as a code only there.
+ * Yields the codes of a cell, and its control characters, which were typed or pasted instead of codes. A code at its beginning does not
+ * count if it is a character that is written as a code only there.
  * @param {Encoding[]} encodings that the cell may be in; the first one decides how many bytes a code has
  * @param {string} cell
- * @returns {string[]}
+ * @returns {Generator<string>}
  */
-function codesOf(encodings, cell) {
+function* codesOf(encodings, cell) {
     const [encoding] = encodings;
-    return cell.split(CODE).flatMap((part, i, parts) => {
-        if (i % 2 === 0) return controlsOf(encoding, part);
-        const bytes = bytesOfHex(part);
-        const isFirst = i === 1 && parts[0] === '' && bytes.length <= LONGEST_SIGN;
-        if (isFirst && encodings.some(it => CODED_FIRST.test(it.text(bytes)))) return [];
-        return Array.from(charactersFrom(encoding, bytes), ({ at, size }) => hexText(bytes.subarray(at, at + size)));
+    const parts = cell.split(CODE);
+    for (const [i, part] of parts.entries()) {
+        if (i % 2 === 0) yield* controlsOf(encoding, part);
+        else {
+            const bytes = bytesOfHex(part);
+            const isFirst = i === 1 && parts[0] === '' && bytes.length <= LONGEST_SIGN;
+            if (isFirst && encodings.some(it => CODED_FIRST.test(it.text(bytes)))) continue;
+            for (const { at, size } of charactersFrom(encoding, bytes)) yield hexText(bytes.subarray(at, at + size));
+        }
+    }
+}
+
+/**
+ * How often each code occurs in one of the texts of a row.
+ * @param {Encoding[]} encodings
+ * @param {CodedRow} row
+ * @param {string} cell
+ * @param {Signal} [signal]
+ */
+function codeCounts(encodings, row, cell, signal) {
+    return keptForRow(row, cell, `codes ${encodings.map(({ name }) => name).join()}`, async () => {
+        /** @type {Map<string, number>} */
+        const counts = new Map();
+        for (const code of codesOf(encodings, cell)) {
+            counts.set(code, (counts.get(code) || 0) + 1);
+            if (isTurnDue()) await letOthersIn(signal);
+        }
+        return counts;
     });
 }
 
 /**
- * How often each code occurs in a row's old text, less how often in its new one.
+ * How often a row's new text leaves out each code of its old one.
  * @param {Encoding[]} encodings
  * @param {CodedRow} row
+ * @param {Signal} [signal]
  */
-function codesMissing(encodings, { text, fresh, fill = '' }) {
-    /** @type {Map<string, number>} */
-    const missing = new Map();
+async function codesMissing(encodings, row, signal) {
+    const { text, fresh, fill = '' } = row;
     const isEmptyRecord = fill !== '' && bytesOfCode(text) !== null;
-    if (isEmptyRecord || Math.max(text.length, fresh.length) > LONGEST_TEXT) return missing;
-    const old = codesOf(encodings, text);
-    for (const code of old) missing.set(code, (missing.get(code) || 0) + 1);
-    for (const code of old.length === 0 ? [] : codesOf(encodings, fresh)) missing.set(code, (missing.get(code) || 0) - 1);
-    return missing;
+    if (isEmptyRecord || Math.max(text.length, fresh.length) > LONGEST_TEXT) return [];
+    const old = await codeCounts(encodings, row, text, signal);
+    const left = old.size > 0 ? await codeCounts(encodings, row, fresh, signal) : old;
+    return Array.from(old, ([code, count]) => ({ code, count: count - (left.get(code) || 0) }));
 }
 
 /**
- * The codes that the new texts of rows leave out, each once, in the order of their first rows. Call it with the same rows as `replaceList`.
+ * The codes that the new texts of rows leave out, each once, in the order of their first rows.
  * @param {CodedRow[]} rows
  * @param {(name: string) => Encoding[]} encodingsFor the encodings that a row may be in, by the encoding name in the row, or ''
- * @param {import('../turns.js').Signal} [signal]
+ * @param {Signal} [signal]
  * @returns {Promise<LeftCode[]>}
  */
 export async function codesLeftOut(rows, encodingsFor, signal) {
@@ -163,7 +224,8 @@ export async function codesLeftOut(rows, encodingsFor, signal) {
     const left = new Map();
     for (const row of rows) {
         if (isTurnDue()) await letOthersIn(signal);
-        for (const [code, count] of codesMissing(encodingsFor(row.encoding), row)) {
+        if (!row.kept && !CODED.test(row.text)) continue;
+        for (const { code, count } of await codesMissing(encodingsFor(row.encoding), row, signal)) {
             if (count <= 0) continue;
             const known = left.get(code) || { code, count: 0, rows: 0, first: [] };
             left.set(code, known);
@@ -181,27 +243,27 @@ function nameOf({ list, unit, number, place }) {
 }
 
 /**
- * The control characters that were typed into new texts although no old text has their codes, such as a line feed in a PO editor. Call it
- * with the same rows as `replaceList`.
+ * The control characters that were typed into new texts although no old text has their codes, such as a line feed in a PO editor.
  * @param {CodedRow[]} rows
  * @param {(name: string) => Encoding[]} encodingsFor the encodings that a row may be in, by the encoding name in the row, or ''
- * @param {import('../turns.js').Signal} [signal]
- * @returns {Promise<Glyph[]>}
+ * @param {Signal} [signal]
  */
 export async function controlsTyped(rows, encodingsFor, signal) {
-    /** @type {Map<string, CodedRow>} the first row with each of them, by its code */
-    const typed = new Map();
+    /** @type {Set<string>} their codes */
+    const typed = new Set();
     for (const row of rows) {
         if (isTurnDue()) await letOthersIn(signal);
-        if (row.fresh.length > LONGEST_TEXT || row.fresh.search(CONTROLS) < 0) continue;
-        const codes = row.fresh.split(CODE).flatMap((part, i) => i % 2 === 0 ? controlsOf(encodingsFor(row.encoding)[0], part) : []);
-        for (const code of codes) if (!typed.has(code)) typed.set(code, row);
+        if (row.fresh.length > LONGEST_TEXT || (!row.kept && row.fresh.search(CONTROLS) < 0)) continue;
+        const [encoding] = encodingsFor(row.encoding);
+        const controls = await keptForRow(row, row.fresh, 'controls', async () => [...new Set(row.fresh.match(CONTROLS))].join(''));
+        for (const code of controlsOf(encoding, controls)) typed.add(code);
     }
     for (const row of typed.size === 0 ? [] : rows) {
         if (isTurnDue()) await letOthersIn(signal);
-        for (const code of row.text.length > LONGEST_TEXT ? [] : codesOf(encodingsFor(row.encoding), row.text)) typed.delete(code);
+        if (row.text.length > LONGEST_TEXT || (!row.kept && !CODED.test(row.text))) continue;
+        for (const code of (await codeCounts(encodingsFor(row.encoding), row, row.text, signal)).keys()) typed.delete(code);
     }
-    return Array.from(typed, ([code, row]) => ({ character: `{${code}}`, row: nameOf(row) }));
+    return Array.from(typed, code => `{${code}}`);
 }
 
 /**

@@ -144,6 +144,9 @@ export async function anyBegins(image, encoding, hits) {
     return false;
 }
 
+/** The most files that are listed for one place, because in a stranger's volume any number of files may have the same sectors. */
+const MOST_TOGETHER = 16;
+
 /** Finds the files at places in ascending order, without searching all files each time. */
 export class FilesAlong {
     /** @param {FileEntry[]} files sorted by block */
@@ -156,14 +159,17 @@ export class FilesAlong {
     }
 
     /**
-     * Returns `filesWith` of all files and a place.
+     * Returns `filesWith` of all files and a place, but not more than MOST_TOGETHER.
      * @param {Place} place
      */
     with(place) {
-        if (place.block < this.begin) [this.next, this.open] = [0, []];
+        if (place.block < this.begin) {
+            this.next = 0;
+            this.open = [];
+        }
         this.begin = place.block;
         while (this.next < this.files.length && this.files[this.next].block <= place.block) this.open.push(this.files[this.next++]);
-        this.open = this.open.filter(({ block, size }) => place.block < block + Math.ceil(size / USER_SIZE));
+        this.open = this.open.filter(({ block, size }) => place.block < block + Math.ceil(size / USER_SIZE)).slice(0, MOST_TOGETHER);
         return filesWith(this.open, place);
     }
 }

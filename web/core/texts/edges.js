@@ -1,7 +1,7 @@
 // Finds where texts begin and end exactly: by the byte that ends the texts of a file, or by the letters and marks beside their scored part.
 
 import { MOST_EXTENSION, isZero, readTo } from './candidates.js';
-import { ASCII, BAD, HALF_WIDTH } from './scores.js';
+import { ASCII, BAD, CONTROL, HALF_WIDTH } from './scores.js';
 
 /** @typedef {import('./candidates.js').Candidate} Candidate */
 /** @typedef {import('./scores.js').Scores} Scores */
@@ -19,14 +19,15 @@ const BEGINS = /[A-Za-z0-9([<"'`]/;
 const EDGE_MARKS = Array.from('.!?)"\'', mark => mark.charCodeAt(0));
 
 /**
- * For each encoding, the byte that ends the most texts without a 00, and is not part of a character; -1 if there is none.
+ * For each encoding in which 00 ends texts, the byte that ends the most texts without a 00, and is not part of a character; -1 if there is
+ * none.
  * @param {Uint8Array} bytes
  * @param {Candidate[]} texts
  */
 function endsOf(bytes, texts) {
     /** @type {Map<Scores, { all: number, after: Uint32Array }>} */
     const counts = new Map();
-    for (const { end, to, scores } of texts) {
+    for (const { end, to, scores } of texts.filter(it => it.scores.end[0] === 0)) {
         const count = counts.get(scores) || { all: 0, after: new Uint32Array(256) };
         counts.set(scores, count);
         count.all += 1;
@@ -51,6 +52,24 @@ function isLead({ size, pair }, byte) {
 }
 
 /**
+ * The byte after a text if it may be the one that ends texts: 00, a control code other than tabs and line ends, or a byte that is not part
+ * of a character. Else, in UTF-16, and at the end of the bytes it is -1. A control code before a 00 counts instead if it is in the text so
+ * often that it may be the end of several texts.
+ * @param {Pick<Candidate, 'scores' | 'start' | 'end'>} text
+ * @param {Uint8Array} bytes
+ */
+export function byteAfter({ scores, start, end }, bytes) {
+    if (scores.wide || end >= bytes.length) return -1;
+    const { [end]: byte, [end - 1]: last } = bytes;
+    if (byte === 0 && last !== 0 && scores.oneKind[last] === CONTROL) {
+        const count = bytes.subarray(start, end).reduce((sum, it) => sum + Number(it === last), 0);
+        if (count >= LEAST_ENDED) return last;
+    }
+    const isNoCharacter = scores.one[byte] === BAD && !isLead(scores, byte);
+    return byte === scores.end[0] || scores.oneKind[byte] === CONTROL || isNoCharacter ? byte : -1;
+}
+
+/**
  * Extends texts to all that belongs to them at both ends.
  * @param {Uint8Array} bytes
  * @param {Candidate[]} texts in order
@@ -60,7 +79,7 @@ export function withEdges(bytes, texts) {
     return texts.map((it, i) => {
         const low = i > 0 ? texts[i - 1].end : 0;
         const high = i + 1 < texts.length ? texts[i + 1].start : bytes.length;
-        const last = ends.get(it.scores) ?? -1;
+        const last = ends.get(it.scores) ?? it.scores.end[0];
         const [start, end] = [startWithMarks(bytes, it, low, last), endWithMarks(bytes, it, high, last)];
         return start === it.start && end === it.end ? it : { ...it, start, end, text: '' };
     });

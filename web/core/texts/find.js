@@ -3,16 +3,11 @@
 import { joinedBytes } from '../bytes.js';
 import { USER_SIZE } from '../module/index.js';
 import { asWords, userOfRange } from '../sectors/index.js';
+import { Matching } from './matching.js';
 
 /** How many bytes of a range are counted to find rare values, and how many of the first bytes of a hit are compared by rarity. */
 const SAMPLES = 4000;
 const MOST_OPENINGS = 64;
-
-/** How many failed attempts are remembered. */
-const KEPT_TRIES = 1 << 16;
-
-/** The most spellings of a part that are compared one by one; more are looked up in an index. */
-const FEW_SPELLINGS = 16;
 
 /**
  * The parts of a wanted text, in order, each with its spellings, as `Encoding.units` returns them.
@@ -191,107 +186,4 @@ function placeOf(user, words, value, from) {
  */
 function zeroByte(word) {
     return (word - 0x01010101) & ~word & 0x80808080;
-}
-
-/**
- * The end of parts that match at a place, or -1.
- * @param {Wanted} parts
- * @param {Uint8Array} bytes
- * @param {number} at
- */
-export function endOfMatch(parts, bytes, at) {
-    return new Matching(parts, bytes).end(at);
-}
-
-/** Matches parts at places. A failed attempt is not repeated, so that spellings of several lengths do not take longer. */
-class Matching {
-    /**
-     * @param {Wanted} parts
-     * @param {Uint8Array} user
-     */
-    constructor(parts, user) {
-        this.parts = parts;
-        this.user = user;
-        this.indexes = parts.map(part => part.length > FEW_SPELLINGS ? indexOf(part) : null);
-        const isOneLength = parts.every(part => part.every(bytes => bytes.length === part[0].length));
-        /** The last failed attempts: part and place, as one number. */
-        this.failed = new Float64Array(isOneLength ? 0 : KEPT_TRIES);
-    }
-
-    /**
-     * The end of the parts if they match at a place, or -1.
-     * @param {number} from
-     */
-    end(from) {
-        const { parts, user, failed } = this;
-        const [first = []] = parts;
-        if (first.length === 1 && !standsAt(first[0], user, from)) return -1;
-        /** @type {Uint8Array[][]} for each part so far, the spellings that match there; the last one is being tried */
-        const tried = [];
-        let at = from;
-        while (tried.length < parts.length) {
-            let left = this.standingAt(tried.length, at);
-            while (left.length === 0) {
-                const [last] = tried.splice(-1);
-                if (last === undefined) return -1;
-                at -= /** @type {Uint8Array} */ (last.pop()).length;
-                const attempt = at * parts.length + tried.length + 1;
-                if (last.length === 0) failed[attempt % KEPT_TRIES] = attempt;
-                left = last;
-            }
-            tried.push(left);
-            at += left[left.length - 1].length;
-        }
-        return at;
-    }
-
-    /**
-     * The spellings of a part that match at a place, the first one last; empty if all have failed there before.
-     * @param {number} i
-     * @param {number} at
-     */
-    standingAt(i, at) {
-        const { parts, user, failed, indexes: { [i]: index } } = this;
-        const attempt = at * parts.length + i + 1;
-        if (failed[attempt % KEPT_TRIES] === attempt) return [];
-        return index === null ? parts[i].filter(bytes => standsAt(bytes, user, at)).reverse() : lookedUp(index, user, at).reverse();
-    }
-}
-
-/** @param {Uint8Array} bytes */
-function keyOf(bytes) {
-    return String.fromCharCode(...bytes);
-}
-
-/**
- * Indexes the spellings of a part, and their order, by their bytes; and lists their lengths.
- * @param {Uint8Array[]} part
- */
-function indexOf(part) {
-    const entries = new Map(part.map((bytes, place) => [keyOf(bytes), { bytes, place }]));
-    return { entries, lengths: [...new Set(part.map(bytes => bytes.length))] };
-}
-
-/**
- * The spellings that match at a place, in their order.
- * @param {ReturnType<typeof indexOf>} index
- * @param {Uint8Array} user
- * @param {number} at
- */
-function lookedUp({ entries, lengths }, user, at) {
-    const found = lengths.flatMap(length => entries.get(keyOf(user.subarray(at, at + length))) || []);
-    return found.sort((a, b) => a.place - b.place).map(({ bytes }) => bytes);
-}
-
-/**
- * @param {Uint8Array} bytes
- * @param {Uint8Array} user
- * @param {number} at
- */
-function standsAt(bytes, user, at) {
-    if (at + bytes.length > user.length) return false;
-    for (let k = 0; k < bytes.length; k++) {
-        if (user[at + k] !== bytes[k]) return false;
-    }
-    return true;
 }

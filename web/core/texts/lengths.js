@@ -21,6 +21,11 @@ const CONTROL_SHARE = 0.1;
 const LEAST_LENGTH = 2;
 const MOST_LENGTH = 1024;
 
+/**
+ * The most empty texts between two of a chain in UTF-16: the string tables of Windows have 16 strings in a block, many of them empty.
+ */
+const MOST_EMPTY = 64;
+
 /** The greatest length of a text that is looked for before a chain: below the second bytes of characters, which could look like lengths. */
 const MOST_LENGTH_BACK = 0x3F;
 
@@ -64,7 +69,7 @@ export function withLengths(bytes, texts) {
             // The text before it may include bytes of the first length, if that has several.
             if (last && last.start >= at) all.pop();
             else if (last && last.end > at) all[all.length - 1] = { ...last, end: at, to: Math.min(last.to, at), text: '' };
-            for (const [start, end] of found) all.push({ ...it, start, end, from: start, to: end, text: '' });
+            for (const [start, end] of found) all.push({ ...it, start, end, from: start, to: end, text: '', limit: end });
             [, low] = found[found.length - 1];
             if (low >= it.end || !hasWide(bytes, low, it.end)) break;
             rest = { ...it, start: low, from: Math.min(low + MOST_BEFORE, it.end), text: '' };
@@ -90,7 +95,7 @@ function chainOf(bytes, { start, end, from, scores }, low) {
         const last = lastPlace(start, end, from - width, least);
         // The nearest places before the first scored character are tried first, and then those after the beginning.
         for (let k = 0, at = from - width; at <= last; k++) {
-            if (at >= least && areLengths(bytes, at, width, read)) {
+            if (at >= least && areLengths(bytes, scores, at, width, read)) {
                 const chain = chainFrom(bytes, scores, at, width, read, left);
                 const isOver = chain.length > 0 && chain[chain.length - 1][1] > from;
                 if (isOver && isChain(bytes, chain, width, at, { start, end, scores })) {
@@ -134,7 +139,8 @@ function isChain(bytes, chain, width, at, { start, end, scores }) {
     const isByte = width === 1 || (scores.wide && width === 2);
     const codes = isByte ? chain.filter(([from]) => isCode(bytes[from - 1] || bytes[from - 2])).length : chain.length;
     const isSure = codes > CONTROL_SHARE * chain.length && codes > 1;
-    return chain.length >= (isSure ? LEAST_CHAINED : toEnd ? LEAST_TO_END : LEAST_OF_LETTERS);
+    if (isSure) return chain.length >= LEAST_CHAINED;
+    return chain.length >= (toEnd ? LEAST_TO_END : LEAST_OF_LETTERS);
 }
 
 /** @param {number} byte whether it is a control code other than a tab or a line end */
@@ -145,18 +151,33 @@ function isCode(byte) {
 /**
  * Whether the first numbers from a place on may be lengths of texts.
  * @param {Uint8Array} bytes
+ * @param {Scores} scores
  * @param {number} from
  * @param {number} width
  * @param {ReadLength} read
  */
-function areLengths(bytes, from, width, read) {
+function areLengths(bytes, scores, from, width, read) {
     let at = from;
     for (let count = 0; count < LEAST_CHAINED; count++) {
         const length = at + width <= bytes.length ? read(bytes, at) : 0;
         if (length < LEAST_LENGTH || length > MOST_LENGTH) return count > 1 && at === bytes.length;
-        at += width + length;
+        at = afterEmpty(bytes, scores, at + width + length, width);
     }
     return true;
+}
+
+/**
+ * The place after the empty texts at a place, each of which is a length of 0. Only those in UTF-16 can be told from the end of a text.
+ * @param {Uint8Array} bytes
+ * @param {Scores} scores
+ * @param {number} from
+ * @param {number} width
+ */
+function afterEmpty(bytes, { wide }, from, width) {
+    if (!wide || width !== 2) return from;
+    let at = from;
+    while (at + 2 < bytes.length && at - from < 2 * MOST_EMPTY && bytes[at] === 0 && bytes[at + 1] === 0) at += 2;
+    return at;
 }
 
 /**
@@ -178,7 +199,7 @@ function chainFrom(bytes, scores, from, width, read, left) {
         left.bytes -= chain.length < (width > 1 ? LEAST_CHAINED : LEAST_OF_LETTERS) ? length : 0;
         if (length < LEAST_LENGTH || length > MOST_LENGTH || end > bytes.length || !isText(bytes, scores, at, start, end)) break;
         chain.push([start, end]);
-        at = end;
+        at = afterEmpty(bytes, scores, end, width);
     }
     return chain;
 }

@@ -4,6 +4,7 @@ import { joinedBytes, readBytes } from '../bytes.js';
 import { markOf } from '../encodings/index.js';
 import { Fault } from '../faults.js';
 import { letOthersIn } from '../turns.js';
+import { isPo } from './po_reader.js';
 
 /** @typedef {import('../bytes.js').Reader} Reader */
 /** @typedef {import('../turns.js').Signal} Signal */
@@ -29,7 +30,8 @@ export async function longTextOf(reader, signal, size = PART) {
     try {
         return await decodedBy(new TextDecoder('utf-8', { fatal: true }), parts, signal);
     } catch (error) {
-        throw error instanceof TypeError ? new Fault('list/not-unicode', {}) : error;
+        if (!(error instanceof TypeError)) throw error;
+        throw new Fault('list/not-unicode', { isPo: isPo(new TextDecoder('latin1').decode(parts[0])) });
     }
 }
 

@@ -27,8 +27,9 @@ export function sizeAt(scores, bytes, at) {
  * @param {number} end
  */
 function plainSizeAt(scores, bytes, at, end) {
-    const { wide, size, oneKind, pairKind, encoding } = scores;
+    const { wide, size, oneKind, pairKind, encoding, end: [last] } = scores;
     const kind = wide ? 0 : oneKind[bytes[at]];
+    if (!wide && last !== 0 && bytes[at] === last) return 0;
     if (!wide && bytes[at] < 0x80) return kind === ASCII || kind === LINE_END ? 1 : 0;
     const code = codeAt(scores, bytes, at, end);
     if (code > 0 && pairKind[code] > 0) return pairKind[code] === CONTROL ? 0 : size;

@@ -47,7 +47,7 @@ const CHARSETS = /^(?:UTF-?8|(?:US-)?ASCII|CHARSET|S(?:HIFT)?[_-]?JIS|CP932|WIND
  * @param {string} text
  */
 function* poLines(text) {
-    for (let [at, number] = [0, 1]; at < text.length; number++) {
+    for (let at = 0, number = 1; at < text.length; number++) {
         const end = text.indexOf('\n', at);
         yield { number, line: text.slice(at, end < 0 ? text.length : end).trim() };
         at = end < 0 ? text.length : end + 1;
@@ -251,7 +251,8 @@ class Entry {
  * @returns {Generator<PoEntry | null>}
  */
 export function* entriesOfPo(list) {
-    let [next, read] = [new Entry(), 0];
+    let next = new Entry();
+    let read = 0;
     for (const { number, line } of poLines(list)) {
         read += line.length;
         if (number % LINES_AT_ONCE === 0 || read > CHARACTERS_AT_ONCE) {

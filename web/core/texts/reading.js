@@ -12,11 +12,12 @@ import { allScores, codeAt } from './scores.js';
  */
 function scoreOf(scores, field) {
     const end = sizeBeforeFilling(scores.encoding, field);
+    const least = scores.wide ? 2 : 1;
     let sum = 0;
     for (let at = 0; at < end;) {
         const code = codeAt(scores, field, at, end);
         sum += code > 0 ? scores.pair[code] : scores.one[field[at]];
-        at += code > 0 ? scores.size : scores.wide ? 2 : 1;
+        at += code > 0 ? scores.size : least;
     }
     return sum;
 }

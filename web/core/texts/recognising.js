@@ -164,7 +164,8 @@ function acceptedOf(bytes, candidates) {
  */
 function bitsOf(scores, bytes, start, end) {
     const { wide, size, one, oneKind, pair, pairKind } = scores;
-    let [sum, isText] = [0, false];
+    let sum = 0;
+    let isText = false;
     for (let at = start; at < end;) {
         const code = codeAt(scores, bytes, at, end);
         const kind = code > 0 ? pairKind[code] : oneKind[bytes[at]];

@@ -49,13 +49,16 @@ export function withRecords(bytes, texts) {
 function distanceAt(distances, i) {
     const from = Math.max(i - NEIGHBOURS, 0);
     const to = Math.min(i + NEIGHBOURS, distances.length);
-    let [best, most] = [0, LEAST_IN_COLUMN - 1];
+    let best = 0;
+    let most = LEAST_IN_COLUMN - 1;
     for (let k = from; k < to; k++) {
         const distance = distances[k];
         if (distance === 0 || distance === best) continue;
         let count = 0;
         for (let j = from; j < to; j++) count += Number(distances[j] > 0 && distances[j] % distance === 0);
-        if (count > most || (count === most && distance > best)) [best, most] = [distance, count];
+        if (count < most || (count === most && distance < best)) continue;
+        best = distance;
+        most = count;
     }
     return best;
 }
@@ -166,9 +169,10 @@ function fitted(bytes, text, start, { filling, field, room }) {
     const own = { ...text, start, from: Math.max(start, text.from) };
     const filled = filledBy(bytes, own, field, filling);
     const isFilled = filled !== null && BLANKS.includes(filling) && filled.from >= Math.min(text.to, start + field);
-    const end = isFilled ? Math.min(text.end, filled.from) : text.end > start + field ? Math.min(text.to, start + field) : text.end;
+    const last = text.end > start + field ? Math.min(text.to, start + field) : text.end;
+    const end = isFilled ? Math.min(text.end, filled.from) : last;
     const isSame = start === text.start && end === text.end;
-    return { ...own, end, to: Math.min(text.to, end), text: isSame ? text.text : '', limit: start + room };
+    return { ...own, end, to: Math.min(text.to, end), text: isSame ? text.text : '', limit: start + room, isField: true };
 }
 
 /**

@@ -104,7 +104,10 @@ export function piecesOf(bytes, text, shift, byLines) {
  * @param {number} at
  */
 function lineEndAt({ wide, own, encoding }, bytes, at) {
-    if (!wide && !own) return bytes[at] === 0x0A ? LF : bytes[at] === 0x0D ? CR : '';
+    if (!wide && !own) {
+        if (bytes[at] === 0x0A) return LF;
+        return bytes[at] === 0x0D ? CR : '';
+    }
     if (wide && bytes[at] !== 0 && bytes[at + 1] !== 0) return '';
     const { text } = encoding.characterAt(bytes, at);
     return text === LF || text === CR ? text : '';

@@ -1,23 +1,23 @@
 // Scores how likely bytes are Japanese text: each character of each encoding has a score in quarter bits.
 
-import { CP932, SEARCHED, TableEncoding, encodeText } from '../encodings/index.js';
-import { CHARACTERS_BY_BITS } from './frequencies.js';
+import { CP932, SEARCHED, TableEncoding, encodeText, endOf, withEnd } from '../encodings/index.js';
+import { AFTER_KINDS, CHARACTERS_BY_BITS } from './frequencies.js';
 
 /** @typedef {import('../encodings/encoding.js').Encoding} Encoding */
 /** @typedef {import('../encodings/encoding.js').Usual} Usual */
 /**
  * An encoding whose texts can be recognised among other bytes: for each byte and each pair of bytes, its score and its kind as a character;
  * whether all characters have two bytes; how many bytes longer characters have, two, or in UTF-8 three; whether it is a game's own table;
- * and the least score of two neighbours together.
+ * the least score of two neighbours together; by the kinds of two neighbours, what is added; and the bytes that end texts, mostly 00.
  * @typedef {{ encoding: Encoding, wide: boolean, size: number, own: boolean, one: Int8Array, oneKind: Uint8Array, pair: Int8Array,
- *     pairKind: Uint8Array, least: number }} Scores
+ *     pairKind: Uint8Array, least: number, after: number[][], end: Uint8Array }} Scores
  */
 /** @typedef {{ bytes: Uint8Array, score: number, kind: number }} Scored bytes that are a character */
 
 /** The score of bytes that are not a character. */
 export const BAD = -128;
 
-/** Kinds of characters: indices into AFTER_KINDS, of which 0 is no character. */
+/** Kinds of characters: indices into AFTER_KINDS, of which 0 is not a character. */
 export const KANJI = 3;
 export const ASCII = 6;
 export const LINE_END = 7;
@@ -43,6 +43,14 @@ const THREE = 24;
 
 /** The first two bytes of three-byte characters that are frequent in texts: of kana and signs, of kanji, and of wide letters. */
 const FIRST_OF_THREE = [[0xE380, 0xE383], [0xE480, 0xE9BF], [0xEFBC, 0xEFBD]];
+
+/** The bonus of a control code after another one: in many games two of them begin a new line, and do not end a text. */
+const SECOND_CONTROL = 20;
+
+/** AFTER_KINDS, with the control codes of games. */
+const AFTER_JAPANESE = AFTER_KINDS.map(after => after.slice());
+AFTER_JAPANESE[CONTROL][CONTROL] = SECOND_CONTROL;
+AFTER_JAPANESE[CONTROL][ASCII] = 0;
 
 /** @param {number} code of a wide character */
 function kindOf(code) {
@@ -74,7 +82,8 @@ function knownCharacters() {
     CHARACTERS_BY_BITS.forEach((characters, bits) => {
         for (const it of characters) {
             const isUsual = known.get(it)?.score === USUAL_KANJI;
-            const score = isUsual ? Math.max(4 * bits, 6 + 2 * bits) : bits === 0 ? -2 : 4 * bits;
+            const rare = bits === 0 ? -2 : 4 * bits;
+            const score = isUsual ? Math.max(4 * bits, 6 + 2 * bits) : rare;
             known.set(it, { score, kind: kindOf(it.charCodeAt(0)) });
         }
     });
@@ -89,15 +98,36 @@ function knownCharacters() {
  * @param {Partial<Scores>} more its other properties
  * @returns {Scores}
  */
-function scoresOf(encoding, scored, { size = 2, wide = false, own = false, least = STRONG_PAIR }) {
+function scoresOf(encoding, scored, { size = 2, wide = false, own = false, least = STRONG_PAIR, after = AFTER_JAPANESE }) {
     const [one, pair] = [256, 65536].map(count => new Int8Array(count).fill(BAD));
     const [oneKind, pairKind] = [256, 65536].map(count => new Uint8Array(count));
     for (const { bytes, score, kind } of scored) {
-        const [scores, kinds] = bytes.length === 1 ? [one, oneKind] : [pair, pairKind];
-        const code = bytes.length === 1 ? bytes[0] : bytes.length === size ? codeOf(size, bytes, 0) : 0;
-        if (code > 0 && scores[code] === BAD) [scores[code], kinds[code]] = [score, kind];
+        const isOne = bytes.length === 1;
+        if (!isOne && bytes.length !== size) continue;
+        const [scores, kinds] = isOne ? [one, oneKind] : [pair, pairKind];
+        const code = isOne ? bytes[0] : codeOf(size, bytes, 0);
+        if (code === 0 || scores[code] !== BAD) continue;
+        scores[code] = score;
+        kinds[code] = kind;
     }
-    return { encoding, wide, size, own, one, oneKind, pair, pairKind, least };
+    return { encoding, wide, size, own, one, oneKind, pair, pairKind, least, after, end: endOf(encoding) };
+}
+
+/**
+ * The scores of an encoding whose texts end with a byte: it is not a character, and no character begins with it.
+ * @param {Scores} scores
+ * @param {number} byte
+ * @returns {Scores}
+ */
+export function endedScores(scores, byte) {
+    const encoding = withEnd(scores.encoding, byte);
+    const made = { ...scores, encoding, one: scores.one.slice(), oneKind: scores.oneKind.slice(), end: endOf(encoding) };
+    made.one[byte] = BAD;
+    made.oneKind[byte] = 0;
+    const [first, second] = made.end;
+    const [from, to] = scores.wide ? [first << 8 | second, (first << 8 | second) + 1] : [byte << 8, (byte + 1) << 8];
+    if (byte === 0 || scores.size === 3 || scores.pair.subarray(from, to).every(score => score === BAD)) return made;
+    return { ...made, pair: scores.pair.slice().fill(BAD, from, to), pairKind: scores.pairKind.slice().fill(0, from, to) };
 }
 
 /**
@@ -119,8 +149,8 @@ function* scoredIn(encoding, known) {
 export function allScores() {
     const known = knownCharacters();
     return SEARCHED.map(encoding => {
-        const [size, wide] = [encodeText(encoding, 'あ').length, encodeText(encoding, 'a').length === 2];
-        return scoresOf(encoding, scoredIn(encoding, known), { size, wide });
+        const size = encodeText(encoding, 'あ').length;
+        return scoresOf(encoding, scoredIn(encoding, known), { size, wide: encodeText(encoding, 'a').length === 2 });
     });
 }
 
@@ -146,7 +176,8 @@ function ownScores(encoding, spelled) {
     const known = knownCharacters();
     const scored = spelled.filter(({ bytes: [first, second] }) => second !== undefined || first !== encoding.end).map(({ text, bytes }) => {
         const it = known.get(text[0]);
-        const score = /^[a-z ]/.test(text) ? LATIN : it && it.kind < ASCII ? it.score : OTHER;
+        const other = it && it.kind < ASCII ? it.score : OTHER;
+        const score = /^[a-z ]/.test(text) ? LATIN : other;
         return { bytes, score, kind: text.length > 1 || text < '\x80' ? 0 : kindOf(text.charCodeAt(0)) };
     });
     const singles = scored.filter(({ bytes }) => bytes.length === 1);
@@ -156,6 +187,25 @@ function ownScores(encoding, spelled) {
 }
 
 /**
+ * The kinds of characters of sets of one byte for the languages of Europe, each with its score in quarter bits: small and large letters of
+ * Latin and of other alphabets, signs, and punctuation, spaces, and digits. Frequent are only small letters and spaces.
+ * @type {[RegExp, number, number][]}
+ */
+const SINGLES = [
+    [/[\t\n\r]/, LINE_END, -16], [/\p{C}/u, 0, BAD], [/[a-z]/, 1, 13], [/[а-я]/, 3, 13], [/ /, ASCII, 13],
+    [/\p{Script=Cyrillic}/u, 4, -16], [/\p{Ll}/u, 1, -2], [/\p{L}/u, 2, -12], [/[\p{P}\p{Zs}\d]/u, ASCII, -12], [/./u, 5, -24],
+];
+
+/** By the kinds of two such characters, in quarter bits: two alphabets, a large letter after a small one, and signs beside letters. */
+const AFTER_SINGLES = Array.from({ length: AFTER_KINDS.length }, (_, before) => AFTER_KINDS.map((__, after) => {
+    const [first, second] = [Math.min(before, after), Math.max(before, after)];
+    if (first === 0 || second > 5) return 0;
+    if (second === 5) return -10;
+    if (first <= 2 && second >= 3) return -24;
+    return after === before + 1 ? -12 : 0;
+}));
+
+/**
  * The scores of a game's own table, or of a character set for a language other than Japanese. The pairs of bytes that are frequent in its
  * texts score as if all of them were equally frequent.
  * @param {TableEncoding} encoding
@@ -163,6 +213,13 @@ function ownScores(encoding, spelled) {
 export function tableScores(encoding) {
     const { usual } = encoding;
     const spelled = [...encoding.table.spellings].flatMap(([text, all]) => all.map(bytes => ({ text, bytes })));
+    if (encoding.isSingle) {
+        const scored = spelled.map(({ text, bytes }) => {
+            const [, kind, score] = /** @type {[RegExp, number, number]} */ (SINGLES.find(([form]) => form.test(text)));
+            return { bytes, score, kind };
+        });
+        return scoresOf(encoding, scored, { own: true, least: STRONG_BYTES, after: AFTER_SINGLES });
+    }
     if (!usual) return ownScores(encoding, spelled);
     const scored = spelled.map(({ text, bytes }) => {
         const code = codeOf(2, bytes, 0);

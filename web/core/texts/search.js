@@ -6,8 +6,8 @@ import { anyBegins } from './context.js';
 import { joinFound, sectorsBeyond } from './find.js';
 
 /** @typedef {import('../disc/disc.js').OrderedImage} OrderedImage */
-/** @typedef {import('../crew/crew.js').Sharer} Sharer */
-/** @typedef {import('../crew/crew.js').Sharing} Sharing */
+/** @typedef {import('../pool/pool.js').Sharer} Sharer */
+/** @typedef {import('../pool/pool.js').Sharing} Sharing */
 /** @typedef {import('../encodings/encoding.js').Encoding} Encoding */
 /** @typedef {import('./find.js').Found} Found */
 /** @typedef {Found & { encoding: Encoding, begins: boolean }} Hits whether one of them does not begin in the middle of a character */
@@ -41,19 +41,19 @@ export function encodingsWith(encodings, text, loose) {
 /**
  * The hits of a text in each encoding in which it occurs. Encodings in which it occurs only in the middle of characters come last: these
  * hits may be parts of other characters.
- * @param {Sharer} crew
+ * @param {Sharer} pool
  * @param {OrderedImage} image
  * @param {{ text: string, encodings: Encoding[], limit: number, loose?: boolean }} asked `limit` is how many hits are kept in each
  *     encoding, at least one
  * @param {Sharing} [watch]
  */
-export async function searchText(crew, image, { text, encodings, limit, loose }, watch) {
+export async function searchText(pool, image, { text, encodings, limit, loose }, watch) {
     const texts = encodings.map(encoding => unitsAlike(encoding, text, loose));
     /** @type {Found[][]} for each encoding */
     const parts = texts.map(() => []);
     const how = { base: image.base, beyond: Math.max(...texts.map(sectorsBeyond)), ...watch };
     const { order, fileSize } = image;
-    await crew.share('find', [order ? order.reader : image.reader], { texts, limit, fileSize }, how, (/** @type {Found[]} */ answer) => {
+    await pool.share('find', [order ? order.reader : image.reader], { texts, limit, fileSize }, how, (/** @type {Found[]} */ answer) => {
         answer.forEach((found, i) => addFound(parts[i], found, limit));
         if (order) answer.forEach(({ hits }) => hits.forEach(hit => { hit.block = order.blockOf(hit.block - image.base); }));
     });

@@ -5,7 +5,7 @@ import { crc32, joinedCrc } from '../../core/crc32.js';
 import { cancelled } from '../../core/faults.js';
 import { SECTOR_SIZE } from '../../core/module/index.js';
 import { hexOf } from '../ui/index.js';
-import { startedWorker } from './crew.js';
+import { startedWorker } from './pool.js';
 
 /** @typedef {import('../../core/bytes.js').Reader} Reader */
 /** @typedef {import('./state.js').App} App */
@@ -105,7 +105,7 @@ export async function sha1Of(parts, reader, signal, progress) {
 }
 
 /**
- * Computes both sums of an image, and its survey if requested. Each range goes to a worker of the crew, and then to the SHA-1 worker.
+ * Computes both sums of an image, and its survey if requested. Each range goes to a worker of the pool, and then to the SHA-1 worker.
  * `close` must be called at the end.
  */
 export class Summing {
@@ -115,8 +115,8 @@ export class Summing {
      * @param {(done: number) => void} progress receives the number of bytes hashed
      * @param {boolean} [needsMd5]
      */
-    constructor({ crew, parts }, reader, progress, needsMd5 = false) {
-        this.crew = crew;
+    constructor({ pool, parts }, reader, progress, needsMd5 = false) {
+        this.pool = pool;
         this.reader = reader;
         this.ahead = forwardOf(reader);
         this.progress = progress;
@@ -126,14 +126,14 @@ export class Summing {
     }
 
     /**
-     * Reads all sectors. Throws what Crew.share throws.
-     * @param {import('../../core/crew/crew.js').Sharing} how
+     * Reads all sectors. Throws what Pool.share throws.
+     * @param {import('../../core/pool/pool.js').Sharing} how
      * @param {((survey: RangeSurvey) => void) | null} [surveyed] receives the survey of each range
      * @param {number} [shift] how many blocks the address of a sector is ahead of its block, below 0 if behind
      */
     async read(how, surveyed = null, shift = 0) {
         const args = { surveys: surveyed !== null, shift, mode2: true };
-        await this.crew.share('sums', [this.ahead], args, how, async ({ bytes, crc, survey }) => {
+        await this.pool.share('sums', [this.ahead], args, how, async ({ bytes, crc, survey }) => {
             if (surveyed !== null && survey !== null) surveyed(survey);
             await this.add(bytes, crc);
         });
@@ -167,7 +167,7 @@ export class Summing {
 }
 
 /**
- * Computes the SHA-1 and the CRC-32 of an image. Throws what Crew.share throws.
+ * Computes the SHA-1 and the CRC-32 of an image. Throws what Pool.share throws.
  * @param {App} app
  * @param {Reader} reader
  * @param {{ aborted: boolean }} signal

@@ -1,7 +1,7 @@
 // The mark of each sector on the map: its kind, or the finding in it.
 
 import { RECORD, RECORD_SIZE, SECTOR_KIND, USER_SIZE } from '../../core/module/index.js';
-import { MODE2, isDamagedMode2, isTestedMode2 } from '../../core/sectors/index.js';
+import { MODE2, isDamagedMode2, isTestedMode2 } from '../../core/sectors/views.js';
 import * as texts from '../texts/index.js';
 
 /** The marks of sectors on the map. If sectors share a pixel, the greatest mark is shown. */

@@ -1,6 +1,6 @@
 // Merges lines from a table into the script, while the page stays responsive.
 
-import { mergedInTurns, modelInParts } from '../../core/script/index.js';
+import { mergedInTurns, modelInParts } from '../../core/script/views.js';
 import { letOthersIn } from '../../core/turns.js';
 import { isLong } from './script_long.js';
 

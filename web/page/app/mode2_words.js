@@ -1,34 +1,17 @@
-// Describes in words which sectors were tested, and what was found in a Mode 2 sector.
+// Describes in words which Mode 2 sectors were tested, and what was found in one.
 
-import { MODE2, isDamagedMode2, isTestedMode2 } from '../../core/sectors/index.js';
+import { MODE2, isDamagedMode2, isTestedMode2 } from '../../core/sectors/views.js';
 import * as texts from '../texts/index.js';
 import { format } from '../texts/index.js';
 
 /** @typedef {import('./marks.js').SurveyMarks} SurveyMarks */
 
 /**
- * The tested sectors of a survey in words: how many there are, all of them, and that all are sound.
+ * That Mode 2 sectors cannot be patched; '' if there are none.
  * @param {SurveyMarks} marks
  */
-export function testedWords(marks) {
-    const n = marks.tested();
-    const isOne = marks.testedModeTwo === 0;
-    return {
-        count: format(isOne ? texts.imageCountOfModeOne : texts.imageCountOfData, { n }),
-        all: format(isOne ? texts.discModeOneSectors : texts.discDataSectors, { n }),
-        sound: format(isOne ? texts.imageAllSound : texts.imageAllDataSound, { n }),
-    };
-}
-
-/**
- * That Mode 2 sectors cannot be patched, and how many of them were not tested; '' if there are none.
- * @param {SurveyMarks} marks
- */
-export function mode2Note({ modeTwo, testedModeTwo }) {
-    if (modeTwo === 0) return '';
-    const untested = modeTwo - testedModeTwo;
-    const words = untested > 0 ? `${format(texts.imageModeTwoNotTested, { n: untested })} ` : '';
-    return `${words}${texts.imageModeTwoNotPatched}`;
+export function mode2Note({ modeTwo }) {
+    return modeTwo === 0 ? '' : texts.imageModeTwoNotPatched;
 }
 
 /**

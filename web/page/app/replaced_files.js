@@ -2,7 +2,7 @@
 
 import { firstAfter } from '../../core/bytes.js';
 import { RESULT, VERB } from '../../core/module/index.js';
-import { NEWEST_VERSION, headLine, linesOfText, patchesOf, userPlace } from '../../core/script/index.js';
+import { NEWEST_VERSION, headLine, linesOfText, patchesOf, userPlace } from '../../core/script/views.js';
 import { applyScript, validScript } from '../../core/tasks/index.js';
 
 /** @typedef {import('../../core/module/calls.js').PatchRange} PatchRange */

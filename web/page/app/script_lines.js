@@ -1,11 +1,12 @@
 // The script of the page: its lines, the edits that can be undone, whether it is saved, and the outcomes of Check.
 
 import { RESULT, isFault } from '../../core/module/index.js';
-import { ScriptModel, afterColon, baseComment, countOld, headLine, linesOfText, oldBytesOf, wordsOn } from '../../core/script/index.js';
+import { ScriptModel, afterColon, baseComment, countOld, headLine, linesOfText, oldBytesOf, wordsOn } from '../../core/script/views.js';
 import { format, lineDoesNotFit, lineFits, lineNotCompared } from '../texts/index.js';
-import { MOST_LINES, MOST_SHOWN, isLong } from './script_long.js';
+import { MOST_LINES, MOST_SHOWN, hasTooMany, isLong } from './script_long.js';
 
 /** @typedef {import('../../core/module/calls.js').Calls} Calls */
+/** @typedef {import('../../core/script/model.js').ScriptState} ScriptState */
 /** @typedef {import('../../core/script/patches.js').Outcome} Outcome */
 /**
  * An edit: from line `at` on, the `removed` and the `inserted` lines, and the script's names before and after it. A typed
@@ -16,7 +17,10 @@ import { MOST_LINES, MOST_SHOWN, isLong } from './script_long.js';
  * @typedef {'line' | 'bytes' | ''} Typed
  */
 
-/** @typedef {{ text: string, saved: boolean, before: object }} LongScript with the state of the lines before it */
+/**
+ * With the state of the lines before it.
+ * @typedef {{ text: string, saved: boolean, before: ScriptState & Pick<ScriptLines, 'done' | 'undone' | 'name'> }} LongScript
+ */
 
 /** The head line, the only line of a new script. */
 const HEAD = headLine();
@@ -71,7 +75,8 @@ export class ScriptLines extends ScriptModel {
      */
     take(text, name, known = null) {
         const isLost = !this.isSaved() && !this.isNew() && this.text() !== text;
-        const [long, own] = [this.long && this.long.text, this.name];
+        const long = this.long && this.long.text;
+        const own = this.name;
         if (isLong(text)) this.setLong(text, name);
         else if (text !== this.text() || name !== this.name) this.replace(text || `${HEAD}\n`, name, known);
         const edit = this.done[this.done.length - 1];
@@ -88,7 +93,9 @@ export class ScriptLines extends ScriptModel {
     /** Begins a new script, with nothing to undo. */
     clear() {
         this.replace(`${HEAD}\n`, '');
-        Object.assign(this, { done: [], undone: [], made: new Set() });
+        this.done = [];
+        this.undone = [];
+        this.made = new Set();
     }
 
     /**
@@ -99,12 +106,24 @@ export class ScriptLines extends ScriptModel {
     setLong(text, name) {
         const before = this.long ? this.long.before : { ...this };
         this.readText('');
-        Object.assign(this, { head: 0, outcomes: new Map(), done: [], undone: [], name, long: { text, saved: false, before } });
+        this.head = 0;
+        this.outcomes = new Map();
+        this.done = [];
+        this.undone = [];
+        this.name = name;
+        this.long = { text, saved: false, before };
+        this.tooMany = hasTooMany(text);
     }
 
     leaveLong() {
-        if (this.long) Object.assign(this, this.long.before);
         this.outcomes = new Map();
+        if (this.long === null) return;
+        const { before } = this.long;
+        this.adopt(before);
+        this.done = before.done;
+        this.undone = before.undone;
+        this.name = before.name;
+        this.long = null;
     }
 
     /**
@@ -115,7 +134,8 @@ export class ScriptLines extends ScriptModel {
      */
     replace(text, name, known = null) {
         this.leaveLong();
-        const [{ lines }, inserted] = [this, linesOfText(text)];
+        const { lines } = this;
+        const inserted = linesOfText(text);
         const most = Math.min(lines.length, inserted.length);
         let [same, end] = [0, 0];
         while (same < most && lines[same].text === inserted[same]) same++;
@@ -260,7 +280,8 @@ export class ScriptLines extends ScriptModel {
      * @param {number} i
      */
     isMatched(i) {
-        const [{ patch }, outcome] = [this.lines[i], this.outcomes.get(i + 1)];
+        const { patch } = this.lines[i];
+        const outcome = this.outcomes.get(i + 1);
         return outcome !== undefined && outcome.result === RESULT.OK && patch !== null && patch.old !== null;
     }
 
@@ -269,7 +290,8 @@ export class ScriptLines extends ScriptModel {
      * @param {number} i
      */
     wordsAt(i) {
-        const [{ content, number }, outcome] = [this.lines[i], this.outcomes.get(i + 1)];
+        const { content, number } = this.lines[i];
+        const outcome = this.outcomes.get(i + 1);
         if (isFault(content)) {
             const words = this.faultWords.get(content) ?? wordsOn(this.calls.faultLine(1, content), 1);
             this.faultWords.set(content, words);

@@ -5,9 +5,11 @@ import { Store } from './store.js';
 /** @typedef {import('../../core/disc/disc.js').Disc} Disc */
 /** @typedef {import('../../core/disc/disc.js').DiscImage} DiscImage */
 /** @typedef {import('../../core/disc/volume_end.js').Lack} Lack */
-/** @typedef {import('../../core/sectors/survey.js').FilledRun} FilledRun */
+/** @typedef {import('../../core/sectors/survey.js').RangeSurvey} RangeSurvey */
+/** @typedef {import('../../core/tasks/verdict.js').Verdict} Verdict */
 /** @typedef {import('../../core/tasks/opened.js').OpenedTrack} OpenedTrack */
 /** @typedef {import('./marks.js').SurveyMarks} SurveyMarks */
+/** @typedef {import('./store.js').RunningJob} RunningJob */
 /** @typedef {import('../ui/fill.js').Child} Child */
 
 /** The module, the workers, and the build tools of the page. The joined page and a served one load them in different ways. */
@@ -23,11 +25,11 @@ import { Store } from './store.js';
 
 /**
  * The survey of an image: `records` of RECORD_SIZE bytes for its sectors, of which the first `known` are read so far; what was found in
- * its Mode 2 sectors (`mode2`), settled when all is read; the runs of sectors `filled` with one byte; the `marks` for the map; and the
- * `lack` of its volume, known when all is read. Reading `began` and `ended` at these times in milliseconds; `ended` is 0 if not all was
- * read. `over` says that reading has stopped.
- * @typedef {{ block: number, records: Uint8Array, mode2: Uint8Array, filled: FilledRun[], known: number, marks: SurveyMarks,
- *     lack: Lack | null, began: number, ended: number, over: boolean }} Surveyed
+ * its Mode 2 sectors (`mode2`), settled when all is read; the runs of sectors `filled` with one byte, and of those `moved` to other blocks;
+ * the `marks` for the map; and the `verdict` and the `lack` of its volume, known when all is read. Reading `began` and `ended` at these
+ * times in milliseconds; `ended` is 0 if not all was read. `over` says that reading has stopped.
+ * @typedef {RangeSurvey & { known: number, marks: SurveyMarks, verdict: Verdict | null, lack: Lack | null, began: number, ended: number,
+ *     over: boolean }} Surveyed
  */
 
 /**
@@ -37,10 +39,10 @@ import { Store } from './store.js';
  * was chosen (`place`).
  * The script has changed (`script`, with a function `back` that restores the last one if that is not saved, or with null if a line was
  * typed in the panel Script), or is to be checked (`check`). One of its lines was chosen (`line`, from 0). The encoding was chosen, or a
- * table was loaded (`encoding`). No image is being saved any more (`saved`).
+ * table was loaded (`encoding`). A job began, has done more, or ended (`jobs`). No image is being saved any more (`saved`).
  * A list of known dumps was loaded (`dumps`). A different panel is shown (`panel`). The data of a patcher are to be edited (`patcher`).
  * @typedef {'image' | 'closed' | 'survey' | 'surveyed' | 'hash' | 'files' | 'second' | 'repair' | 'place' | 'script' | 'check' | 'line' |
- *     'encoding' | 'saved' | 'dumps' | 'panel' | 'patcher'} Happening
+ *     'encoding' | 'jobs' | 'saved' | 'dumps' | 'panel' | 'patcher'} Happening
  */
 
 /**
@@ -90,59 +92,35 @@ export class App extends Store {
     }
 
     /**
-     * Runs a job that its Cancel button can end. The job must check the signal.
+     * Runs a job, which must check its signal. Beside its Cancel, closing the image ends it (`of` is `image`), or also closing or replacing
+     * the second image (`pair`).
      * @template Result
-     * @param {(signal: AbortSignal, cancel: () => void) => Promise<Result>} job
+     * @param {{ name?: string, place?: Element | null, of?: 'page' | 'image' | 'pair', saves?: boolean }} how
+     * @param {(job: RunningJob) => Promise<Result>} work
      */
-    async runJob(job) {
+    async run({ name = '', place = null, of = 'page', saves = false }, work) {
         const controller = new AbortController();
-        return job(controller.signal, () => controller.abort());
-    }
-
-    /**
-     * Runs a job that saves an image. Only its Cancel button ends it.
-     * @template Result
-     * @param {(signal: AbortSignal, cancel: () => void) => Promise<Result>} job
-     */
-    async runSave(job) {
-        this.saves += 1;
+        const cancel = () => controller.abort();
+        if (of === 'image') this.closing.signal.addEventListener('abort', cancel);
+        if (of === 'pair') this.pairing.signal.addEventListener('abort', cancel);
+        const job = this.beginJob({ name, place, saves, isLost: saves, signal: controller.signal, cancel });
         try {
-            return await this.runJob(job);
+            return await work(job);
         } finally {
-            this.saves -= 1;
-            if (this.saves === 0) this.notify('saved');
+            this.endJob(job);
         }
     }
 
     /**
-     * Runs a job that a second signal can end too.
-     * @template Result
-     * @param {AbortSignal} end
-     * @param {(signal: AbortSignal, cancel: () => void) => Promise<Result>} job
+     * Ends a job whose result is no longer needed.
+     * @param {Element} place of its bar
      */
-    runUntil(end, job) {
-        return this.runJob((own, cancel) => {
-            end.addEventListener('abort', cancel);
-            return job(own, cancel);
-        });
-    }
-
-    /**
-     * Runs a job with the open image. Closing the image ends it too.
-     * @template Result
-     * @param {(signal: AbortSignal, cancel: () => void) => Promise<Result>} job
-     */
-    runOnImage(job) {
-        return this.runUntil(this.closing.signal, job);
-    }
-
-    /**
-     * Runs a job with both images. It also ends when the second image is closed or replaced.
-     * @template Result
-     * @param {(signal: AbortSignal, cancel: () => void) => Promise<Result>} job
-     */
-    runPair(job) {
-        return this.runUntil(this.pairing.signal, job);
+    endJobAt(place) {
+        const job = this.jobAt(place);
+        if (job === undefined) return;
+        job.isReplaced = true;
+        job.cancel();
+        this.endJob(job);
     }
 
     /** The open files: those of the disc and of the second image, with their cue sheets. */

@@ -1,18 +1,19 @@
 // The state of the page: the disc, the findings in it, the script, the second image, and the listeners for changes.
 
-import { USUAL_ENCODING } from '../../core/encodings/index.js';
+import { USUAL_ENCODING } from '../../core/encodings/views.js';
 import { newBytes } from '../../core/faults.js';
 import { RECORD_SIZE } from '../../core/module/index.js';
-import { addToRuns } from '../../core/sectors/index.js';
+import { addToRuns } from '../../core/sectors/views.js';
 import { SurveyMarks } from './marks.js';
 import { ScriptLines } from './script_lines.js';
 
-/** @typedef {import('../../core/crew/crew.js').Crew} Crew */
+/** @typedef {import('../../core/pool/pool.js').Pool} Pool */
 /** @typedef {import('../../core/disc/dat.js').KnownDumps} KnownDumps */
 /** @typedef {import('../../core/tasks/repair.js').Repair} Repair */
 /** @typedef {import('../../core/iso/files.js').VolumeFiles} VolumeFiles */
 /** @typedef {import('../../core/module/calls.js').Calls} Calls */
-/** @typedef {import('../../core/sectors/survey.js').FilledRun} FilledRun */
+/** @typedef {import('../../core/sectors/survey.js').RangeSurvey} RangeSurvey */
+/** @typedef {import('../../core/sectors/survey.js').Survey} Survey */
 /** @typedef {import('../../core/encodings/encoding.js').Encoding} Encoding */
 /** @typedef {import('./state.js').Happening} Happening */
 /** @typedef {import('./state.js').Image} Image */
@@ -22,6 +23,13 @@ import { ScriptLines } from './script_lines.js';
 /** @typedef {import('./state.js').Services} Services */
 /** @typedef {import('./state.js').Surveyed} Surveyed */
 /** @typedef {import('./state.js').Taker} Taker */
+/**
+ * A job that runs: its name; the place of its bar, null without one; whether it saves an image, so that no image may be opened or closed;
+ * whether leaving the page would lose what it saves; when it began, in milliseconds; how much is done, in percent; what ends it; and
+ * whether its result is no longer needed.
+ * @typedef {{ name: string, place: Element | null, saves: boolean, isLost: boolean, began: number, percent: number, signal: AbortSignal,
+ *     cancel: () => void, isReplaced: boolean }} RunningJob
+ */
 
 /** Milliseconds between the `survey` events while an image is read. */
 const TOLD_EVERY = 150;
@@ -30,12 +38,12 @@ const TOLD_EVERY = 150;
 export class Store {
     /**
      * @param {Calls} calls of a module, for short work in the page's own thread
-     * @param {Crew} crew of workers, for longer work
-     * @param {Parts} parts to start workers that are not of the crew
+     * @param {Pool} pool of workers, for longer work
+     * @param {Parts} parts to start workers that are not of the pool
      */
-    constructor(calls, crew, parts) {
+    constructor(calls, pool, parts) {
         this.calls = calls;
-        this.crew = crew;
+        this.pool = pool;
         this.parts = parts;
         this.image = /** @type {Image | null} */ (null);
         this.second = /** @type {Image | null} */ (null);
@@ -54,8 +62,8 @@ export class Store {
         this.panel = /** @type {PanelName} */ ('disc');
         /** @type {Map<string, ((detail: any) => void)[]>} */
         this.listeners = new Map();
-        /** How many images are being saved. Meanwhile no image is opened or closed. */
-        this.saves = 0;
+        /** @type {Set<RunningJob>} */
+        this.jobs = new Set();
         /** Ends the reading of the open image. */
         this.reading = new AbortController();
         /** Ends the jobs with the open image, except its reading. */
@@ -108,8 +116,13 @@ export class Store {
     setImage(image) {
         this.reading.abort();
         this.closing.abort();
-        [this.reading, this.closing] = [new AbortController(), new AbortController()];
-        [this.image, this.second, this.repair, this.survey, this.files] = [image, null, null, null, null];
+        this.reading = new AbortController();
+        this.closing = new AbortController();
+        this.image = image;
+        this.second = null;
+        this.repair = null;
+        this.survey = null;
+        this.files = null;
         this.script.base = image === null ? 0 : image.base;
         this.place = { block: -1, offset: -1 };
         this.notify('image');
@@ -122,7 +135,8 @@ export class Store {
      * @param {PairJob} [job] the first job for it
      */
     setSecond(second, job = 'compare') {
-        [this.second, this.repair] = [second, null];
+        this.second = second;
+        this.repair = null;
         this.notify('second', job);
     }
 
@@ -138,22 +152,27 @@ export class Store {
      * @param {number} sectors
      */
     beginSurvey(base, sectors) {
-        const [records, marks, began] = [newBytes(sectors * RECORD_SIZE), new SurveyMarks(base, sectors), performance.now()];
-        const read = { block: base, records, mode2: newBytes(sectors), filled: [], known: 0, marks, lack: null, began };
-        const survey = /** @type {Surveyed} */ ({ ...read, ended: 0, over: false });
-        [this.survey, this.told] = [survey, began];
+        const began = performance.now();
+        /** @type {Surveyed} */
+        const survey = {
+            block: base, records: newBytes(sectors * RECORD_SIZE), mode2: newBytes(sectors), filled: [], moved: [], known: 0,
+            marks: new SurveyMarks(base, sectors), verdict: null, lack: null, began, ended: 0, over: false,
+        };
+        this.survey = survey;
+        this.told = began;
         this.notify('survey');
         return survey;
     }
 
     /**
      * @param {Surveyed} survey
-     * @param {{ block: number, records: Uint8Array, filled?: FilledRun[], mode2?: Uint8Array }} more of the next sectors
+     * @param {Survey & Partial<RangeSurvey>} more of the next sectors
      */
-    addToSurvey(survey, { block, records, filled = [], mode2 = newBytes(0) }) {
+    addToSurvey(survey, { block, records, filled = [], moved = [], mode2 = newBytes(0) }) {
         survey.mode2.set(mode2, block - survey.block);
         survey.records.set(records, (block - survey.block) * RECORD_SIZE);
         for (const run of filled) addToRuns(survey.filled, run);
+        for (const run of moved) addToRuns(survey.moved, run);
         survey.known += records.length / RECORD_SIZE;
         survey.marks.add(survey.records, survey.known);
         const now = performance.now();
@@ -173,6 +192,52 @@ export class Store {
         if (isWhole) this.notify('surveyed');
     }
 
+    /** How many images are being saved. Meanwhile no image is opened or closed. */
+    get saves() {
+        return [...this.jobs].filter(({ saves }) => saves).length;
+    }
+
+    /**
+     * The job whose bar is at a place; undefined if none runs there.
+     * @param {Element} place
+     */
+    jobAt(place) {
+        return [...this.jobs].find(job => job.place === place);
+    }
+
+    /**
+     * Notes that a job runs.
+     * @param {Pick<RunningJob, 'name'> & Partial<RunningJob>} job
+     */
+    beginJob(job) {
+        /** @type {RunningJob} */
+        const running = {
+            place: null, saves: false, isLost: false, began: performance.now(), percent: 0, signal: new AbortController().signal,
+            cancel() {}, isReplaced: false, ...job,
+        };
+        this.jobs.add(running);
+        this.notify('jobs');
+        return running;
+    }
+
+    /**
+     * @param {RunningJob} job
+     * @param {number} percent
+     * @param {string} [name] which may have changed with the language
+     */
+    noteJob(job, percent, name = job.name) {
+        job.percent = percent;
+        job.name = name;
+        this.notify('jobs');
+    }
+
+    /** @param {RunningJob | null} job */
+    endJob(job) {
+        if (job === null || !this.jobs.delete(job)) return;
+        this.notify('jobs');
+        if (job.saves && this.saves === 0) this.notify('saved');
+    }
+
     /** @param {VolumeFiles | null} files */
     setFiles(files) {
         this.files = files;
@@ -189,7 +254,8 @@ export class Store {
      * @param {{ sha1: string, crc32: string }} sums
      */
     setSums(image, { sha1, crc32 }) {
-        [image.sha1, image.crc32] = [sha1, crc32];
+        image.sha1 = sha1;
+        image.crc32 = crc32;
         this.noteHashed(image.reader.size);
     }
 

@@ -2,7 +2,7 @@
 // each byte of a sound sector is changed, and the module says which column and which diagonal that breaks.
 
 import { SECTOR_SIZE, USER_SIZE } from '../../core/module/index.js';
-import { HEADER_OFFSET, isSound } from '../../core/sectors/index.js';
+import { HEADER_OFFSET, isSound } from '../../core/sectors/views.js';
 
 /** @typedef {import('../../core/module/calls.js').Calls} Calls */
 

@@ -1,16 +1,16 @@
 // Extracts the chosen file of the disc, replaces it, or removes the lines that replace it from the script.
 
 import { Fault } from '../../core/faults.js';
-import { linesMade } from '../../core/script/index.js';
-import { blocksIn } from '../../core/sectors/index.js';
+import { linesMade } from '../../core/script/views.js';
+import { blocksIn } from '../../core/sectors/views.js';
 import { extractFile, placesOfFile, replaceFile } from '../../core/tasks/index.js';
 import { ownFault } from '../../sentences/index.js';
-import { ReplacedFiles, linesIn, linesReplacing } from '../app/index.js';
+import { ReplacedFiles, jobAt, linesIn, linesReplacing } from '../app/index.js';
 import { fileReader } from '../open/index.js';
 import { downloadBytes } from '../save/index.js';
 import * as texts from '../texts/index.js';
 import { format, remarkText, say } from '../texts/index.js';
-import { announce, button, element, fill, isCancelled, jobBar, keyed, messageParts, nameOf, notice, runAt, seen } from '../ui/index.js';
+import { announce, button, element, failureNotice, fill, keyed, nameOf, notice, seen } from '../ui/index.js';
 import { stemOf } from '../ui/index.js';
 import { patchedFile } from './patched_file.js';
 
@@ -55,7 +55,8 @@ export class FileJobs {
      * @param {boolean} isAny whether there are files to be chosen
      */
     draw(chosen, isPatched, isAny) {
-        [this.chosen, this.isPatched] = [chosen, isPatched];
+        this.chosen = chosen;
+        this.isPatched = isPatched;
         if (chosen === null) return fill(this.actions, isAny && element('p', { class: 'small quiet' }, texts.discChooseFile));
         return fill(this.actions, element('b', { class: 'mono' }, nameOf(chosen.path)),
             keyed('extract', button('slim', () => this.extract(chosen, false), texts.discExtractFile)),
@@ -74,21 +75,13 @@ export class FileJobs {
         const { app } = this;
         const { image } = app;
         if (image === null) return undefined;
-        return runAt(this.job, async () => {
-            try {
+        return jobAt(app, this.job, {
+            name, of: 'image', run: (bar, signal) => {
                 fill(this.message);
-                const message = await app.runOnImage((signal, cancel) => {
-                    const bar = jobBar(name, cancel);
-                    fill(this.job, ...bar.parts);
-                    return job(image, { signal, progress: bar.sectors });
-                });
-                if (app.image === image) fill(this.message, message);
-            } catch (error) {
-                if (app.image === image) fill(this.message, isCancelled(error) ? notice('plain', texts.discJobCancelled, failure)
-                    : notice('bad', failure, ...messageParts(error, [image.name])));
-            } finally {
-                fill(this.job);
-            }
+                return job(image, { signal, progress: bar.sectors });
+            },
+            done: message => fill(this.message, message),
+            failed: error => fill(this.message, failureNotice(error, failure, [image.name])),
         });
     }
 

@@ -1,8 +1,8 @@
 // The tab Files, which lists the files of the disc in their folders, and which of them the script patches.
 
-import { filesLines } from '../../core/iso/index.js';
+import { filesLines } from '../../core/iso/views.js';
 import { patchedExtents, placeOfLength } from '../../core/tasks/index.js';
-import { visible } from '../../core/texts/index.js';
+import { visible } from '../../core/texts/views.js';
 import { writesOf } from '../app/index.js';
 import * as texts from '../texts/index.js';
 import { counted, format, remarkText } from '../texts/index.js';
@@ -56,8 +56,12 @@ export class FilesList {
     /** @param {boolean} looked whether the files of the open image were looked for */
     take(looked) {
         const { files } = this.app;
-        [this.looked, this.known, this.all] = [looked, files !== null, files === null ? [] : listed(files.files)];
-        [this.from, this.chosen, this.filter.value] = [0, null, ''];
+        this.looked = looked;
+        this.known = files !== null;
+        this.all = files === null ? [] : listed(files.files);
+        this.from = 0;
+        this.chosen = null;
+        this.filter.value = '';
         this.opened = new Set(this.all.length > ROWS ? [] : this.all.map(folderOf));
         this.jobs.forget();
         this.noteScript();
@@ -107,10 +111,11 @@ export class FilesList {
     /** The headings, which sort the files. */
     drawHead() {
         const { by, step } = this.order;
+        const [order, arrow] = step > 0 ? ['ascending', ' ▴'] : ['descending', ' ▾'];
         fill(this.head, ...COLUMNS.map(([column, name]) => keyed(column, element('th', { class: column === 'path' ? null : 'n',
-            'aria-sort': column !== by ? null : step > 0 ? 'ascending' : 'descending' },
+            'aria-sort': column === by ? order : null },
         element('button', { type: 'button', class: 'fold', click: () => this.sort(column) }, name,
-            element('span', { 'aria-hidden': 'true' }, column !== by ? '' : step > 0 ? ' ▴' : ' ▾'))))));
+            element('span', { 'aria-hidden': 'true' }, column === by ? arrow : ''))))));
     }
 
     /** @param {Order['by']} by the column whose heading was pressed */

@@ -1,6 +1,6 @@
 // The card under the map: findings grouped into places, files, runs of one kind, and the output of the program.
 
-import { auditText, kindRuns, listText } from '../../core/sectors/index.js';
+import { auditText, kindRuns, listText } from '../../core/sectors/views.js';
 import { surveyedTrack } from '../../core/tasks/index.js';
 import { MARK, lookOf, lookOfKind } from '../app/index.js';
 import { downloadText } from '../save/index.js';

@@ -1,8 +1,8 @@
 // Draws the bytes of a sector: lines of hexadecimal digits, with their text beside them.
 
 import { SECTOR_SIZE, USER_SIZE } from '../../core/module/index.js';
-import { USER_OFFSET } from '../../core/sectors/index.js';
-import { charactersFrom } from '../../core/texts/index.js';
+import { USER_OFFSET } from '../../core/sectors/views.js';
+import { charactersFrom } from '../../core/texts/views.js';
 import { columnLabel, signOf } from '../text/index.js';
 import * as texts from '../texts/index.js';
 import { format } from '../texts/index.js';
@@ -153,5 +153,6 @@ function textCells({ bytes, mode1, crossings, encoding }) {
  * @param {boolean} suspect
  */
 function textCell(at, text, isSeen, suspect) {
-    return element(isSeen ? suspect ? 'u' : 'span' : 'em', { 'data-at': at }, text);
+    const seen = suspect ? 'u' : 'span';
+    return element(isSeen ? seen : 'em', { 'data-at': at }, text);
 }

@@ -1,7 +1,7 @@
 // The view of the bytes of a sector: in hex and as text, with the selection, and a strip of the whole sector beside them.
 
 import { SECTOR_SIZE } from '../../core/module/index.js';
-import { USER_OFFSET } from '../../core/sectors/index.js';
+import { USER_OFFSET } from '../../core/sectors/views.js';
 import * as texts from '../texts/index.js';
 import { format } from '../texts/index.js';
 import { element, fill, styleValue } from '../ui/index.js';
@@ -193,7 +193,8 @@ export class HexView {
         for (const { name, from, to } of fields) {
             for (let at = from; at < to; at++) {
                 const plain = name === 'user' && bytes[at] === 0 ? colours.empty : colours[name];
-                context.fillStyle = crossings.has(at) ? suspect : bytes[at] !== old[at] ? changed : plain;
+                const own = bytes[at] !== old[at] ? changed : plain;
+                context.fillStyle = crossings.has(at) ? suspect : own;
                 context.fillRect(at % 16, Math.floor(at / 16), 1, 1);
             }
         }

@@ -2,4 +2,4 @@
 
 export { dumpWords } from './known_dumps.js';
 export { mountDisc } from './panel.js';
-export { isAllOver, otherBase, placesOf } from './places.js';
+export { otherBase, placesOf } from './places.js';

@@ -1,6 +1,6 @@
 // Lists of known dumps (DAT, Logiqx XML), by which the disc is identified. A list is kept as long as the page is open.
 
-import { KnownDumps, beginsLikeDat } from '../../core/disc/index.js';
+import { KnownDumps, beginsLikeDat } from '../../core/disc/views.js';
 import { fileReader } from '../open/index.js';
 import * as texts from '../texts/index.js';
 import { format, say } from '../texts/index.js';
@@ -35,8 +35,8 @@ async function takeList(app, file) {
         await known.add(piecesOf(file));
         app.addDumps(known);
         const use = () => {
-            const next = app.image !== null ? texts.discImageIsLookedUp
-                : byId('list').hidden ? texts.discOpenToLookUp : texts.discListIsLookedUp;
+            const others = byId('list').hidden ? texts.discOpenToLookUp : texts.discListIsLookedUp;
+            const next = app.image === null ? others : texts.discImageIsLookedUp;
             showNotice('good', say(texts.discFileLoaded, { name: nameOf(file.name) }),
                 `${format(texts.discDumpsListed, { n: known.dumps.size })} ${next}`);
         };

@@ -143,7 +143,8 @@ export class DiscMap {
             const look = looks.find(it => it.mark === marks[from + i]);
             const cell = element('li', { class: from + i === this.at ? 'here' : null, 'data-sector': from + i }, look ? look.letter : '');
             const isShaded = marks[from + i] === MARK.MODE1 && this.shades[from + i] === 1;
-            cell.style.background = `var(${isShaded ? SHADE : look ? look.colour : '--sunk'})`;
+            const colour = look ? look.colour : '--sunk';
+            cell.style.background = `var(${isShaded ? SHADE : colour})`;
             return cell;
         });
         fill(this.loupe, ...cells);

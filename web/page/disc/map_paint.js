@@ -152,7 +152,8 @@ function paintCell(pixels, { cell, columns, width }, place, mark, { colours, sun
     const gap = cell > 6 ? 1 : 0;
     for (let y = top; y < top + cell - gap; y++) {
         for (let x = left; x < left + cell - gap; x++) {
-            pixels[y * width + x] = mark !== MARK.UNREAD ? colours[mark] : (x + y) % 6 === 0 ? line : sunk;
+            const unread = (x + y) % 6 === 0 ? line : sunk;
+            pixels[y * width + x] = mark !== MARK.UNREAD ? colours[mark] : unread;
         }
     }
 }

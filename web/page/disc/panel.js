@@ -1,6 +1,6 @@
 // The panel Disc: the map and the findings on the left, a sector on the right.
 
-import { filesAt } from '../../core/iso/index.js';
+import { filesAt } from '../../core/iso/views.js';
 import { shadesOf } from '../app/index.js';
 import { SecondCard } from '../second/index.js';
 import * as texts from '../texts/index.js';
@@ -170,7 +170,8 @@ function tipOf(app, sector) {
     const block = survey.block + sector;
     const { kind, finding, codes, damaged } = sectorWords(app, survey, sector);
     const file = fileWords(app, block);
-    return [`${blockWords(block)} · ${finding === '' ? kind : damaged ? texts.discIsDamaged : finding}`,
+    const found = damaged ? texts.discIsDamaged : finding;
+    return [`${blockWords(block)} · ${finding === '' ? kind : found}`,
         [...damaged ? [codes] : [], format(texts.discAddressOfSector, { address: addressOf(app, block) })].join(' · '),
         ...file === '' ? [] : [file]];
 }

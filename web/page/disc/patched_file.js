@@ -2,7 +2,7 @@
 
 import { readBytes } from '../../core/bytes.js';
 import { RESULT, SECTOR_SIZE } from '../../core/module/index.js';
-import { pieceReader } from '../../core/piece_reader.js';
+import { pieceReader } from '../../core/readers/views.js';
 import { applyInMemory, patchedExtents, placesOfFile } from '../../core/tasks/index.js';
 import { linesIn, scriptOfLines } from '../app/index.js';
 

@@ -88,11 +88,12 @@ export function placeGuess(place, isElsewhere, known) {
     const inRow = count === last - first + 1;
     const row = { count: String(count) };
     if (isElsewhere) return texts.discAnotherBase;
-    if (counts[MARK.ADDRESS] === count) return inRow && count > 1 ? format(texts.discRowSpliced, row) : texts.discNotDamage;
+    if (counts[MARK.ADDRESS] === count) return inRow && count > 1 ? format(texts.discRowShifted, row) : texts.discNotDamage;
     if (count === 1) return counts[MARK.PARITY] === 1 ? texts.discSingleSectorUserDataFit : texts.discSingleSector;
-    if (inRow && count >= 8) return format(texts.discRowOnPurpose, row);
+    if (inRow && count >= 8) return format(counts[MARK.LOST] === count ? texts.discRowLost : texts.discRowOnPurpose, row);
     const allOver = isAllOver(place, known);
-    const what = inRow ? format(texts.discSectorsInRow, row) : allOver ? texts.discSingleSectorsAllOver : texts.discSingleSectors;
+    const single = allOver ? texts.discSingleSectorsAllOver : texts.discSingleSectors;
+    const what = inRow ? format(texts.discSectorsInRow, row) : single;
     return distanceGuess(place, allOver) || (counts[MARK.PARITY] === count ? format(texts.discUserDataFit, { what }) : what);
 }
 

@@ -1,8 +1,8 @@
 // The card of one sector: its fault in words, its fields, its bytes, and the chosen byte.
 
-import { filesAt } from '../../core/iso/index.js';
+import { filesAt } from '../../core/iso/views.js';
 import { SECTOR_KIND, USER_SIZE } from '../../core/module/index.js';
-import { USER_OFFSET, isSound } from '../../core/sectors/index.js';
+import { USER_OFFSET, isSound } from '../../core/sectors/views.js';
 import { sectorOfSecond } from '../second/index.js';
 import { bindEncodings, chosenEncoding, encodingLabel } from '../text/index.js';
 import * as texts from '../texts/index.js';
@@ -201,8 +201,8 @@ export class SectorCard {
         }
         this.drawKeys(isUser);
         this.field.draw(view, isUser);
-        const hint = isUser ? `${texts.sectorChangeIsLine}${this.damageHint()}`
-            : shown.mode1 ? texts.sectorEdcFollowsFromData : texts.sectorOnlyModeOneChanges;
+        const unchanged = shown.mode1 ? texts.sectorEdcFollowsFromData : texts.sectorOnlyModeOneChanges;
+        const hint = isUser ? `${texts.sectorChangeIsLine}${this.damageHint()}` : unchanged;
         fill(this.foot, fault !== '' && element('b', { class: 'bad-ink' }, fault), ...parts, element('span', {}, hint));
     }
 

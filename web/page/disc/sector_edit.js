@@ -1,10 +1,10 @@
 // Edits the bytes of a sector with keys, copy, and paste.
 
-import { encodeText } from '../../core/encodings/index.js';
+import { encodeText } from '../../core/encodings/views.js';
 import { bytesOfHex } from '../../core/hex_digits.js';
 import { SECTOR_SIZE } from '../../core/module/index.js';
-import { USER_OFFSET } from '../../core/sectors/index.js';
-import { charactersFrom } from '../../core/texts/index.js';
+import { USER_OFFSET } from '../../core/sectors/views.js';
+import { charactersFrom } from '../../core/texts/views.js';
 import { ownFault } from '../../sentences/index.js';
 import { chosenEncoding, signOf } from '../text/index.js';
 import * as texts from '../texts/index.js';

@@ -1,8 +1,8 @@
 // The fault of a sector in words: first the program's line, then what it means.
 
 import { RECORD, SECTOR_KIND, SECTOR_SIZE, USER_SIZE } from '../../core/module/index.js';
-import { firstLinesOf, lineText } from '../../core/script/index.js';
-import { USER_OFFSET, addressIn, addressText, isDamagedMode2, isSoundMode2 } from '../../core/sectors/index.js';
+import { firstLinesOf, lineText } from '../../core/script/views.js';
+import { USER_OFFSET, addressIn, addressText, isDamagedMode2, isSoundMode2 } from '../../core/sectors/views.js';
 import { MARK, mode2Verdict } from '../app/index.js';
 import { repairOf } from '../second/index.js';
 import * as texts from '../texts/index.js';
@@ -68,9 +68,9 @@ function placeWords(first, last = first) {
  */
 function crossingWords({ crossings, ...counts }, either) {
     const codes = format(either ? texts.sectorCodesDoNotFitEither : texts.sectorCodesDoNotFit, counts);
-    const [count, first, last] = [crossings.length, crossings[0], crossings[crossings.length - 1]];
+    const count = crossings.length;
     if (count === 0) return say(texts.sectorTheyCrossNowhere, { codes });
-    const place = placeWords(first, last);
+    const place = placeWords(crossings[0], crossings[count - 1]);
     return count > 1 ? say(texts.sectorTheyCross, { codes, count: String(count), place }) : say(texts.sectorTheyCrossOnce, { codes,
         place });
 }
@@ -200,7 +200,8 @@ function otherKind(app, block, sector) {
 function mode2Sector(app, block, found, copies) {
     const isTaken = copies === 'taken' || copies === 'doubtful';
     const isBad = isDamagedMode2(found);
-    return element('div', { class: `say ${isBad ? 'bad' : isSoundMode2(found) ? 'good' : ''} thin` }, element('b', {}, mode2Verdict(found)),
+    const tone = isSoundMode2(found) ? 'good' : '';
+    return element('div', { class: `say ${isBad ? 'bad' : tone} thin` }, element('b', {}, mode2Verdict(found)),
         ` ${texts.sectorOnlyLookedAt}`, isTaken && soundCopy(app, copies),
         isBad && !isTaken && noCopy(app, copies), isBad && !isTaken && element('div', { class: 'row' }, repairButton(app)));
 }

@@ -1,7 +1,7 @@
 // The fields of a sector, as the sector view shows them.
 
 import { DIAGONALS, SECTOR_KIND, SECTOR_SIZE } from '../../core/module/index.js';
-import { FIELDS as AT } from '../../core/sectors/index.js';
+import { FIELDS as AT } from '../../core/sectors/views.js';
 import * as texts from '../texts/index.js';
 
 /** @typedef {import('./hex_lines.js').Field} Field */

@@ -1,7 +1,7 @@
 // Describes a sector in words: its kind, and its finding as the program prints it.
 
 import { RECORD, RECORD_SIZE } from '../../core/module/index.js';
-import { addressText, findingOf } from '../../core/sectors/index.js';
+import { addressText, findingOf } from '../../core/sectors/views.js';
 import { MARK, lookOfKind, mode2Finding } from '../app/index.js';
 import * as texts from '../texts/index.js';
 import { format } from '../texts/index.js';

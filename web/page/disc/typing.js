@@ -1,6 +1,6 @@
 // Converts bytes that are typed in the sector view to lines of the script.
 
-import { lineText } from '../../core/script/index.js';
+import { lineText } from '../../core/script/views.js';
 
 /** @typedef {import('../app/state.js').App} App */
 
@@ -38,7 +38,12 @@ export class Typing {
     type(block, offset, bytes, before) {
         const place = offset - this.offset;
         const goesOn = block === this.block && place >= 0 && place <= this.fresh.length && this.stands();
-        if (!goesOn) Object.assign(this, { block, offset, fresh: [], old: [] });
+        if (!goesOn) {
+            this.block = block;
+            this.offset = offset;
+            this.fresh = [];
+            this.old = [];
+        }
         const at = goesOn ? place : 0;
         bytes.forEach((byte, i) => {
             if (at + i === this.fresh.length) this.old.push(before[i]);

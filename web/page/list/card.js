@@ -1,15 +1,17 @@
 // The card with the list of several files: what was found in each, in the columns of `cdscript scan`.
 
 import { bytesOfLines } from '../../core/bytes.js';
-import { KnownDumps } from '../../core/disc/index.js';
-import { COLUMN, NOT_TESTED, NO_IMAGE, listedColumns } from '../../core/tasks/index.js';
+import { KnownDumps } from '../../core/disc/views.js';
+import { COLUMN, listedColumns } from '../../core/tasks/index.js';
 import { sentenceOf } from '../../sentences/index.js';
+import { jobAt } from '../app/index.js';
 import { dumpWords } from '../disc/index.js';
+import { unlessEnded } from '../open/index.js';
 import { downloadBytes } from '../save/index.js';
 import * as texts from '../texts/index.js';
 import { format, playerTexts, remarkText } from '../texts/index.js';
 import { announce, button, byId, capital, copyButton, countsRow, element, endMessages, fill, focusAgain, hashParts } from '../ui/index.js';
-import { isCancelled, jobBar, nameOf, noteLongJob, notice, oneTabStop, sentence } from '../ui/index.js';
+import { isCancelled, nameOf, notice, oneTabStop, sentence } from '../ui/index.js';
 import { examineFiles } from './examine.js';
 
 /** @typedef {import('../app/state.js').App} App */
@@ -32,7 +34,6 @@ class FileList {
         this.app = app;
         /** @type {Examined[]} */
         this.found = [];
-        this.running = new AbortController();
         this.part = byId('list');
         this.job = element('div', { class: 'stack' });
         this.counts = element('div');
@@ -44,7 +45,7 @@ class FileList {
         oneTabStop(table, 'tbody button');
         fill(this.part, element('header', {}, element('h2', {}, texts.listTitle),
             copyButton('slim bare', () => this.text(), texts.textCopyAsTable), button('slim', () => this.save(), texts.listSave),
-            button('slim bare', () => this.close(), playerTexts.close)),
+            button('slim bare away', () => this.close(), playerTexts.close)),
         element('div', { class: 'pad stack' }, this.job, this.counts), table);
         app.on('dumps', () => this.draw());
         app.on('panel', () => this.show());
@@ -90,10 +91,9 @@ class FileList {
     }
 
     close() {
-        this.running.abort();
+        this.app.endJobAt(this.job);
         this.found = [];
         fill(this.job);
-        noteLongJob(texts.listExamining, null);
         this.show();
         focusAgain(null);
     }
@@ -103,35 +103,22 @@ class FileList {
      * @param {File[]} files
      */
     async examine(files) {
-        this.running.abort();
-        const running = new AbortController();
-        const { signal } = running;
-        [this.running, this.found] = [running, []];
         const all = files.reduce((sum, { size }) => sum + size, 0);
-        const ended = (/** @type {Node | null} */ words) => {
-            if (this.running !== running) return;
-            fill(this.job, words);
-            noteLongJob(texts.listExamining, null);
-        };
-        const cancel = () => {
-            running.abort();
-            ended(notice('plain', texts.discJobCancelled, format(texts.listExamined, { done: this.done(), n: files.length })));
-        };
-        const bar = jobBar(texts.listExamining, cancel, { isNoted: true });
-        fill(this.job, ...bar.parts);
-        this.draw();
-        this.app.showPanel('disc');
-        this.part.scrollIntoView({ block: 'nearest' });
-        try {
-            const needsMd5 = this.known()?.needs.md5 === true;
-            const watch = { signal, progress: (/** @type {number} */ done) => bar.at(done, all), take: (/** @type {Examined} */ it) =>
-                this.add(it, signal) };
-            await examineFiles(this.app, files, needsMd5, watch);
-            ended(null);
-            announce(format(texts.listExamined, { done: this.done(), n: files.length }));
-        } catch (error) {
-            if (!isCancelled(error)) ended(notice('bad', sentence(error)));
-        }
+        const words = () => format(texts.listExamined, { done: this.done(), n: files.length });
+        await jobAt(this.app, this.job, {
+            name: texts.listExamining, replaces: true, run: (bar, signal) => {
+                this.found = [];
+                this.draw();
+                this.app.showPanel('disc');
+                this.part.scrollIntoView({ block: 'nearest' });
+                const needsMd5 = this.known()?.needs.md5 === true;
+                const take = (/** @type {Examined} */ it) => this.add(it, signal);
+                return unlessEnded(signal, examineFiles(this.app, files, needsMd5, { signal, progress: done => bar.at(done, all), take }));
+            },
+            done: () => announce(words()),
+            failed: error => fill(this.job, isCancelled(error) ? notice('plain', texts.discJobCancelled, words())
+                : notice('bad', sentence(error))),
+        });
     }
 
     /** How many files were examined. */
@@ -158,7 +145,7 @@ class FileList {
 
     drawCounts() {
         const counts = { sound: 0, wrong: 0, untested: 0, other: 0, fault: 0 };
-        for (const { summary } of this.found) counts[summary ? resultOf(this.columns(summary, null)) : 'fault'] += 1;
+        for (const { summary } of this.found) counts[summary ? resultOf(summary) : 'fault'] += 1;
         /** @type {[number, string, string][]} */
         const shown = [[counts.sound, texts.listWithout, 'good-ink'], [counts.wrong, texts.listWith, 'bad-ink'],
             [counts.untested, texts.listUntested, ''], [counts.other, format(texts.listOther, { n: counts.other }), ''],
@@ -187,13 +174,13 @@ class FileList {
 }
 
 /**
- * What the columns of a file say of it. What was not tested is not sound.
- * @param {string[]} columns
+ * What the verdict on a file says of it. A file that was not tested is not sound.
+ * @param {import('../../core/tasks/file_summary.js').FileSummary} file
  */
-function resultOf(columns) {
-    if (columns[COLUMN.KINDS].startsWith(NO_IMAGE)) return 'other';
-    if (columns[COLUMN.FINDINGS] === NOT_TESTED) return 'untested';
-    return columns[COLUMN.FINDINGS] === '0' ? 'sound' : 'wrong';
+function resultOf({ kind, verdict: { level } }) {
+    if (kind !== 'image') return 'other';
+    if (level === 'nothing') return 'untested';
+    return level === 'sound' ? 'sound' : 'wrong';
 }
 
 /** @param {App} app */

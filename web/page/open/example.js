@@ -1,6 +1,6 @@
 // Generates an example disc for users without one: 300 sectors with a small volume, a Japanese text, a scratch, and some audio.
 
-import { CP932, encodeText } from '../../core/encodings/index.js';
+import { CP932, encodeText } from '../../core/encodings/views.js';
 import { SECTOR_SIZE, USER_SIZE } from '../../core/module/index.js';
 import { openExampleName } from '../texts/index.js';
 

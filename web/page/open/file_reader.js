@@ -6,7 +6,7 @@ import { isCancelled, shownName } from '../ui/index.js';
 import { ownFault } from '../../sentences/index.js';
 
 /** @typedef {import('../../core/bytes.js').Reader} Reader */
-/** @typedef {import('../../core/crew/crew.js').Crew} Crew */
+/** @typedef {import('../../core/pool/pool.js').Pool} Pool */
 
 /** Bytes of a slice if reads follow one another, and how many slices are requested while one is used. */
 const SLICE_SIZE = 1 << 24;
@@ -36,20 +36,28 @@ export function fileReader(file) {
 }
 
 /**
- * The same reader, except that idle workers of the crew read whole slices when it is read forward.
+ * A file with its reader, for the tasks of the core.
+ * @param {File} file
+ */
+export function discFileOf(file) {
+    return { name: file.name, reader: fileReader(file) };
+}
+
+/**
+ * The same reader, except that idle workers of the pool read whole slices when it is read forward.
  * @param {Reader} reader
- * @param {Pick<Crew, 'readLent'>} crew
+ * @param {Pick<Pool, 'readLent'>} pool
  * @param {{ aborted: boolean }} signal which ends a read even if no worker answers
  * @returns {Reader}
  */
-export function readByWorkers(reader, crew, signal) {
+export function readByWorkers(reader, pool, signal) {
     const { lent } = reader;
     const file = fileOf(reader);
     if (file === null || lent === undefined) return reader;
     const read = cutting(file);
     return { ...reader, forward: () => forwardReader(file, async (at, length) => {
         if (length < SLICE_SIZE || at + length > file.size) return read(at, length);
-        return await unlessEnded(/** @type {AbortSignal} */ (signal), crew.readLent(lent(at, length))) || read(at, length);
+        return await unlessEnded(/** @type {AbortSignal} */ (signal), pool.readLent(lent(at, length))) || read(at, length);
     }) };
 }
 
@@ -80,7 +88,7 @@ function forwardReader(file, cut) {
  * @param {Promise<T>} work
  * @returns {Promise<T>}
  */
-function unlessEnded(signal, work) {
+export function unlessEnded(signal, work) {
     if (signal.aborted) return Promise.reject(cancelled());
     if (!signal.addEventListener) return work;
     return new Promise((resolve, reject) => {

@@ -1,6 +1,6 @@
 // Opening files.
 
-export { fileOf, fileReader, isSameFile, readByWorkers } from './file_reader.js';
+export { discFileOf, fileOf, fileReader, isSameFile, readByWorkers, unlessEnded } from './file_reader.js';
 export { imageOfTrack, mountOpening } from './open.js';
 export { swapImages } from './second_sheet.js';
 export { filesNamedBy } from './several.js';

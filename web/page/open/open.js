@@ -1,12 +1,11 @@
 // Opens files, and uses each according to its kind.
 
 import { readBytes } from '../../core/bytes.js';
-import { kindOfFile, openDisc } from '../../core/disc/index.js';
-import { encodingOf, textOfFile } from '../../core/encodings/index.js';
+import { knownFiles, openKnown } from '../../core/disc/views.js';
+import { encodingOf, textOfFile } from '../../core/encodings/views.js';
 import { Fault, failedBy } from '../../core/faults.js';
-import { MOST_SCRIPT_BYTES, MOST_SECTORS, SECTOR_KIND, SECTOR_SIZE, sectorCount } from '../../core/module/index.js';
-import { isMeantAsScript, isScript, modelInParts } from '../../core/script/index.js';
-import { imageTooLong } from '../../core/sectors/index.js';
+import { MOST_SCRIPT_BYTES, SECTOR_KIND, SECTOR_SIZE, sectorCount } from '../../core/module/index.js';
+import { isMeantAsScript, isScript, modelInParts } from '../../core/script/views.js';
 import { OpenedTrack, openTrack } from '../../core/tasks/index.js';
 import { isLong } from '../app/index.js';
 import * as texts from '../texts/index.js';
@@ -15,12 +14,13 @@ import { button, byId, copyable, element, endMessages, fill, messageParts, nameO
 import { refuseWhileSaving, showFailure, showNotice } from '../ui/index.js';
 import { mountChoosing } from './choosing.js';
 import { exampleFile } from './example.js';
-import { fileReader } from './file_reader.js';
+import { discFileOf, fileReader } from './file_reader.js';
 import { takeSecond } from './second_sheet.js';
 import { discsAmong } from './several.js';
 import { readImage } from './survey_image.js';
 
 /** @typedef {import('../../core/disc/disc.js').Disc} Disc */
+/** @typedef {import('../../core/disc/disc.js').KnownFile} KnownFile */
 /** @typedef {import('../app/state.js').Aim} Aim */
 /** @typedef {import('../app/state.js').App} App */
 /** @typedef {import('../app/state.js').Image} Image */
@@ -51,6 +51,8 @@ async function openFiles(app, files, aim, waiting) {
     if (files.length === 0) return;
     endMessages();
     const { services, image } = app;
+    /** @type {KnownFile[]} */
+    const known = [];
     try {
         /** @type {string[]} */
         const kinds = [];
@@ -59,14 +61,15 @@ async function openFiles(app, files, aim, waiting) {
         const others = files.filter((_, i) => kinds[i] === '');
         // A patcher among them is now shown in place of the panels, and gets the image.
         if (app.services !== services) return await app.open(others);
-        const { sheet, second } = others.length === 0 ? NOTHING : await openImages(app, others);
+        known.push(...await knownFiles(app.calls, others.map(discFileOf)));
+        const { sheet, second } = others.length === 0 ? NOTHING : await openImages(app, others, known);
         showNext(app, aim, kinds.includes('script'), image === null);
         sayLeftOut(others, sheet);
         if (second !== null) await takeSecond(app, second, aim);
         await useWaiting(app, waiting);
         if (waiting.some(it => !earlier.has(it))) sayWaiting(app, waiting);
     } catch (error) {
-        await showOpeningFailure(app, files, error);
+        showOpeningFailure(app, files, known, error);
     }
     return undefined;
 }
@@ -90,8 +93,9 @@ async function useWaiting(app, waiting) {
  * @param {Waiting[]} waiting
  */
 function sayWaiting(app, waiting) {
-    const [names, n] = [waiting.map(({ name }) => name), waiting.length];
-    showNotice('plain', say(texts.openWaitForImage, { names: namesOf(names), n }), format(texts.openThenTheyAreUsed, { n }),
+    const names = namesOf(waiting.map(({ name }) => name));
+    const n = waiting.length;
+    showNotice('plain', say(texts.openWaitForImage, { names, n }), format(texts.openThenTheyAreUsed, { n }),
         element('div', { class: 'row' }, button('slim', () => app.choose(''), texts.scriptOpenTheImage)));
 }
 
@@ -166,13 +170,14 @@ const NOTHING = { sheet: /** @type {Image | null} */ (null), second: /** @type {
  * `second`.
  * @param {App} app
  * @param {File[]} files
+ * @param {KnownFile[]} known the same files
  */
-async function openImages(app, files) {
+async function openImages(app, files, known) {
     const names = files.map(file => file.name);
     if (refuseWhileSaving(app, names)) return NOTHING;
     const different = new Set(names.map(name => name.toLowerCase())).size;
     if (different < names.length) throw new Fault('disc/own', { sentence: texts.openSameName });
-    const { areMany, areTwo: two } = await discsAmong(app, files);
+    const { areMany, areTwo: two } = discsAmong(known);
     if (areMany) {
         app.services.list(files);
         return NOTHING;
@@ -182,7 +187,7 @@ async function openImages(app, files) {
         throw new Fault('disc/own', { sentence: format(texts.openIsOpenAlready, { name: app.image.name, one, other }) });
     }
     const images = [];
-    for (const group of two ? [[files[0]], [files[1]]] : [files]) images.push(await openedImage(app, group));
+    for (const group of two ? known.map(it => [it]) : [known]) images.push(imageOfTrack(await openKnown(app.calls, group), null));
     const sheet = two ? null : images[0];
     if (app.image === null) readImage(app, images.shift() || null);
     return { sheet, second: images[0] || null };
@@ -203,32 +208,19 @@ function sayLeftOut(files, image) {
 }
 
 /**
- * @param {App} app
- * @param {File[]} files
- */
-async function openedImage(app, files) {
-    const disc = await openDisc(app.calls, files.map(file => ({ name: file.name, reader: fileReader(file) })));
-    const sheet = files.find(file => file.name === disc.sheet);
-    return imageOfTrack(disc, sheet ? textOfFile(await readBytes(fileReader(sheet), 0, sheet.size)) : '', null);
-}
-
-/**
  * The image that contains a track of a disc: the track of the given number, or the first with data; on an audio disc, the first that is
  * open.
  * @param {Disc} disc
- * @param {string} sheet
  * @param {number | null} number
  * @param {Map<string, string>} [renamed] those of its files that were saved patched, with their new names
  * @returns {Image}
  */
-export function imageOfTrack(disc, sheet, number, renamed = new Map()) {
+export function imageOfTrack(disc, number, renamed = new Map()) {
     const audio = number === null ? audioTrack(disc) : null;
     const opened = audio === null ? openTrack(disc, { track: number }) : new OpenedTrack(disc, audio);
     const { image, part, track } = opened;
-    if (imageTooLong(image.reader.size)) {
-        throw new Fault('disc/own', { sentence: format(texts.openTooManySectors, { most: MOST_SECTORS, name: image.name }) });
-    }
-    return { ...image, opened, part, from: disc.sheet || '', sheet, disc, number: track.number, sha1: '', crc32: '', renamed };
+    const { sheet, sheetText } = disc;
+    return { ...image, opened, part, from: sheet || '', sheet: sheetText, disc, number: track.number, sha1: '', crc32: '', renamed };
 }
 
 /**
@@ -247,14 +239,14 @@ function audioTrack({ files, tracks }) {
  * Reports why files were not opened, with the command that converts a CHD to a raw image.
  * @param {App} app
  * @param {File[]} files
+ * @param {KnownFile[]} known those of them that may be images, as far as they were read
  * @param {unknown} error
  */
-async function showOpeningFailure(app, files, error) {
-    const kinds = files.map(file => kindOfFile(app.calls, fileReader(file)).catch(() => 'unknown'));
-    const packed = files[failedBy(error, 'disc') ? (await Promise.all(kinds)).indexOf('chd') : -1];
+function showOpeningFailure(app, files, known, error) {
+    const packed = failedBy(error, 'disc') ? known.find(({ kind }) => kind === 'chd') : undefined;
     if (packed) {
-        return showNotice('bad', say(texts.openCompressedImage, { name: nameOf(packed.name) }), texts.openMakeRawImage,
-            ...commandFor(packed.name));
+        const { name } = packed.file;
+        return showNotice('bad', say(texts.openCompressedImage, { name: nameOf(name) }), texts.openMakeRawImage, ...commandFor(name));
     }
     if (failedBy(error, 'disc/missing-files')) return showFailure(error);
     const names = [...files.map(file => file.name), app.image ? app.image.name : ''];

@@ -54,12 +54,14 @@ function askFor({ survey }, image, second, words) {
     const jobs = [['repair', say(texts.openRepairItFrom, { name: nameOf(image.name) })],
         ['swap', say(texts.openRepairOtherFrom, { name: nameOf(second.name), other: nameOf(image.name) })],
         ['compare', [texts.openCompareIt]], ['instead', [texts.openItInstead]]];
-    const isDamaged = survey !== null && survey.marks.damaged() > 0;
+    const isDamaged = survey !== null && survey.verdict !== null && survey.verdict.canRepair;
     const { from, to } = commonPart(image, second);
-    const canRepair = from < to && !isSameImage(image, second);
+    const isUntested = survey !== null && survey.over && survey.marks.tested() === 0; // so that it can neither be repaired nor repair
+    const canRepair = from < to && !isSameImage(image, second) && !isUntested;
     const isPossible = { repair: canRepair, swap: canRepair, compare: isSameRange(image, second), instead: true };
     const possible = jobs.filter(([job]) => isPossible[job]);
-    const main = isPossible.repair && isDamaged ? 'repair' : isPossible.compare ? 'compare' : 'instead';
+    const other = isPossible.compare ? 'compare' : 'instead';
+    const main = isPossible.repair && isDamaged ? 'repair' : other;
     return askUser(say(texts.openWhatToDoWith, { name: nameOf(second.name) }), words, possible, main);
 }
 
@@ -83,9 +85,11 @@ function whyNoPair(image, second) {
     if (isSameImage(image, second)) return [texts.openIsImageItself];
     if (isSameRange(image, second)) return [];
     const { from, to, later } = commonPart(image, second);
-    const [name, more] = [nameOf(image.name), second.sectors - image.sectors];
+    const name = nameOf(image.name);
+    const more = second.sectors - image.sectors;
     if (from === to) return say(texts.openIsAnotherPart, { name });
-    const length = more === 0 ? texts.openHasAnotherTail : more > 0 ? texts.openHasMoreSectors : texts.openHasFewerSectors;
+    const sectors = more > 0 ? texts.openHasMoreSectors : texts.openHasFewerSectors;
+    const length = more === 0 ? texts.openHasAnotherTail : sectors;
     const shift = later > 0 ? texts.openLater : texts.openEarlier;
     return [...say(later === 0 ? length : shift, { name, n: Math.abs(later || more) }), ` ${texts.openRepairUsesCommon}`];
 }

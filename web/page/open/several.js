@@ -1,36 +1,34 @@
 // Recognises several discs among files that are opened together. They are listed.
 
-import { wholeOf } from '../../core/bytes.js';
-import { kindOfFile, sheetsOf } from '../../core/disc/index.js';
-import { fileReader } from './file_reader.js';
+import { sheetsOf } from '../../core/disc/views.js';
 
-/** @typedef {import('../app/state.js').App} App */
+/** @typedef {import('../../core/disc/cue.js').Sheet} Sheet */
+/** @typedef {import('../../core/disc/disc.js').KnownFile} KnownFile */
 
 /** As many discs can be opened at once: an image, and a second one. */
 const MOST_OPENED = 2;
 
 /**
- * Those of some files that a cue sheet may name. The core chooses among them. Throws a Fault, `cue`.
- * @param {File} sheet
- * @param {File[]} files
+ * Those of some files that the readings of a cue sheet may name. The core chooses among them.
+ * @template {{ name: string }} T
+ * @param {Sheet[]} readings
+ * @param {T[]} files
  */
-export async function filesNamedBy(sheet, files) {
+export function filesNamedBy(readings, files) {
     const last = (/** @type {string} */ path) => path.replace(/^.*[/\\]/, '').toLowerCase();
-    const named = new Set(sheetsOf(await wholeOf(fileReader(sheet))).flatMap(it => it.files.map(({ name }) => last(name))));
+    const named = new Set(readings.flatMap(it => it.files.map(({ name }) => last(name))));
     return files.filter(({ name }) => named.has(name.toLowerCase()));
 }
 
 /**
  * Whether files are several cue sheets, or more discs than can be opened. A disc is a cue sheet with its files, or an image without one.
  * Also returns whether they are two images that are opened together. Throws a Fault, `cue`.
- * @param {App} app
- * @param {File[]} files
+ * @param {KnownFile[]} files
  */
-export async function discsAmong({ calls }, files) {
-    const kinds = await Promise.all(files.map(file => kindOfFile(calls, fileReader(file))));
-    const sheets = files.filter((_, i) => kinds[i] === 'cue');
-    const named = sheets.length === 1 ? await filesNamedBy(sheets[0], files) : [];
-    const images = files.filter((file, i) => ['raw', 'audio'].includes(kinds[i]) && !named.includes(file));
+export function discsAmong(files) {
+    const sheets = files.flatMap(({ kind, sheet }) => kind === 'cue' && sheet !== null ? [sheet] : []);
+    const named = sheets.length === 1 ? filesNamedBy(sheetsOf(sheets[0]), files.map(({ file }) => file)) : [];
+    const images = files.filter(({ file, kind }) => ['raw', 'audio'].includes(kind) && !named.includes(file));
     return { areMany: sheets.length > 1 || sheets.length + images.length > MOST_OPENED,
-        areTwo: files.length === 2 && kinds.every(kind => kind === 'raw') };
+        areTwo: files.length === 2 && files.every(({ kind }) => kind === 'raw') };
 }

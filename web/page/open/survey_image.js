@@ -1,7 +1,7 @@
 // Reads an image that was opened: surveys its sectors, lists its files, and hashes it.
 
 import { cancelled } from '../../core/faults.js';
-import { foundInSurvey, surveyedTrack } from '../../core/tasks/index.js';
+import { foundInSurvey, surveyedTrack, verdictOf } from '../../core/tasks/index.js';
 import { Summing } from '../app/index.js';
 import { isCancelled, refuseWhileSaving, showFailure } from '../ui/index.js';
 
@@ -34,7 +34,8 @@ export async function readImage(app, image) {
  * @param {(take: (answer: RangeSurvey) => void, shift: number) => Promise<void>} read
  */
 async function surveyBy(app, image, signal, read) {
-    const [survey, track] = [app.beginSurvey(image.base, image.sectors), surveyedTrack(image.opened)];
+    const survey = app.beginSurvey(image.base, image.sectors);
+    const track = surveyedTrack(image.opened);
     let isWhole = false;
     try {
         await read(answer => app.addToSurvey(survey, answer), track.shift);
@@ -43,6 +44,7 @@ async function surveyBy(app, image, signal, read) {
         survey.marks.addMode2(found.mode2Found);
         survey.marks.lose(found.lost);
         survey.lack = found.lack;
+        survey.verdict = verdictOf({ surveys: [found], tail: image.tail });
         if (signal.aborted) throw cancelled();
         isWhole = true;
     } finally {
@@ -58,7 +60,7 @@ async function surveyBy(app, image, signal, read) {
  */
 async function surveyOnly(app, image, signal) {
     const how = { base: image.base, signal };
-    await surveyBy(app, image, signal, (take, shift) => app.crew.share('survey', [image.reader], { shift, mode2: true }, how, take));
+    await surveyBy(app, image, signal, (take, shift) => app.pool.share('survey', [image.reader], { shift, mode2: true }, how, take));
     await listFiles(app, image, signal);
 }
 

@@ -1,20 +1,25 @@
 // Opens the disc of the files that a player chose. A cue sheet and the files that it names may be chosen one after the other.
 
-import { readBytes } from '../../core/bytes.js';
-import { kindOfFile, openDisc } from '../../core/disc/index.js';
-import { textOfFile } from '../../core/encodings/index.js';
-import { fileReader } from '../open/index.js';
+import { knownFiles, openKnown } from '../../core/disc/views.js';
+import { textOfFile } from '../../core/encodings/views.js';
+import { discFileOf, fileOf } from '../open/index.js';
 import { playerTexts as texts, say } from '../texts/index.js';
 import { messageParts, nameOf, notice } from '../ui/index.js';
 
+/** @typedef {import('../../core/disc/disc.js').KnownFile} KnownFile */
 /** @typedef {import('../app/state.js').App} App */
+
+/** @param {KnownFile[]} files */
+function hasSheet(files) {
+    return files.some(({ kind }) => kind === 'cue');
+}
 
 export class ChosenDisc {
     /** @param {App} app */
     constructor(app) {
         this.app = app;
         /** The files of the last choice, unless they were a cue sheet and all files that it names. */
-        this.before = /** @type {File[]} */ ([]);
+        this.before = /** @type {KnownFile[]} */ ([]);
     }
 
     /**
@@ -23,13 +28,14 @@ export class ChosenDisc {
      */
     async open(files) {
         const { before } = this;
-        this.before = files;
-        const [own, other] = await Promise.all([files, before].map(some => this.hasSheet(some)));
-        const together = [...before.filter(({ name }) => files.every(file => file.name !== name)), ...files];
-        const opened = own === other ? await this.opened(files) : await this.opened(together).catch(() => this.opened(files));
+        this.before = [];
+        const own = await knownFiles(this.app.calls, files.map(discFileOf));
+        this.before = own;
+        const together = [...before.filter(({ file }) => own.every(it => it.file.name !== file.name)), ...own];
+        const opened = hasSheet(own) === hasSheet(before) ? await this.opened(own)
+            : await this.opened(together).catch(() => this.opened(own));
         if (opened.disc.sheet !== null) this.before = [];
-        const sheet = opened.files.find(file => file.name === opened.disc.sheet);
-        return { ...opened, sheet: sheet ? await this.sheetText(sheet) : '' };
+        return opened;
     }
 
     /**
@@ -37,25 +43,13 @@ export class ChosenDisc {
      * @param {File} file
      */
     async sheetText(file) {
-        return await this.hasSheet([file]) ? textOfFile(await readBytes(fileReader(file), 0, file.size)) : '';
+        const [{ kind, sheet }] = await knownFiles(this.app.calls, [discFileOf(file)]);
+        return kind === 'cue' && sheet !== null ? textOfFile(sheet) : '';
     }
 
-    /** @param {File[]} files */
+    /** @param {KnownFile[]} files */
     async opened(files) {
-        return { disc: await openDisc(this.app.calls, files.map(file => ({ name: file.name, reader: fileReader(file) }))), files };
-    }
-
-    /**
-     * The kind of each file; '' if it cannot be read.
-     * @param {File[]} files
-     */
-    kinds(files) {
-        return Promise.all(files.map(file => kindOfFile(this.app.calls, fileReader(file)).catch(() => '')));
-    }
-
-    /** @param {File[]} files */
-    async hasSheet(files) {
-        return (await this.kinds(files)).includes('cue');
+        return { disc: await openKnown(this.app.calls, files), files: files.flatMap(({ file }) => fileOf(file.reader) || []) };
     }
 
     /**
@@ -63,11 +57,10 @@ export class ChosenDisc {
      * @param {unknown} error
      * @param {File[]} files
      */
-    async faultOf(error, files) {
+    faultOf(error, files) {
         const names = files.map(file => file.name);
-        const kinds = await this.kinds(files);
-        const iso = names[kinds.indexOf('iso')];
+        const iso = this.before.find(({ kind }) => kind === 'iso');
         return () => iso === undefined ? notice('bad', texts.openNotOpenedYet, ...messageParts(error, names))
-            : notice('bad', say(texts.playerIsoOfPartSectors, { name: nameOf(iso) }), texts.playerNeedsFullDump);
+            : notice('bad', say(texts.playerIsoOfPartSectors, { name: nameOf(iso.file.name) }), texts.playerNeedsFullDump);
     }
 }

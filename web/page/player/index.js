@@ -3,6 +3,6 @@
 export { mountPatchers } from './opened_patcher.js';
 export { pageSource, publishedSource } from './own_text.js';
 export { patcherText } from './patcher.js';
-export { isImageName, isPlainSheet, isSeen } from './patcher_head.js';
+export { MOST_WRITTEN, isImageName, isSeen, plainSheet } from './patcher_head.js';
 export { reasonsOf } from './reason.js';
 export { showPlayer } from './show.js';

@@ -1,8 +1,7 @@
 // Opens patchers: this page, if data follow its last tag, or a file that is dropped on it.
 
-import { kindOfFile } from '../../core/disc/index.js';
-import { isScript } from '../../core/script/index.js';
-import { releaseOf } from '../app/index.js';
+import { kindOfFile } from '../../core/disc/views.js';
+import { isScript } from '../../core/script/views.js';
 import { fileReader } from '../open/index.js';
 import { format, knownLanguage, playerTexts as texts, say, setLanguage } from '../texts/index.js';
 import { byId, clearNotices, element, nameOf, notice, refuseWhileSaving, sentence, showNotice } from '../ui/index.js';
@@ -53,10 +52,9 @@ async function takePatcher(app, file) {
     if (!await isPage(app, file)) return false;
     if (refuseWhileSaving(app, [file.name])) return true;
     const compared = file.size > LARGEST_PATCHER ? null : comparedWithPage(new Uint8Array(await file.arrayBuffer()), pageSource(app.calls));
-    const release = compared === null || compared.same ? '' : await releaseOf(compared.program);
     if (compared === null) showNotice('bad', say(texts.playerNotThisCdpatch, { name: nameOf(file.name) }), texts.playerPageButNoPatcher);
-    else if (compared.text.trim() === '') sayWithoutPatch(compared, release, nameOf(file.name));
-    else await showCompared(app, compared, release, file);
+    else if (compared.text.trim() === '') sayWithoutPatch(compared, nameOf(file.name));
+    else await showCompared(app, compared, file);
     return true;
 }
 
@@ -73,17 +71,11 @@ async function isPage(app, file) {
 
 /**
  * @param {NonNullable<Compared>} compared
- * @param {string} release
  * @param {HTMLElement} name of the file
  */
-function sayWithoutPatch({ same, text }, release, name) {
-    const whole = text === '\n';
-    if (same && whole) return showNotice('good', say(texts.playerThisVeryPage, { name }), texts.playerHoldsNoPatch);
+function sayWithoutPatch({ same, text }, name) {
+    if (same && text === '\n') return showNotice('good', say(texts.playerThisVeryPage, { name }), texts.playerHoldsNoPatch);
     if (same) return showNotice('warn', say(texts.playerThisPageAndSpace, { name }), texts.playerHoldsNoPatch);
-    if (release && whole) {
-        return showNotice('good', say(texts.playerReleaseOfCdpatch, { release, name }),
-            `${texts.playerEarlierRelease} ${texts.playerHoldsNoPatch}`);
-    }
     return showNotice('warn', say(texts.playerNotThisCdpatch, { name }),
         `${texts.playerOtherVersionOrChanged} ${texts.playerHoldsNoPatch}`);
 }
@@ -91,17 +83,14 @@ function sayWithoutPatch({ same, text }, release, name) {
 /**
  * @param {App} app
  * @param {NonNullable<Compared>} compared
- * @param {string} release
  * @param {File} file
  */
-async function showCompared(app, { same, text }, release, file) {
+async function showCompared(app, { same, text }, file) {
     const name = nameOf(file.name);
     try {
         const data = await readPatcherText(app.calls, text);
         const note = () => same ? notice('good', say(texts.playerThisCdpatch, { name }),
             `${texts.playerOnlyPatchRead} ${texts.playerComparisonSaysNothing}`)
-            : release !== '' ? notice('good', say(texts.playerReleaseOfCdpatch, { release, name }),
-                `${texts.playerEarlierRelease} ${texts.playerOnlyPatchReadHere} ${texts.playerComparisonSaysNothing}`)
             : notice('warn', say(texts.playerNotThisCdpatch, { name }),
                 `${texts.playerOtherVersionOrChanged} ${texts.playerOnlyPatchReadHere}`);
         showPlayer(app, data, { note: () => element('div', { id: 'compared' }, note()), back: null });

@@ -135,8 +135,8 @@ function jsonOf(bytes) {
 }
 
 /**
- * Compares a page that was dropped with this one. `same` says whether its first bytes are those of this page, `program` has the bytes
- * before its data, and `text` is the data, with line ends as a browser reads them. Returns null if it has no data.
+ * Compares a page that was dropped with this one. `same` says whether its first bytes are those of this page, and `text` is the data, with
+ * line ends as a browser reads them. Returns null if it has no data.
  * @param {Uint8Array} file
  * @param {string} source the page's own text
  */
@@ -146,7 +146,7 @@ export function comparedWithPage(file, source) {
     const latin = new TextDecoder('latin1');
     const end = same ? own.length : endOfProgram(latin.decode(file));
     if (end === 0) return null;
-    return { same, program: file.subarray(0, end), text: `\n${latin.decode(file.subarray(end)).replace(/\r\n?/g, '\n')}` };
+    return { same, text: `\n${latin.decode(file.subarray(end)).replace(/\r\n?/g, '\n')}` };
 }
 
 /**

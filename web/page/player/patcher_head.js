@@ -1,6 +1,6 @@
 // Checks the head of a patcher's data, which a stranger may have written, and selects what is used of it.
 
-import { sheetOf } from '../../core/disc/index.js';
+import { sheetOf, textOfSheet } from '../../core/disc/views.js';
 import { LAST_BASE, MOST_SECTORS, SECTOR_SIZE } from '../../core/module/index.js';
 import { sheetNaming } from '../save/index.js';
 import { format, isLanguage, playerTexts as texts } from '../texts/index.js';
@@ -17,11 +17,14 @@ const LONGEST_STEM = 120;
 /** The name of a patched image if its patcher has no usable name for it. */
 const OTHER_NAME = 'patched.bin';
 
+/** The most characters of the author's own texts. */
+export const MOST_WRITTEN = { title: 200, author: 200, note: 20000 };
+
 /** @type {Record<string, (value: any) => boolean>} the check of each member of the head */
 const HEAD_FORM = {
-    title: value => isText(value, 200) && isSeen(value),
-    author: value => isText(value, 200),
-    note: value => isText(value, 20000),
+    title: value => isText(value, MOST_WRITTEN.title) && isSeen(value),
+    author: value => isText(value, MOST_WRITTEN.author),
+    note: value => isText(value, MOST_WRITTEN.note),
     name: value => isText(value, 200) && /^[^/\\:*?"<>|\p{Cc}]+$/u.test(value) && !/^\.+$/.test(value),
     cue: value => isText(value, 100000),
     carry: value => typeof value === 'boolean',
@@ -92,15 +95,16 @@ export function isImageName(name) {
 }
 
 /**
- * Whether a cue sheet can be read, and names only files beside it.
+ * A cue sheet written anew from what was read, so that no program can read anything else in it. '' if it cannot be read, or names a file
+ * that is not beside it.
  * @param {string} text
  */
-export function isPlainSheet(text) {
-    if (/[^\P{Cc}\t\r\n]/u.test(text)) return false;
+export function plainSheet(text) {
     try {
-        return [...sheetOf(text).files.map(({ name }) => name), ...textFiles(text)].every(isPlainName);
+        const sheet = sheetOf(text);
+        return sheet.files.every(it => isPlainName(it.name) && /^[0-9A-Z]+$/.test(it.format)) ? textOfSheet(sheet) : '';
     } catch {
-        return false;
+        return '';
     }
 }
 
@@ -110,17 +114,8 @@ function isPlainName(name) {
 }
 
 /**
- * The CD-TEXT files that a cue sheet names. They have no bytes of the disc, but are opened too.
- * @param {string} text
- */
-function textFiles(text) {
-    const lines = text.split(/[\r\n]+/).map(line => line.trim()).filter(line => /^CDTEXTFILE\b/i.test(line));
-    return lines.map(line => line.slice('CDTEXTFILE'.length).replace(/"/g, '').trim());
-}
-
-/**
- * Selects what is used of a valid head. The author's name for the image is replaced if it is not the name of an image, and a cue sheet
- * that an emulator could read differently is dropped.
+ * Selects what is used of a valid head. The author's name for the image is replaced if it is not the name of an image, and the cue sheet
+ * is written anew.
  * @template {Pick<PatcherData, 'name' | 'cue'>} Head
  * @param {Head} head
  * @returns {Head}
@@ -128,5 +123,5 @@ function textFiles(text) {
 export function takenHead(head) {
     const name = isImageName(head.name) ? head.name : OTHER_NAME;
     const cue = head.cue === '' || name === head.name ? head.cue : sheetNaming(head.cue, [[head.name, name]]);
-    return { ...head, name, cue: cue !== '' && isPlainSheet(cue) ? cue : '' };
+    return { ...head, name, cue: plainSheet(cue) };
 }

@@ -1,19 +1,21 @@
 // The page of a patcher, for players: three steps with one button each.
 
-import { isOneTrack, sheetOfOneTrack } from '../../core/disc/index.js';
+import { isOneTrack, sheetOfOneTrack } from '../../core/disc/views.js';
 import { RESULT } from '../../core/module/index.js';
+import { jobAt } from '../app/index.js';
 import { failureOfSaving, saveWork } from '../save/index.js';
 import { format, playerTexts as texts, say } from '../texts/index.js';
-import { askBeforeLeaving, button, clearNotices, element, fill, icon, isCancelled, jobBar, megabytes } from '../ui/index.js';
+import { button, clearNotices, element, fill, icon, isCancelled, jobBar, megabytes } from '../ui/index.js';
 import { nameOf, notice, refuseWhileSaving, verdictLine } from '../ui/index.js';
 import { ChosenDisc } from './chosen_disc.js';
 import { playWords, sheetFor, wordsWithoutSheet } from './play_words.js';
-import { reasonForPlayer, refusalForPlayer, verdictWords } from './reason.js';
+import { comparedWords, reasonForPlayer, refusalForPlayer, verdictWords } from './reason.js';
 import { detailsOf, inLanguage, step } from './steps.js';
 import { authorsWords, moreOf } from './trust_note.js';
 import { imageOfSize, judgeImage } from './verdict.js';
 
 /** @typedef {import('../app/state.js').App} App */
+/** @typedef {import('../app/store.js').RunningJob} RunningJob */
 /** @typedef {import('../../core/disc/disc.js').DiscImage} DiscImage */
 /** @typedef {import('./patcher.js').PatcherData} PatcherData */
 /** @typedef {import('./verdict.js').Judged} Judged */
@@ -36,14 +38,11 @@ export class Player {
         this.chosen = new ChosenDisc(app);
         /** Whether the image looks like a whole disc of one track. */
         this.oneTrack = false;
-        this.leaving = false;
-        this.saving = false;
+        /** The browser's own saving of a file, which ends with the page, null if there is none. */
+        this.kept = /** @type {RunningJob | null} */ (null);
         this.number = 0;
         /** The block of the image's first sector, or null if it is not known. */
         this.base = /** @type {number | null} */ (null);
-        /** Ends the running job. */
-        this.stop = () => {};
-        askBeforeLeaving(() => this.leaving);
         /** @type {HTMLInputElement} */
         this.input = element('input', { type: 'file', id: 'player-files', class: 'hide', multiple: true, tabindex: -1,
             change: () => this.open([...this.input.files || []]) });
@@ -97,31 +96,61 @@ export class Player {
         try {
             const opened = await this.chosen.open(files);
             if (number !== this.number) return;
-            const { sheet, disc } = opened;
-            Object.assign(this, { sheet, files: opened.files, image: imageOfSize(disc, this.data.image.size) });
+            const { disc, files: all } = opened;
+            this.sheet = disc.sheetText;
+            this.files = all;
+            this.image = imageOfSize(disc, this.data.image.size);
             if (this.image) await this.judge(this.image);
         } catch (error) {
-            const fault = isCancelled(error) ? undefined : await this.chosen.faultOf(error, files);
+            const fault = isCancelled(error) ? undefined : this.chosen.faultOf(error, files);
             if (number === this.number) this.become(() => this.start(fault));
         }
     }
 
     /** @param {DiscImage} image */
     async judge(image) {
-        await this.app.runJob(async (signal, cancel) => {
-            const bar = inLanguage(() => jobBar(texts.playerCheckingYourImage, cancel));
-            this.become(() => this.show(step('1', 'now', texts.playerCheckingYourImage,
-                element('p', { class: 'mono' }, nameOf(image.name)), ...bar().parts)));
-            this.stop = cancel;
-            const progress = (/** @type {number} */ done, /** @type {number} */ all) => bar().at(done, all);
-            const judged = await judgeImage(this.app, this.data, image, { signal, progress });
-            if (signal.aborted) return;
-            this.base = judged.work.base;
-            this.oneTrack = this.sheet === '' && await isOneTrack(this.app.calls, image);
-            const first = inLanguage(() => this.doneStep(image, judged));
-            this.become(() => this.judged(image, judged, first));
-            /** @type {HTMLElement | null} */ (this.steps.querySelector('#patch'))?.focus();
+        await jobAt(this.app, this.steps, {
+            name: texts.playerCheckingYourImage, replaces: true,
+            show: job => this.barOf(job, () => texts.playerCheckingYourImage, parts => [step('1', 'now', texts.playerCheckingYourImage,
+                element('p', { class: 'mono' }, nameOf(image.name)), ...parts)]),
+            run: (bar, signal) => judgeImage(this.app, this.data, image, { signal, progress: bar.at }),
+            done: async judged => {
+                this.base = judged.work.base;
+                this.oneTrack = this.sheet === '' && await isOneTrack(this.app.calls, image);
+                const first = inLanguage(() => this.doneStep(image, judged));
+                this.become(() => this.judged(image, judged, first));
+                /** @type {HTMLElement | null} */ (this.steps.querySelector('#patch'))?.focus();
+            },
+            failed: error => { throw error; },
         });
+    }
+
+    /**
+     * Shows the bar of a job in the steps, in the current language.
+     * @param {RunningJob} job
+     * @param {() => string} name
+     * @param {(parts: HTMLElement[]) => HTMLElement[]} steps
+     * @returns {import('../app/jobs.js').Bar}
+     */
+    barOf(job, name, steps) {
+        const note = (/** @type {number} */ percent) => this.app.noteJob(job, percent, name());
+        const bar = inLanguage(() => jobBar(name(), job.cancel, { saves: job.saves, note }));
+        this.become(() => {
+            const [first, ...more] = steps(bar().parts);
+            this.show(first, ...more);
+        });
+        return { at: (done, all) => bar().at(done, all), sectors: (done, all) => bar().sectors(done, all), things: (done, all) =>
+            bar().things(done, all) };
+    }
+
+    /** Ends the running job. */
+    stop() {
+        this.app.endJobAt(this.steps);
+    }
+
+    /** Whether an image is being saved. */
+    get saving() {
+        return this.app.jobAt(this.steps)?.saves === true;
     }
 
     /**
@@ -143,10 +172,11 @@ export class Player {
         const { verdict } = judged;
         const isUnknown = verdict === 'unknown';
         const { tone, words } = verdictWords(verdict, isUnknown ? null : 'verdict');
-        const [name, { size }] = [this.nameLine(image, tone !== 'bad' && !isUnknown), image.reader];
+        const name = this.nameLine(image, tone !== 'bad' && !isUnknown);
+        const { size } = image.reader;
         const rest = isUnknown ? [words] : [words, reasonForPlayer(judged, size, this.data.image.size),
             detailsOf(this.data.image, size, judged)];
-        return step('1', 'done', texts.playerYourDisc, name, ...tone === 'bad' ? [] : rest);
+        return step('1', isUnknown ? 'later' : 'done', texts.playerYourDisc, name, ...tone === 'bad' ? [] : rest);
     }
 
     /**
@@ -217,43 +247,46 @@ export class Player {
         const again = (/** @type {() => Child} */ message) => this.become(() => this.show(first(),
             step('2', 'now', texts.playerPatchIt, message(),
                 button(isFit ? 'main big' : '', () => void this.patch(image, judged, first), texts.playerPatchAndSave))));
-        try {
-            const saved = await app.runSave((signal, cancel) => {
-                const bar = inLanguage(() => jobBar(texts.saveSavingImage, cancel, { saves: true }));
-                this.become(() => this.show(first(), step('2', 'now', say(texts.saveSavingFile, { name: nameOf(data.name) }),
-                    ...bar().parts)));
-                this.leaving = this.saving = true;
-                this.stop = cancel;
-                const progress = (/** @type {number} */ done, /** @type {number} */ all) => bar().at(done, all);
+        await jobAt(app, this.steps, {
+            name: texts.saveSavingImage, saves: true,
+            show: job => this.barOf(job, () => texts.saveSavingImage, parts => [first(), step('2', 'now',
+                say(texts.saveSavingFile, { name: nameOf(data.name) }), ...parts)]),
+            run: (bar, signal) => {
                 const wanted = verdict === 'right' ? data.result : '';
-                return saveWork(app, { ...work, opened: this.files }, data.name, wanted, { signal, progress });
-            });
-            clearNotices();
-            this.leaving = saved !== null && !saved.streamed;
-            if (saved === null) return again(() => notice('plain', texts.playerNoFileChosen, texts.playerNothingWasSaved));
-            this.become(() => this.saved(saved, verdict, first()));
-            return this.goToLast();
-        } catch (error) {
-            clearNotices();
-            this.leaving = false;
-            return again(() => failureOfSaving(error, work.reader.size));
-        } finally {
-            this.saving = false;
-        }
+                return saveWork(app, { ...work, opened: this.files }, data.name, wanted, { signal, progress: bar.at });
+            },
+            done: saved => {
+                clearNotices();
+                this.endKept();
+                if (saved === null) return again(() => notice('plain', texts.playerNoFileChosen, texts.playerNothingWasSaved));
+                if (!saved.streamed) this.kept = app.beginJob({ name: data.name, isLost: true });
+                this.become(() => this.saved(saved, judged, first()));
+                return this.goToLast();
+            },
+            failed: error => {
+                clearNotices();
+                again(() => failureOfSaving(error, work.reader.size));
+            },
+        });
+    }
+
+    endKept() {
+        this.app.endJob(this.kept);
     }
 
     /**
      * @param {Saved} saved
-     * @param {Judged['verdict']} verdict
+     * @param {Judged} judged
      * @param {HTMLElement} first
      */
-    saved({ made, name, size, streamed, sha1 }, verdict, first) {
+    saved({ made, name, size, streamed, sha1 }, judged, first) {
         const refused = made.outcomes.filter(it => it.result !== RESULT.OK).length;
         const head = say(streamed ? texts.saveSaved : texts.saveBrowserIsSaving, { name: nameOf(name) });
         const same = sha1 !== '' && texts.playerExactlyAuthorsImage;
         const wait = !streamed && format(texts.secondKeepPageOpen, { size: megabytes(size) });
         const left = refused > 0 && format(texts.playerPatchesLeftOut, { n: refused });
-        const unknown = verdict === 'unknown' && texts.playerNothingShowedFit;
+        const isCompared = judged.without < judged.patches;
+        const unknown = judged.verdict === 'unknown' && (isCompared ? comparedWords(judged) : texts.playerNothingShowedFit);
         const tone = refused > 0 || unknown ? 'warn' : 'good';
         const message = verdictLine(tone, head, 'saved');
         const rest = [same, wait, left, unknown].map(text => text && element('p', {}, text));

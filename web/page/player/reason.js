@@ -10,7 +10,7 @@ import { element, verdictLine } from '../ui/index.js';
 const VERDICTS = /** @type {const} */ ({
     right: ['good', 'playerRightDisc'],
     fits: ['warn', 'playerOtherDumpFits'],
-    unknown: ['warn', 'playerNotAuthorsDisc'],
+    unknown: ['warn', 'playerCannotTell'],
     other: ['bad', 'playerOtherDumpFitsNot'],
     damaged: ['bad', 'playerDumpDamaged'],
     patched: ['good', 'playerImageIsPatched'],
@@ -61,22 +61,32 @@ export function refusalForPlayer({ patches, refused }, size, wanted) {
 }
 
 /**
+ * How many of the places that could be compared match in an unknown image: all of them, or it would be a different one.
+ * @param {Pick<Judged, 'patches' | 'without'>} judged
+ */
+export function comparedWords({ patches, without }) {
+    if (without === 0) return format(texts.playerPlacesMatchRestUnknown, { n: patches });
+    const places = format(texts.playerPlacesOfPatch, { n: patches });
+    const match = without === patches ? '' : `${format(texts.playerSomePlacesMatch, { n: patches - without, places })} `;
+    return `${match}${format(texts.playerNamesNoOldBytes, { n: without, changes: format(texts.playerPatchCount, { n: patches }) })}`;
+}
+
+/**
  * The text under the verdict on an image that is neither refused nor recognised by its SHA-1.
  * @param {Judged} judged
  * @param {number} size of the image
  * @param {number} wanted the size of the author's
  */
-export function reasonForPlayer({ verdict, patches, without, damaged }, size, wanted) {
+export function reasonForPlayer({ damaged, ...judged }, size, wanted) {
+    const { verdict, patches } = judged;
     const cut = size < wanted ? ` ${texts.playerFileProbablyCut}` : '';
     const sizes = size === wanted ? '' : `${format(texts.playerSizesDiffer, { n: size, wanted })}${cut}`;
     const hurt = damaged === 0 ? '' : format(texts.playerSectorsOfImageDamaged, { n: damaged });
-    const named = without === 0 ? format(texts.playerPlacesMatchRestUnknown, { n: patches })
-        : format(texts.playerNamesNoOldBytes, { n: without, changes: format(texts.playerPatchCount, { n: patches }) });
     /** @type {Record<string, string[]>} */
     const reasons = {
         fits: [format(texts.playerPlacesMatch, { n: patches }), hurt === '' ? texts.playerMusicShiftedPerhaps : texts.playerRestDiffers,
             hurt],
-        unknown: [named, sizes, hurt],
+        unknown: [comparedWords(judged), sizes, hurt],
         changed: [texts.playerNotAuthorsResult, sizes],
     };
     return reasons[verdict] ? element('p', {}, reasons[verdict].filter(it => it !== '').join(' ')) : null;

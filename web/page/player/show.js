@@ -48,13 +48,24 @@ function focusMain(place) {
 }
 
 /**
+ * Opens the script of a patcher in the panels.
+ * @param {App} app
+ * @param {PatcherData} data
+ */
+function openScript(app, data) {
+    app.workOn(data);
+    app.setScript(data.script, `${stemOf(data.title) || 'script'}.txt`, true);
+}
+
+/**
  * Shows a patcher as players see it, in place of the panels. The language is the author's choice, or else the browser's.
  * @param {App} app
  * @param {PatcherData} data
  * @param {PlayerHow} how
  */
 export function showPlayer(app, data, how) {
-    const [place, before] = [byId('player'), /** @type {HTMLElement} */ (document.activeElement)];
+    const place = byId('player');
+    const before = /** @type {HTMLElement} */ (document.activeElement);
     const player = new Player(app, data);
     const giveBack = app.serve({ open: files => player.open(files), dropSays: () => [texts.playerDropToBeChecked] });
     const refused = messageArea();
@@ -70,13 +81,10 @@ export function showPlayer(app, data, how) {
             how.back();
             return before.focus();
         }
-        if (how.back === null) {
-            app.workOn(data);
-            app.setScript(data.script, `${stemOf(data.title) || 'script'}.txt`, true);
-        }
+        if (how.back === null) openScript(app, data);
         app.showPanel('script');
-        if (player.files.length === 0) return undefined;
-        await app.open(player.files);
+        byId('tab-script').focus({ preventScroll: true });
+        if (player.files.length > 0) await app.open(player.files);
         return player.base !== null && app.image && app.image.base !== player.base ? changeBase(app, player.base) : undefined;
     };
     const choice = languageChoice(language => use(language));
@@ -86,7 +94,7 @@ export function showPlayer(app, data, how) {
         setAttribute(choice, 'aria-label', texts.playerLanguage);
         const back = how.back && button('slim', () => void leave(false), texts.playerBackToPublish);
         fill(place, back, choice, how.note(), ...player.parts(), element('p', { class: 'row center' },
-            button('slim bare', () => void leave(true), texts.playerOpenInFullCdpatch)), refused);
+            button('slim bare away', () => void leave(true), texts.playerOpenInFullCdpatch)), refused);
     };
     use(data.language || knownLanguage(navigator.languages));
     document.title = seenTitle(data.title);

@@ -29,9 +29,12 @@ export function step(number, state, title, ...body) {
  * @returns {() => Part}
  */
 export function inLanguage(make) {
-    let [tag, made] = [current.tag, make()];
+    let { tag } = current;
+    let made = make();
     return () => {
-        if (tag !== current.tag) [tag, made] = [current.tag, make()];
+        if (tag === current.tag) return made;
+        ({ tag } = current);
+        made = make();
         return made;
     };
 }

@@ -2,7 +2,7 @@
 
 import { downloadText } from '../save/index.js';
 import { format, playerTexts as texts } from '../texts/index.js';
-import { button, element, seenTitle } from '../ui/index.js';
+import { button, element, seenLines, seenTitle } from '../ui/index.js';
 
 /** @typedef {import('./patcher.js').PatcherData} PatcherData */
 
@@ -19,13 +19,13 @@ export function authorsWords({ title, author, note }) {
         element('p', { class: 'small quiet' }, texts.playerAuthorWrites),
         element('div', {}, element('h1', OWN_LANGUAGE, seenTitle(title)),
             element('p', { class: 'by', dir: 'auto' }, author === '' ? '' : format(texts.playerByAuthor, { author: seenTitle(author) }))),
-        note.trim() === '' ? null : element('p', { class: 'author', ...OWN_LANGUAGE }, note));
+        note.trim() === '' ? null : element('p', { class: 'author', ...OWN_LANGUAGE }, seenLines(note)));
 }
 
 /** @param {PatcherData} data */
 export function moreOf({ script }) {
-    const shown = element('pre', { class: 'log', tabindex: 0, 'aria-label': texts.playerTheScriptItself }, script.slice(0,
-        MOST_SCRIPT_SHOWN));
+    const shown = element('pre', { class: 'log', tabindex: 0, 'aria-label': texts.playerTheScriptItself },
+        seenLines(script.slice(0, MOST_SCRIPT_SHOWN)));
     return element('div', { class: 'stack' }, element('details', { id: 'player-script' }, element('summary', {}, texts.playerReadTheScript),
         shown,
         script.length > MOST_SCRIPT_SHOWN && element('p', {}, texts.playerOnlyItsBeginning),

@@ -3,8 +3,8 @@
 
 import { Fault } from '../../core/faults.js';
 import { RESULT, SECTOR_SIZE } from '../../core/module/index.js';
-import { oldBytesOf, wordsOn } from '../../core/script/index.js';
-import { surveyCounts } from '../../core/sectors/index.js';
+import { oldBytesOf, wordsOn } from '../../core/script/views.js';
+import { surveyCounts } from '../../core/sectors/views.js';
 import { openTrack } from '../../core/tasks/index.js';
 import { sha1Of } from '../app/index.js';
 import { isPatched, tryWork } from '../save/index.js';
@@ -79,10 +79,10 @@ export async function judgeImage(app, data, image, watch) {
  * @param {DiscImage} image
  * @param {JudgeWatch} watch
  */
-async function damagedSectors({ crew }, { reader, base }, { signal, progress }) {
+async function damagedSectors({ pool }, { reader, base }, { signal, progress }) {
     let damaged = 0;
     const counting = (/** @type {number} */ done) => progress(Math.min(done * SECTOR_SIZE, reader.size), reader.size);
-    await crew.share('survey', [reader], {}, { base, signal, progress: counting }, survey => { damaged += surveyCounts(survey).damaged; });
+    await pool.share('survey', [reader], {}, { base, signal, progress: counting }, survey => { damaged += surveyCounts(survey).damaged; });
     return damaged;
 }
 

@@ -1,5 +1,6 @@
-// What the panel Publish says of the open image itself: whether it is sound, and which SHA-1 players compare theirs with.
+// What the panel Publish says of the open image itself: whether it is sound and whole, and which SHA-1 players compare theirs with.
 
+import { verdictText } from '../../sentences/index.js';
 import * as texts from '../texts/index.js';
 import { format, say } from '../texts/index.js';
 import { element, hashParts } from '../ui/index.js';
@@ -26,7 +27,10 @@ export function imageRows({ sha1 }, survey) {
  * @returns {Row}
  */
 function soundRow(survey) {
-    if (survey === null || !survey.over) return ['quiet', texts.publishReadingYourImage];
-    const findings = survey.marks.findings();
-    return findings === 0 ? ['good', texts.publishYourImageSound] : ['warn', format(texts.publishYourImageHasFindings, { n: findings })];
+    if (survey === null || survey.verdict === null) return ['quiet', texts.publishReadingYourImage];
+    const { level, canPublish } = survey.verdict;
+    if (level === 'sound') return ['good', texts.publishYourImageSound];
+    const what = verdictText(survey.verdict);
+    if (!canPublish) return ['bad', format(texts.publishImageNotWhole, { what })];
+    return ['warn', format(texts.publishYourImageHasFindings, { what })];
 }

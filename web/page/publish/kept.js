@@ -1,6 +1,7 @@
 // Keeps the title, author, and note of a patcher as comments of its script, and reads them from there.
 
-import { linesOfText } from '../../core/script/index.js';
+import { linesOfText } from '../../core/script/views.js';
+import { MOST_WRITTEN } from '../player/index.js';
 import * as texts from '../texts/index.js';
 import { button, element, messageArea, notice, showMessageAt } from '../ui/index.js';
 
@@ -9,19 +10,27 @@ import { button, element, messageArea, notice, showMessageAt } from '../ui/index
 
 const KEPT = /^# patcher (title|by|note):(?: (.*))?$/;
 
+/** For each name in a comment, its entry, and what joins the values of several comments. */
+const ENTRY_OF = /** @type {const} */ ({ title: ['title', ' '], by: ['author', ' '], note: ['note', '\n'] });
+
 /**
- * The entries that comments of a script keep, each '' if there is none.
+ * The entries that comments of a script keep, each '' if there is none. One that is too long ends a character after its limit, so that the
+ * form can say so.
  * @param {string} text
  * @returns {Entries}
  */
-export function keptEntries(text) {
-    /** @type {Record<string, string[]>} */
-    const found = { title: [], by: [], note: [] };
+function keptEntries(text) {
+    const found = { title: '', author: '', note: '' };
+    const seen = new Set();
     for (const line of text.includes('# patcher ') ? linesOfText(text) : []) {
-        const [, name = '', value = ''] = KEPT.exec(line) || [];
-        if (name !== '') found[name].push(value);
+        const [, name, value = ''] = KEPT.exec(line) || [];
+        if (name === undefined) continue;
+        const [entry, joint] = ENTRY_OF[/** @type {keyof typeof ENTRY_OF} */ (name)];
+        const most = MOST_WRITTEN[entry];
+        if (found[entry].length <= most) found[entry] = `${found[entry]}${seen.has(name) ? joint : ''}${value}`.slice(0, most + 1);
+        seen.add(name);
     }
-    return { title: found.title.join(' '), author: found.by.join(' '), note: found.note.join('\n') };
+    return found;
 }
 
 /**
@@ -29,7 +38,7 @@ export function keptEntries(text) {
  * @param {Pick<import('../app/script_lines.js').ScriptLines, 'text' | 'head'>} script
  * @param {Entries} entries
  */
-export function withEntries(script, { title, author, note }) {
+function withEntries(script, { title, author, note }) {
     const lines = linesOfText(script.text());
     const [before, after] = [lines.slice(0, script.head + 1), lines.slice(script.head + 1)].map(some => some.filter(it => !KEPT.test(it)));
     const comments = [['title', title], ['by', author], ['note', note]].flatMap(([name, value]) =>

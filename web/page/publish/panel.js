@@ -1,12 +1,12 @@
 // The panel Publish, which saves a copy of this page with the script, for players.
 
-import { OWN, sha1Of } from '../app/index.js';
-import { isImageName, isPlainSheet, isSeen, patcherText, publishedSource, showPlayer } from '../player/index.js';
+import { OWN, jobAt, sha1Of } from '../app/index.js';
+import { MOST_WRITTEN, isImageName, isSeen, patcherText, plainSheet, publishedSource, showPlayer } from '../player/index.js';
 import { download, sheetNaming } from '../save/index.js';
 import { fitWords } from '../script/index.js';
 import * as texts from '../texts/index.js';
 import { LANGUAGES, format, say } from '../texts/index.js';
-import { askBeforeLeaving, button, counted, element, fill, isCancelled, isDisabled, jobBar } from '../ui/index.js';
+import { askBeforeLeaving, button, counted, element, failureNotice, fill, isDisabled } from '../ui/index.js';
 import { messageArea, nameOf, notice, sentence, setDisabled, showMessageAt, stemOf, term } from '../ui/index.js';
 import { imageRows } from './image_rows.js';
 import { KeptEntries } from './kept.js';
@@ -36,16 +36,16 @@ class PublishPanel {
         this.fault = '';
         this.number = 0;
         this.trying = false;
-        this.busy = false;
         /** The size of the patcher in bytes, but for what is typed; 0 if it is not known. */
         this.size = 0;
         /** Whether something was typed that is not in a patcher yet. */
         this.edited = false;
-        const text = (/** @type {string} */ id) => element('input', { type: 'text', id, maxlength: 200, ...PRIVATE,
+        const text = (/** @type {string} */ id) => element('input', { type: 'text', id, maxlength: MOST_WRITTEN.title, ...PRIVATE,
             input: () => this.typed() });
         this.title = text('patcher-title');
         this.author = text('patcher-author');
-        this.note = element('textarea', { id: 'patcher-note', rows: 5, maxlength: 20000, ...PRIVATE, input: () => this.typed() });
+        this.note = element('textarea', { id: 'patcher-note', rows: 5, maxlength: MOST_WRITTEN.note, ...PRIVATE,
+            input: () => this.typed() });
         this.kept = new KeptEntries(app, [this.title, this.author, this.note], () => { this.edited = false; });
         this.name = text('patcher-name');
         this.language = element('select', { id: 'patcher-language', change: () => this.typed() },
@@ -93,11 +93,6 @@ class PublishPanel {
                 this.about, element('p', { class: 'small quiet' }, texts.publishScriptSavedElsewhere)));
     }
 
-    /** @param {...Child} parts that show the progress of a patcher */
-    say(...parts) {
-        fill(this.state, ...parts);
-    }
-
     typed() {
         this.edited = true;
         this.draw();
@@ -108,7 +103,10 @@ class PublishPanel {
      * @param {Pick<PatcherData, 'title' | 'author' | 'note' | 'name' | 'cue' | 'carry' | 'language'>} data
      */
     take({ title, author, note, name, cue, carry, language = undefined }) {
-        [this.title.value, this.author.value, this.note.value, this.name.value] = [title, author, note, name];
+        this.title.value = title;
+        this.author.value = author;
+        this.note.value = note;
+        this.name.value = name;
         this.language.value = language || '';
         this.sheet.checked = cue !== '';
         this.carry.checked = carry;
@@ -140,7 +138,10 @@ class PublishPanel {
         try {
             const tried = await triedOn(this.app, image, this.carry.checked);
             const { size } = await this.patcher(withStandIns(this.data(image, tried.script, ''))).catch(() => ({ size: 0 }));
-            if (number === this.number) Object.assign(this, { tried, size });
+            if (number === this.number) {
+                this.tried = tried;
+                this.size = size;
+            }
         } catch (error) {
             if (number === this.number) this.fault = sentence(error);
         }
@@ -187,7 +188,8 @@ class PublishPanel {
         const go = first > 0 && button('slim bare tiny', () => this.app.goToLine(first - 1),
             format(texts.scriptGoToLine, { line: String(first) }));
         const isWhole = fit.all > 0 && fit.refused.length === 0;
-        return [!isWhole ? 'bad' : fit.named === 0 ? 'warn' : 'good', ...head, ' ', go,
+        const tone = fit.named === 0 ? 'warn' : 'good';
+        return [isWhole ? tone : 'bad', ...head, ' ', go,
             damaged > 0 && ` ${format(texts.publishChangesForDamage, { n: damaged })}`];
     }
 
@@ -199,6 +201,8 @@ class PublishPanel {
     warnings(image, tried) {
         /** @type {[boolean, 'bad' | 'warn', string][]} */
         const all = [
+            [[this.title, this.author, this.note].some(it => it.value.length > it.maxLength), 'bad', format(texts.publishTooLong,
+                { most: counted(MOST_WRITTEN.title), note: counted(MOST_WRITTEN.note) })],
             [!isImageName(this.name.value.trim()), 'bad', format(texts.publishPatchedNameRule, { signs: SIGNS_OF_PATHS })],
             [image.sheet !== '' && this.cueOf(image) === '', 'warn', texts.publishCueSheetNotOffered],
             [this.carry.checked, 'warn', texts.publishDamagedPatchedToo],
@@ -211,26 +215,21 @@ class PublishPanel {
     async publish(saving) {
         const { app, tried } = this;
         const { image } = app;
-        if (image === null || tried === null || this.busy || isDisabled(this.save)) return;
-        this.busy = true;
-        fill(this.message);
-        try {
-            await app.runJob(async (signal, cancel) => {
-                const bar = jobBar(texts.publishCalculatingResultSha1, cancel);
-                this.say(element('p', {}, texts.publishCalculatingForPlayers), ...bar.parts);
-                const result = await sha1Of(app.parts, tried.result, signal, done => bar.at(done, tried.result.size));
+        if (image === null || tried === null || isDisabled(this.save)) return;
+        await jobAt(app, this.state, {
+            name: texts.publishCalculatingResultSha1,
+            around: parts => [element('p', {}, texts.publishCalculatingForPlayers), ...parts],
+            run: (bar, signal) => {
+                fill(this.message);
+                return sha1Of(app.parts, tried.result, signal, done => bar.at(done, tried.result.size));
+            },
+            done: result => {
                 const data = this.data(image, tried.script, result);
-                this.say();
-                if (saving) await this.saveAs(data);
-                else showPlayer(app, data, { note: () => null, back: () => app.showPanel('publish') });
-            });
-        } catch (error) {
-            this.say();
-            showMessageAt(this.message, isCancelled(error) ? notice('plain', texts.discJobCancelled, texts.publishNoPatcherSaved)
-                : notice('bad', sentence(error), texts.publishNoPatcherSaved));
-        } finally {
-            this.busy = false;
-        }
+                fill(this.state);
+                return saving ? this.saveAs(data) : showPlayer(app, data, { note: () => null, back: () => app.showPanel('publish') });
+            },
+            failed: error => showMessageAt(this.message, failureNotice(error, texts.publishNoPatcherSaved)),
+        });
     }
 
     /**
@@ -253,8 +252,7 @@ class PublishPanel {
      * @param {Image} image
      */
     cueOf(image) {
-        const sheet = sheetNaming(image.sheet, [[image.name, this.name.value.trim()]]);
-        return sheet !== '' && isPlainSheet(sheet) ? sheet : '';
+        return plainSheet(sheetNaming(image.sheet, [[image.name, this.name.value.trim()]]));
     }
 
     /** @param {PatcherData} data */

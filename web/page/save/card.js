@@ -2,11 +2,11 @@
 
 import { failedBy } from '../../core/faults.js';
 import { RESULT } from '../../core/module/index.js';
-import { sha1Of, sumsOf } from '../app/index.js';
+import { jobAt, sha1Of, sumsOf } from '../app/index.js';
 import { fileReader, readImage } from '../open/index.js';
 import * as texts from '../texts/index.js';
 import { counted, format, playerTexts, say } from '../texts/index.js';
-import { askBeforeLeaving, button, element, fill, hashParts, isCancelled, jobBar, messageOf, nameOf, notice } from '../ui/index.js';
+import { button, element, fill, hashParts, isCancelled, messageOf, nameOf, notice } from '../ui/index.js';
 import { saveWork } from './patch_job.js';
 import { adviceOf } from './refused.js';
 import { patchedName } from './save.js';
@@ -14,6 +14,7 @@ import { isDiscOfOneTrack, sheetParts } from './sheet_words.js';
 
 /** @typedef {import('../app/state.js').App} App */
 /** @typedef {import('../app/state.js').Image} Image */
+/** @typedef {import('../app/store.js').RunningJob} RunningJob */
 /** @typedef {import('./patch_job.js').PatchWork} PatchWork */
 /** @typedef {import('./patch_job.js').Saved} Saved */
 /** @typedef {import('../../core/script/patches.js').Patched} Patched */
@@ -31,9 +32,8 @@ export class SaveCard {
         this.title = /** @type {Child[]} */ ([]);
         this.head = element('header');
         this.box = element('div', { class: 'pad stack' });
-        askBeforeLeaving(() => this.leaving);
-        this.leaving = false;
-        this.running = false;
+        /** The browser's own saving of a file, which ends when the user says so, null if there is none. */
+        this.kept = /** @type {RunningJob | null} */ (null);
         app.addTaker(file => this.isSaved(file));
         this.saved = /** @type {Saved | null} */ (null);
         /** The SHA-1 of the image that was saved last. */
@@ -42,6 +42,11 @@ export class SaveCard {
         this.message = element('div');
         /** Shows that the file was written to its end. */
         this.sayWhole = () => {};
+    }
+
+    /** Whether an image is being saved. */
+    get running() {
+        return this.app.jobAt(this.box) !== undefined;
     }
 
     shown() {
@@ -63,7 +68,7 @@ export class SaveCard {
 
     close() {
         this.title = [];
-        this.leaving = false;
+        this.app.endJob(this.kept);
         this.redraw();
     }
 
@@ -72,9 +77,14 @@ export class SaveCard {
      * @param {...Child} body
      */
     show(title, ...body) {
+        fill(this.box, ...body);
+        this.entitle(title);
+    }
+
+    /** @param {Child | Child[]} title */
+    entitle(title) {
         this.title = [title].flat();
         this.drawTitle();
-        fill(this.box, ...body);
         this.redraw();
     }
 
@@ -86,28 +96,26 @@ export class SaveCard {
      */
     async save(image, work) {
         const name = patchedName(image.name);
-        this.running = true;
         const oneTrack = isDiscOfOneTrack(this.app.calls, image);
-        try {
-            const saved = await this.app.runSave((signal, cancel) => {
-                const bar = jobBar(playerTexts.saveSavingImage, cancel, { saves: true });
-                this.show(say(playerTexts.saveSavingFile, { name: nameOf(name) }), ...bar.parts,
-                    element('p', { class: 'small quiet' }, texts.saveAfterCancel));
-                this.leaving = true;
+        let made = /** @type {Patched | null} */ (null);
+        await jobAt(this.app, this.box, {
+            name: playerTexts.saveSavingImage, saves: true,
+            around: parts => [...parts, element('p', { class: 'small quiet' }, texts.saveAfterCancel)],
+            run: (bar, signal) => {
+                // The focus goes to Cancel, which is in the box by now.
+                this.entitle(say(playerTexts.saveSavingFile, { name: nameOf(name) }));
                 const watch = { signal, progress: bar.at, accept: async () => void await oneTrack };
                 return saveWork(this.app, { ...work, opened: this.app.openFiles() }, name, '', watch);
-            });
-            if (saved === null) this.close();
-            else this.showSaved(image, saved, await oneTrack);
-            return saved && saved.made;
-        } catch (error) {
-            this.leaving = false;
-            this.show(texts.saveImageNotSaved, failureOfSaving(error, work.reader.size),
-                element('div', { class: 'row' }, button('back next', () => this.close(), texts.saveBackFromSaving)));
-            return null;
-        } finally {
-            this.running = false;
-        }
+            },
+            done: async saved => {
+                if (saved === null) return this.close();
+                ({ made } = saved);
+                return this.showSaved(image, saved, await oneTrack);
+            },
+            failed: error => this.show(texts.saveImageNotSaved, failureOfSaving(error, work.reader.size),
+                element('div', { class: 'row' }, button('back next', () => this.close(), texts.saveBackFromSaving))),
+        });
+        return made;
     }
 
     /**
@@ -118,7 +126,8 @@ export class SaveCard {
     showSaved(image, saved, oneTrack) {
         const { made, name, size, streamed, file } = saved;
         this.saved = saved;
-        this.leaving = !streamed;
+        this.app.endJob(this.kept);
+        this.kept = streamed ? null : this.app.beginJob({ name, isLost: true });
         const refused = made.outcomes.filter(it => it.result !== RESULT.OK).length;
         const what = () => refused === 0 ? nameOf(name)
             : say(texts.saveFileWithout, { name: nameOf(name), refused: String(refused), n: made.outcomes.length });
@@ -136,7 +145,7 @@ export class SaveCard {
             this.checked, ...sheet.words,
             element('div', { class: 'row' },
                 sheet.save && button('main next', sheet.save, playerTexts.saveCueSheet),
-                file && button('', () => this.openNew(file), texts.saveOpenNewImage),
+                file && button('away', () => this.openNew(file), texts.saveOpenNewImage),
                 button(sheet.save ? '' : 'next', () => this.close(), texts.saveBackToCheck)), sheet.saved);
     }
 
@@ -183,11 +192,11 @@ export class SaveCard {
         const { saved } = this;
         if (saved === null || !this.shown() || file.name.replace(/ ?\(\d+\)(?=\.|$)/, '') !== saved.name) return false;
         const wrong = file.size === saved.size ? ''
-            : format(texts.saveNotSavedToEnd, { size: file.size, wanted: saved.size });
+            : format(playerTexts.saveNotSavedToEnd, { size: file.size, wanted: saved.size });
         const sha1 = wrong ? '' : await sha1Of(this.app.parts, fileReader(file), { aborted: false }, () => {});
         const right = sha1 !== '' && sha1 === await this.sum;
         if (this.saved !== saved) return true;
-        const open = button('slim', () => {
+        const open = button('slim away', () => {
             this.close();
             this.app.open([file]);
         }, texts.saveOpenSavedFile);
@@ -201,7 +210,7 @@ export class SaveCard {
 
     /** Notes that the browser has saved the whole file. */
     noteWhole() {
-        this.leaving = false;
+        this.app.endJob(this.kept);
         this.sayWhole();
         this.title = [texts.saveImageSaved];
         this.drawTitle();

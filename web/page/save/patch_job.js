@@ -3,10 +3,9 @@
 import { readBytes } from '../../core/bytes.js';
 import { failedBy } from '../../core/faults.js';
 import { MOST_SCRIPT_BYTES, MOST_SECTORS, SECTOR_SIZE, STATUS } from '../../core/module/index.js';
-import { pieceReader } from '../../core/piece_reader.js';
-import { readerForTwo } from '../../core/read_ahead.js';
-import { BETWEEN_HELD, BETWEEN_WRITTEN } from '../../core/script/index.js';
-import { imageTooLong } from '../../core/sectors/index.js';
+import { pieceReader, readerForTwo } from '../../core/readers/views.js';
+import { BETWEEN_HELD, BETWEEN_WRITTEN } from '../../core/script/views.js';
+import { imageTooLong } from '../../core/sectors/views.js';
 import { applyInMemory, applyScript, validScript } from '../../core/tasks/index.js';
 import { ownFault } from '../../sentences/index.js';
 import { RunningHash } from '../app/index.js';
@@ -57,7 +56,7 @@ function refuse(error) {
 }
 
 /** @param {Reader} reader of an image */
-export function assertNotTooLong({ size }) {
+function assertNotTooLong({ size }) {
     if (imageTooLong(size)) throw workRefused(playerTexts.saveImageTooLong, format(playerTexts.saveMostSectors, { most: MOST_SECTORS }));
 }
 
@@ -80,7 +79,7 @@ export async function tryWork(app, { reader, base, script, carry }, watch) {
  * @param {PatchWatch} watch
  */
 export function checkWork(app, work, watch) {
-    return tryWork(app, { ...work, reader: readByWorkers(work.reader, app.crew, watch.signal) }, watch);
+    return tryWork(app, { ...work, reader: readByWorkers(work.reader, app.pool, watch.signal) }, watch);
 }
 
 /**
@@ -89,7 +88,7 @@ export function checkWork(app, work, watch) {
  * @param {PatchWork} work
  */
 export async function patchedWork(app, { reader, base, script, carry }) {
-    const image = { reader: readByWorkers(reader, app.crew, { aborted: false }), base };
+    const image = { reader: readByWorkers(reader, app.pool, { aborted: false }), base };
     const { outcomes, pieces } = await applyInMemory(app, image, await readWork(app, script), { carry }).catch(refuse);
     return { outcomes, result: pieceReader(reader, pieces) };
 }
@@ -128,7 +127,7 @@ export async function saveWork(app, { reader, base, carry, script, opened = [] }
     const { signal, accept, progress } = watch;
     const making = async () => {
         const read = await readWork(app, script);
-        const image = { reader: readByWorkers(reader, app.crew, signal), base };
+        const image = { reader: readByWorkers(reader, app.pool, signal), base };
         // A download is written only after all its pieces are collected, so its progress is that of reading.
         const reading = { signal, progress: (/** @type {number} */ sectors) => progress(sectors * SECTOR_SIZE, reader.size) };
         const [mostBetween, seen] = canStream() ? [BETWEEN_WRITTEN, {}] : [BETWEEN_HELD, reading];

@@ -2,7 +2,9 @@
 
 import { PieceKeeper, bytesOfPieces, forwardOf } from '../../core/bytes.js';
 import { cancelled } from '../../core/faults.js';
+import { ownFault } from '../../sentences/index.js';
 import { fileOf, fileReader } from '../open/index.js';
+import { format, playerTexts } from '../texts/index.js';
 import { chosenOther } from './chosen_file.js';
 import { canStream, downloadImage } from './files_out.js';
 import { blobOfPieces, saveToSink } from './save.js';
@@ -19,7 +21,7 @@ import { blobOfPieces, saveToSink } from './save.js';
 
 /**
  * Saves an image. Returns null if the user chose no file. Throws a Fault if an open file was chosen, and any error of saveToSink; then
- * nothing is kept.
+ * nothing is kept. So it does if the browser has stored another number of bytes than were written.
  * @param {Reader[]} readers of the image that slices refer to, and of other files that must not be overwritten
  * @param {() => Promise<Maker>} making returns the maker of the pieces. It is called after the file was chosen: a browser lets a page
  *     open that dialog only shortly after a click.
@@ -32,15 +34,19 @@ export async function saveImage(readers, making, name, opened, watch) {
     if (!canStream()) return downloadPieces(readers[0], await making(), name, watch);
     const chosen = await chosenOther(name, readers, opened);
     if (chosen === null) return null;
-    const before = await chosen.getFile();
+    // A file that was there keeps its bytes until the new ones are complete.
+    let isOurs = (await chosen.getFile()).size === 0;
     try {
         const make = await making();
-        await saveToSink(await chosen.createWritable(), readers[0], make, watch);
+        const wanted = await saveToSink(await chosen.createWritable(), readers[0], make, watch);
+        isOurs = true;
+        const file = await chosen.getFile().catch(() => null);
+        if (file !== null && file.size !== wanted) throw ownFault(format(playerTexts.saveNotSavedToEnd, { size: file.size, wanted }));
+        return { name: chosen.name, streamed: true, file };
     } catch (error) {
-        if (before.size === 0 && chosen.remove) await chosen.remove().catch(() => {});
+        if (isOurs && chosen.remove) await chosen.remove().catch(() => {});
         throw error;
     }
-    return { name: chosen.name, streamed: true, file: await chosen.getFile().catch(() => null) };
 }
 
 /**
@@ -64,7 +70,7 @@ export function givingAll(pieces) {
  */
 async function downloadPieces(reader, make, name, { signal, progress, seen, accept }) {
     const source = fileOf(reader);
-    if (source === null) throw new Error('this image is no file');
+    if (source === null) throw new Error('this image is not a file');
     /** @type {Piece[]} */
     const pieces = [];
     const keeper = new PieceKeeper();

@@ -3,7 +3,7 @@
 
 import { extentOf, pieceWithin, readBytes, readInto } from '../../core/bytes.js';
 import { newBytes } from '../../core/faults.js';
-import { BETWEEN_WRITTEN } from '../../core/script/index.js';
+import { BETWEEN_WRITTEN } from '../../core/script/views.js';
 
 /** @typedef {import('../../core/bytes.js').Reader} Reader */
 /** @typedef {import('../../core/bytes.js').Piece} Piece */

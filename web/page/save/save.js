@@ -86,8 +86,8 @@ class SinkWriter {
 }
 
 /**
- * Writes a patched image to a sink, and closes the sink only if everything was written and accepted. Throws a Fault, `cancelled` or
- * `unwritten`, and any error of the reader, `make`, and `accept`; then the sink was aborted.
+ * Writes a patched image to a sink, and closes the sink only if everything was written and accepted. Returns the number of bytes. Throws a
+ * Fault, `cancelled` or `unwritten`, and any error of the reader, `make`, and `accept`; then the sink was aborted.
  * @param {Sink} sink
  * @param {Reader} reader
  * @param {Maker} make
@@ -105,6 +105,7 @@ export async function saveToSink(sink, reader, make, watch) {
         await sink.close().catch(error => {
             throw unwritten(writer.done, error);
         });
+        return writer.done;
     } catch (error) {
         await sink.abort().catch(() => {});
         throw error;

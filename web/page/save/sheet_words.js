@@ -1,6 +1,6 @@
 // The cue sheet that is saved for a patched or repaired image, and the texts about it.
 
-import { isOneTrack, sheetOfOneTrack } from '../../core/disc/index.js';
+import { isOneTrack, sheetOfOneTrack } from '../../core/disc/views.js';
 import * as texts from '../texts/index.js';
 import { playerTexts, say } from '../texts/index.js';
 import { element, fill, nameOf, namesOf, verdictLine } from '../ui/index.js';

@@ -1,10 +1,11 @@
 // The card beside the editor: Check and its results, the option carry, and Apply and save.
 
-import { RESULT } from '../../core/module/index.js';
+import { MOST_PATCHES, RESULT } from '../../core/module/index.js';
+import { jobAt } from '../app/index.js';
 import { SaveCard, adviceOf, checkWork, isPatched } from '../save/index.js';
 import * as texts from '../texts/index.js';
 import { format, playerTexts, say } from '../texts/index.js';
-import { announce, button, element, fill, isCancelled, jobBar, messageOf, nameOf, nextTurn, notice, setDisabled } from '../ui/index.js';
+import { announce, button, element, fill, isCancelled, messageOf, nameOf, nextTurn, notice, setDisabled } from '../ui/index.js';
 import { term, verdictLine } from '../ui/index.js';
 import { fitOf, fitWords, isShownToFit, namingOld } from './fit_words.js';
 
@@ -35,10 +36,8 @@ export class CheckCard {
         /** The numbers of the lines that name old bytes in the script that was checked. */
         this.naming = new Set();
         this.seconds = 0;
-        this.busy = false;
-        /** The current or last check, and the function that cancels it. */
+        /** The current or last check. */
         this.running = Promise.resolve();
-        this.cancel = () => {};
         this.failure = /** @type {Child} */ (null);
         this.body = element('div', { class: 'pad stack' });
         this.head = element('header', {}, element('h2', {}, texts.scriptCheckScript));
@@ -50,9 +49,14 @@ export class CheckCard {
         this.saving = new SaveCard(app, () => this.draw());
     }
 
+    /** Whether Check runs. */
+    get busy() {
+        return this.app.jobAt(this.body) !== undefined;
+    }
+
     /** Cancels Check, and discards the results of Check and of the save, since the script, the image, or carry has changed. */
     outdate() {
-        this.cancel();
+        this.app.jobAt(this.body)?.cancel();
         this.patched = null;
         this.already = false;
         this.failure = null;
@@ -79,6 +83,7 @@ export class CheckCard {
             && element('span', { class: 'tag' }, format(playerTexts.inSeconds, { seconds: this.seconds.toFixed(1) }));
         fill(this.head, element('h2', {}, texts.scriptCheckScript), took);
         fill(this.card, this.head, this.body);
+        if (lines.tooMany) return fill(this.body, tooManyPatches());
         if (this.app.image === null) return fill(this.body, lines.faults > 0 && this.faults(),
             element('p', {}, texts.scriptOpenPatchedImage),
             element('div', { class: 'row' }, button('main', () => this.app.choose('play'), texts.scriptOpenTheImage)));
@@ -107,7 +112,8 @@ export class CheckCard {
         /** @type {number[]} */
         const wrong = [];
         for (let i = lines.nextWrong(-1, 1); wrong.length < Math.min(MOST_NAMED, lines.faults); i = lines.nextWrong(i, 1)) wrong.push(i);
-        const [named, more] = [wrong.map(i => String(i + 1)), lines.faults - wrong.length];
+        const named = wrong.map(i => String(i + 1));
+        const more = lines.faults - wrong.length;
         const list = new Intl.ListFormat(texts.LANGUAGE).format(more > 0 ? [...named, format(texts.scriptMoreLines, { n: more })] : named);
         const parts = { n: lines.faults, lines: list };
         return notice('bad', format(texts.scriptLinesHaveFault, parts),
@@ -151,8 +157,8 @@ export class CheckCard {
 
     /** Whether the script can be checked and saved: it has no error, and no check or save is running. */
     isFree() {
-        const { faults, head } = this.owner.lines;
-        return !this.busy && !this.saving.running && faults === 0 && head >= 0;
+        const { faults, head, tooMany } = this.owner.lines;
+        return !this.busy && !this.saving.running && faults === 0 && !tooMany && head >= 0;
     }
 
     /** @param {Patched} patched */
@@ -191,26 +197,26 @@ export class CheckCard {
     /** @param {Image} image */
     async checkOn(image) {
         const { lines } = this.owner;
-        this.busy = true;
         const began = performance.now();
-        try {
-            await this.app.runOnImage(async (signal, cancel) => {
-                this.cancel = cancel;
-                const bar = jobBar(texts.scriptCheckingScript, cancel);
-                fill(this.body, ...bar.parts);
-                const work = { reader: image.reader, base: image.base, script: lines.text(), carry: this.carry.checked };
+        const work = { reader: image.reader, base: image.base, script: lines.text(), carry: this.carry.checked };
+        await jobAt(this.app, this.body, {
+            name: texts.scriptCheckingScript, of: 'image', run: async (bar, signal) => {
                 const patched = await checkWork(this.app, work, { signal, progress: bar.sectors });
-                const already = patched.outcomes.some(it => it.result !== RESULT.OK) && await isPatched(this.app, work);
-                if (this.app.image !== image || work.script !== lines.text()) return;
-                this.already = already;
-                this.take(patched, (performance.now() - began) / 1000);
-            });
-        } catch (error) {
-            this.failure = isCancelled(error) ? null : failureOf(error);
-        } finally {
-            this.busy = false;
-            this.draw();
-        }
+                return { patched, already: patched.outcomes.some(it => it.result !== RESULT.OK) && await isPatched(this.app, work) };
+            },
+            done: ({ patched, already }) => {
+                if (work.script === lines.text()) {
+                    this.already = already;
+                    this.take(patched, (performance.now() - began) / 1000);
+                }
+                this.draw(); // before the bar goes, so that the focus passes to what takes its place
+            },
+            failed: error => {
+                this.failure = isCancelled(error) ? null : failureOf(error);
+                this.draw();
+            },
+        });
+        this.draw();
     }
 
     /**
@@ -240,6 +246,12 @@ export class CheckCard {
         if (made && this.app.image === image && work.script === lines.text()) this.take(made, this.seconds, 'apply');
         this.draw();
     }
+}
+
+/** The notice about a script that only cdscript can apply. */
+function tooManyPatches() {
+    const command = element('span', { class: 'mono' }, 'cdscript apply --long');
+    return notice('bad', format(texts.scriptHasTooManyPatches, { n: MOST_PATCHES }), ...say(texts.scriptAppliedWithLong, { command }));
 }
 
 /**

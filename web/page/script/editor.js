@@ -26,7 +26,7 @@ const MARGIN = 90;
 const WORDS_WIDTH = 7.6;
 const HELP_WIDTH = 6.6;
 const MOST_COLUMNS = 84;
-const NARROW_EDITOR = 700;
+const NARROW_EDITOR = 728;
 const ABOVE_AND_BELOW = 6;
 
 /** The editor of a script. */
@@ -156,9 +156,18 @@ export class ScriptEditor {
 
     /** @param {number} i */
     margin(i) {
-        const wrong = this.lines.isWrong(i);
-        const mark = this.lines.isMatched(i) ? '✓' : !wrong ? '' : this.lines.outcomes.has(i + 1) ? '✕' : '!';
-        return [element('span', { class: 'ln' }, i + 1), element('span', { class: `mk ${this.ink(i)}`, 'aria-hidden': 'true' }, mark)];
+        return [element('span', { class: 'ln' }, i + 1),
+            element('span', { class: `mk ${this.ink(i)}`, 'aria-hidden': 'true' }, this.signOf(i))];
+    }
+
+    /**
+     * The sign for a line whose patch matches or is refused, or that has a fault.
+     * @param {number} i
+     */
+    signOf(i) {
+        if (this.lines.isMatched(i)) return '✓';
+        if (!this.lines.isWrong(i)) return '';
+        return this.lines.outcomes.has(i + 1) ? '✕' : '!';
     }
 
     /**
@@ -166,7 +175,8 @@ export class ScriptEditor {
      * @param {number} i
      */
     ink(i) {
-        return this.lines.isWrong(i) ? 'bad-ink' : this.lines.isMatched(i) ? 'good-ink' : 'quiet';
+        if (this.lines.isWrong(i)) return 'bad-ink';
+        return this.lines.isMatched(i) ? 'good-ink' : 'quiet';
     }
 
     /**

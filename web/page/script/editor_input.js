@@ -1,6 +1,6 @@
 // Handles keys, the pointer, and the clipboard in the editor. Edits across lines are done here, and those within a line by the browser.
 
-import { linesOfText } from '../../core/script/index.js';
+import { linesOfText } from '../../core/script/views.js';
 import { ROW_HEIGHT } from './editor.js';
 
 /** @typedef {import('./editor.js').ScriptEditor} ScriptEditor */
@@ -128,7 +128,7 @@ function pressedAlone(editor, { key, shiftKey, altKey, isComposing }) {
 function pressedAtCaret(editor, key) {
     const { area, current } = editor;
     const { lines } = editor.lines;
-    const [line, at] = [area.value, area.selectionStart];
+    const { value: line, selectionStart: at } = area;
     if (key === 'Enter') editor.edit(current, 1, [line.slice(0, at), line.slice(area.selectionEnd)], current + 1, 0);
     else if (key === 'Backspace' && at === 0 && current > 0) {
         const { text } = lines[current - 1];
@@ -187,7 +187,8 @@ function chosen({ anchor, current }) {
  * @param {boolean} choosing
  */
 function move(editor, line, column, choosing) {
-    editor.anchor = !choosing ? -1 : editor.anchor < 0 ? editor.current : editor.anchor;
+    if (!choosing) editor.anchor = -1;
+    else if (editor.anchor < 0) editor.anchor = editor.current;
     editor.goTo(line, column);
     return true;
 }

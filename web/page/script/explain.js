@@ -1,8 +1,8 @@
 // The strip under the editor: the line with the caret in plain words, with its old and new bytes as text.
 
-import { filesAt } from '../../core/iso/index.js';
+import { filesAt } from '../../core/iso/views.js';
 import { CONTENT, isFault } from '../../core/module/index.js';
-import { wordsOf } from '../../core/script/index.js';
+import { wordsOf } from '../../core/script/views.js';
 import { chosenEncoding } from '../text/index.js';
 import * as texts from '../texts/index.js';
 import { format, say } from '../texts/index.js';

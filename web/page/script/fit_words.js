@@ -1,7 +1,7 @@
 // Describes how a script matches an image.
 
 import { RESULT } from '../../core/module/index.js';
-import { patchesOf } from '../../core/script/index.js';
+import { patchesOf } from '../../core/script/views.js';
 import { reasonsOf } from '../player/index.js';
 import * as texts from '../texts/index.js';
 import { format, say } from '../texts/index.js';

@@ -15,7 +15,8 @@ export function chosenHelps(lines, helpOf) {
     /** @type {Map<number, LineHelp>} */
     const helps = new Map();
     if (lines.faults === 0 && lines.outcomes.size === 0) return helps;
-    let [before, wrong] = ['', 0];
+    let before = '';
+    let wrong = 0;
     for (let i = 0; i < lines.lines.length && wrong < MOST_HELPED; i++) {
         if (!lines.isWrong(i)) continue;
         wrong += 1;

@@ -1,8 +1,8 @@
 // The parts of a line in the editor: its words in colours, and the texts that its patch writes.
 
 import { CONTENT, VERB, isFault } from '../../core/module/index.js';
-import { faultyWord, lineParts, partOfWord } from '../../core/script/index.js';
-import { element, shownText } from '../ui/index.js';
+import { faultyWord, lineParts, partOfWord } from '../../core/script/views.js';
+import { element, seenLines, shownText } from '../ui/index.js';
 
 /** @typedef {import('../app/script_lines.js').ScriptLines} ScriptLines */
 /** @typedef {import('../../core/script/model.js').ScriptLine} ScriptLine */
@@ -22,13 +22,14 @@ const MOST_BYTES = 120;
 export function colored({ calls, lines }, i) {
     const { text, content } = lines[i];
     const drawn = text.slice(0, MOST_DRAWN);
-    if (content === CONTENT.NOTHING) return [element('span', { class: 'c' }, drawn)];
+    if (content === CONTENT.NOTHING) return [element('span', { class: 'c' }, seenLines(drawn))];
     const parts = lineParts(drawn);
     const wrong = isFault(content) ? faultyWord(calls, text, content) : -1;
     return parts.map((part, k) => {
-        if (wrong >= 0 && k === partOfWord(parts, wrong)) return element('span', { class: 'e' }, part);
-        if (k === partOfWord(parts, 0)) return element('span', { class: 'v' }, part);
-        return part === 'was' ? element('span', { class: 'w' }, part) : part;
+        const seen = seenLines(part);
+        if (wrong >= 0 && k === partOfWord(parts, wrong)) return element('span', { class: 'e' }, seen);
+        if (k === partOfWord(parts, 0)) return element('span', { class: 'v' }, seen);
+        return part === 'was' ? element('span', { class: 'w' }, seen) : seen;
     });
 }
 

@@ -1,12 +1,13 @@
 // The panel Script: the editor, an explanation of the line with the caret, Check and Apply, and the log.
 
+import { MOST_PATCHES } from '../../core/module/index.js';
 import { LONG } from '../app/index.js';
 import { downloadText } from '../save/index.js';
 import { chosenEncoding } from '../text/index.js';
 import * as texts from '../texts/index.js';
 import { format, say } from '../texts/index.js';
-import { askBeforeLeaving, askUser, button, byId, clearNotices, copyButton, element, fill, keyed, nameOf } from '../ui/index.js';
-import { messageArea, notice, showNotice } from '../ui/index.js';
+import { askBeforeLeaving, askUser, button, byId, clearNotices, copyButton, element, fill, focusAgain, keyed } from '../ui/index.js';
+import { messageArea, nameOf, notice, showNotice } from '../ui/index.js';
 import { CheckCard } from './check_card.js';
 import { ScriptEditor } from './editor.js';
 import { listenToEditor, takeBackBytes, turnBack } from './editor_input.js';
@@ -114,8 +115,9 @@ class ScriptPanel {
             clearNotices();
             this.load(null);
             turnBack(this.editor, line);
+            focusAgain(this.editor.area);
         };
-        showNotice('warn', texts.scriptReplacedYours, element('div', { class: 'row' }, button('slim', back, texts.scriptBringItBack)));
+        showNotice('warn', texts.scriptReplacedYours, element('div', { class: 'row' }, button('slim away', back, texts.scriptBringItBack)));
     }
 
     changed() {
@@ -128,9 +130,9 @@ class ScriptPanel {
 
     drawAll() {
         this.isOld = false;
-        const { long } = this.lines;
+        const { long, tooMany } = this.lines;
         this.editor.box.hidden = this.strip.hidden = long !== null;
-        fill(this.unshown, long && notice('plain', texts.scriptLinesNotShown, LONG));
+        fill(this.unshown, long && notice('plain', texts.scriptLinesNotShown, !tooMany && LONG));
         this.editor.draw();
         this.drawSide();
         this.explain();
@@ -139,14 +141,14 @@ class ScriptPanel {
     drawHead() {
         const { lines } = this;
         const { name } = lines;
-        const fault = lines.faults > 0;
+        const fault = lines.faults > 0 || lines.tooMany;
         fill(this.head, element('h2', { class: name ? 'mono' : '' }, name ? nameOf(name) : texts.scriptNewScript),
             element('span', { class: `tag${fault ? ' bad' : ''}` }, this.amount()),
             this.isLost() && element('span', { class: 'tag warn' }, texts.scriptNotSaved),
             button('slim bare', () => this.opening.click(), texts.frameOpenOther),
             keyed('save', button('slim bare', () => void this.saveEither(), texts.discSaveReport)));
         const count = byId('count-script');
-        count.hidden = !fault && lines.patches === 0;
+        count.hidden = lines.faults === 0 && lines.patches === 0;
         count.className = `count${fault ? ' bad' : ''}`;
         const [before, n, after] = say(fault ? texts.scriptFaultsOfScript : texts.scriptPatchCount, { n: lines.faults ||
             lines.patches });
@@ -155,7 +157,8 @@ class ScriptPanel {
 
     /** The number of errors in the script, or its length. */
     amount() {
-        const { faults, long, patches, version } = this.lines;
+        const { faults, long, patches, tooMany, version } = this.lines;
+        if (tooMany) return format(texts.scriptTooManyPatches, { n: MOST_PATCHES });
         if (faults > 0) return format(texts.scriptFaultsOfScript, { n: faults });
         if (long) return format(texts.scriptCharactersOfScript, { n: long.text.length });
         const words = format(texts.scriptPatchCount, { n: patches });
@@ -211,7 +214,8 @@ class ScriptPanel {
             if (outcome) return this.app.goTo(outcome.block, outcome.offset, true);
             const { fix } = helpOfFault(this.lines, line);
             const at = fix && fix.head ? this.lines.head : line;
-            return this.editor.edit(at, 1, fix ? fix.lines : [], line, 0);
+            this.editor.edit(at, 1, fix ? fix.lines : [], line, 0);
+            return this.editor.focus();
         };
         return says === '' ? null : button('slim bare', press, says);
     }
@@ -238,7 +242,7 @@ class ScriptPanel {
     /** Saves the script, or on request its undo script, if there can be one. */
     async saveEither() {
         const { app, lines } = this;
-        if (lines.faults > 0 || app.image === null || (lines.patches === 0 && !lines.long)) return this.save();
+        if (lines.faults > 0 || lines.tooMany || app.image === null || (lines.patches === 0 && !lines.long)) return this.save();
         const answer = await askUser([texts.scriptWhatToSave], [],
             [['script', [texts.scriptSaveScript]], ['undo', [texts.scriptUndoScript]]], 'script');
         if (answer === 'script') this.save();

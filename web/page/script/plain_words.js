@@ -1,13 +1,14 @@
 // Explains a line of a script, and how to correct an error or a refused patch. [block] and [offset] mark words that open a note.
 
 import { CONTENT, MOST_PATCHES, PATCH_SIZE, RESULT, USER_SIZE, VERB } from '../../core/module/index.js';
-import { NEWEST_VERSION, VERSIONS, contentOf, faultyWord, headLine, lacksDigit, lastBlockOf, wordsOf } from '../../core/script/index.js';
-import { addressText } from '../../core/sectors/index.js';
+import {
+    NEWEST_VERSION, VERBS, VERSIONS, contentOf, faultyWord, headLine, lacksDigit, lastBlockOf, wordsOf,
+} from '../../core/script/views.js';
+import { addressText } from '../../core/sectors/views.js';
 import * as texts from '../texts/index.js';
 import { format } from '../texts/index.js';
 
 /** @typedef {ReturnType<import('../../core/module/calls.js').Calls['patchRead']>} PatchFields */
-/** @typedef {import('../../core/script/language.js').Verb} Verb */
 /** @typedef {import('../app/script_lines.js').ScriptLines} ScriptLines */
 /** @typedef {import('../../core/script/model.js').ScriptLine} ScriptLine */
 /** A faulty line: its words, and the version of its script. */
@@ -15,15 +16,29 @@ import { format } from '../texts/index.js';
 /** A sentence; and the lines with which a button replaces the line, or the head line, and its label, or null without a button. */
 /** @typedef {{ text: string, fix: { says: string, lines: string[], head?: true } | null }} Help */
 
-/** @type {Record<Verb, string>} */
-const VERB_FORMS = {
-    set: texts.scriptFormsOfSet,
-    fill: texts.scriptFormOfFill,
-    rebuild: texts.scriptFormOfRebuild,
-    address: texts.scriptFormOfAddress,
-};
-/** @type {Record<string, string>} by the first word of a line */
-const FORMS = { ...VERB_FORMS, cdpatch: texts.scriptFormsOfHead };
+/** @type {Map<string, { version: number, forms: string[] }>} */
+const KNOWN_VERBS = new Map(Object.entries(VERBS));
+const HEADS = VERSIONS.map(({ name }) => headLine(name));
+
+/**
+ * Joins alternatives.
+ * @param {string[]} forms
+ */
+function either(forms) {
+    const [last] = forms.slice(-1);
+    return forms.length === 1 ? last : format(texts.scriptOr, { some: forms.slice(0, -1).join(', '), last });
+}
+
+/** @type {Map<string, string>} the forms of a line, by its first word */
+const FORMS = new Map([...[...KNOWN_VERBS].map(([verb, { forms }]) => /** @type {[string, string]} */ ([verb, either(forms)])),
+    ['cdpatch', either(HEADS)]]);
+
+/** All verbs, with the version of those that the first one lacks. */
+function allVerbs() {
+    const verbs = [...KNOWN_VERBS].map(([verb, { version }]) =>
+        version === 1 ? verb : format(texts.scriptVerbOfVersion, { verb, version: String(version) }));
+    return format(texts.scriptTheVerbsAre, { verbs: verbs.join(', ') });
+}
 
 /**
  * Describes a patch. `where` is the file that it writes to, or ''.
@@ -74,7 +89,7 @@ const FAULT_HELP = {
     [CONTENT.NO_HEAD]: helpOfHead,
     [CONTENT.UNKNOWN_VERB]: helpOfVerb,
     [CONTENT.WORD_COUNT]: ({ words: [verb] }) =>
-        helped(format(texts.scriptLineHasForm, { form: FORMS[verb] || Object.values(VERB_FORMS).join('; ') })),
+        helped(format(texts.scriptLineHasForm, { form: FORMS.get(verb) || [...FORMS.values()].slice(0, -1).join('; ') })),
     [CONTENT.BAD_NUMBER]: () => helped(texts.scriptNumbersAreDecimal),
     [CONTENT.BAD_HEX]: helpOfHex,
     [CONTENT.BAD_LENGTH]: helpOfLength,
@@ -85,9 +100,11 @@ const FAULT_HELP = {
 
 /** @param {Faulty} faulty */
 function helpOfHead({ words: [first, version], line }) {
-    if (first.toLowerCase() !== 'cdpatch') return helped(texts.scriptBeginsWithHead, texts.scriptAddIt, headLine(), line);
+    const begins = format(texts.scriptBeginsWithHead, { head: headLine() });
+    if (first.toLowerCase() !== 'cdpatch') return helped(begins, texts.scriptAddIt, headLine(), line);
     const head = headLine(VERSIONS.some(({ name }) => name === version) ? version : NEWEST_VERSION.name);
-    return helped(texts.scriptHeadHasNothingElse, format(texts.scriptMakeIt, { head }), head);
+    const text = format(texts.scriptHeadHasNothingElse, { heads: either(HEADS) });
+    return helped(text, format(texts.scriptMakeIt, { head }), head);
 }
 
 /**
@@ -97,7 +114,8 @@ function helpOfHead({ words: [first, version], line }) {
 function helpOfVerb({ words: [verb, ...rest], line, calls }) {
     const isKnown = (/** @type {string} */ text) => contentOf(calls, NEWEST_VERSION.content, text) !== CONTENT.UNKNOWN_VERB;
     if (isKnown(line)) {
-        const head = headLine(NEWEST_VERSION.name);
+        const { version = NEWEST_VERSION.name } = KNOWN_VERBS.get(verb) || {};
+        const head = headLine(version);
         const fix = { says: format(texts.scriptMakeIt, { head }), lines: [head], head: /** @type {const} */ (true) };
         return { text: format(texts.scriptVerbNeedsHead, { verb, head }), fix };
     }
@@ -105,7 +123,7 @@ function helpOfVerb({ words: [verb, ...rest], line, calls }) {
     if (small === 'cdpatch') return helped(texts.scriptOneHeadLine);
     const smallLine = [small, ...rest].join(' ');
     if (isKnown(smallLine)) return helped(texts.scriptVerbsAreSmall, format(texts.scriptIsItVerb, { verb: small }), smallLine);
-    return helped(texts.scriptTheVerbsAre);
+    return helped(allVerbs());
 }
 
 /** @param {Faulty} faulty */

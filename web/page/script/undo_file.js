@@ -3,10 +3,11 @@
 import { failedBy } from '../../core/faults.js';
 import { undoScript } from '../../core/tasks/index.js';
 import { blocksText } from '../../sentences/index.js';
+import { jobAt } from '../app/index.js';
 import { downloadBytes } from '../save/index.js';
 import * as texts from '../texts/index.js';
 import { format, say } from '../texts/index.js';
-import { element, fill, isCancelled, jobBar, nameOf, notice, runAt, sentence, showMessageAt } from '../ui/index.js';
+import { element, failureNotice, nameOf, notice, showMessageAt } from '../ui/index.js';
 
 /** @typedef {import('../app/state.js').App} App */
 /** @typedef {import('../app/state.js').Image} Image */
@@ -24,33 +25,22 @@ import { element, fill, isCancelled, jobBar, nameOf, notice, runAt, sentence, sh
  */
 export async function makeUndo(app, places, lines, carry) {
     const { image } = app;
-    if (image !== null) await runAt(places.bar, () => makeUndoAt(app, image, places, lines, carry));
-}
-
-/**
- * @param {App} app
- * @param {Image} image
- * @param {UndoPlaces} places
- * @param {ScriptLines} lines which may change before the job ends
- * @param {boolean} carry
- */
-async function makeUndoAt(app, image, { bar: place, message }, lines, carry) {
+    if (image === null) return;
     const name = format(texts.scriptUndoFile, { script: (app.script.name || texts.scriptFile).replace(/\.[^.]*$/, '') });
-    try {
-        const made = await app.runJob((signal, cancel) => {
-            const bar = jobBar(texts.scriptMakingUndo, cancel);
-            fill(place, element('h3', {}, ...say(texts.scriptMakingFile, { name: nameOf(name) })), ...bar.parts);
+    await jobAt(app, places.bar, {
+        name: texts.scriptMakingUndo,
+        around: parts => [element('h3', {}, ...say(texts.scriptMakingFile, { name: nameOf(name) })), ...parts],
+        run: (bar, signal) => {
             const script = [new TextEncoder().encode(lines.text())];
             return undoScript(app, image.opened, script, { carry }, { signal, progress: bar.sectors });
-        });
-        if (made.script !== null) downloadBytes(made.script.pieces, name);
-        showMessageAt(message, made.script === null ? noUndoWords(made) : savedWords(made, name, carry));
-    } catch (error) {
-        showMessageAt(message, isCancelled(error) ? notice('plain', texts.discJobCancelled, texts.scriptNoUndoMade)
-            : notice('bad', failedBy(error, 'script/refused') ? texts.scriptHasFault : sentence(error), texts.scriptNoUndoMade));
-    } finally {
-        fill(place);
-    }
+        },
+        done: made => {
+            if (made.script !== null) downloadBytes(made.script.pieces, name);
+            showMessageAt(places.message, made.script === null ? noUndoWords(made) : savedWords(made, name, carry));
+        },
+        failed: error => showMessageAt(places.message, failedBy(error, 'script/refused')
+            ? notice('bad', texts.scriptNoUndoMade, texts.scriptHasFault) : failureNotice(error, texts.scriptNoUndoMade)),
+    });
 }
 
 /**

@@ -29,8 +29,8 @@ export class SecondCard {
         this.jobs = { repair: new SecondRepair(app, changed), compare: new SecondCompare(app, changed) };
         oneTabStop(this.tabs, '[role=tab]', tab => this.choose(/** @type {Job} */ (tab.dataset.tab)));
         const card = element('section', { class: 'card', 'aria-labelledby': 'second-title' },
-            element('header', {}, this.title, button('slim bare', () => this.openInstead(), texts.openItInstead),
-                button('slim bare', () => this.close(), playerTexts.close)),
+            element('header', {}, this.title, button('slim bare away', () => this.openInstead(), texts.openItInstead),
+                button('slim bare away', () => this.close(), playerTexts.close)),
             element('div', { class: 'pad stack' }, this.message, this.tabs, this.body));
         this.part = element('div', { class: 'side', hidden: true }, card, this.table);
     }

@@ -68,8 +68,11 @@ export class SecondCompare extends PairJob {
         const damaged = marks.count(1);
         const tally = countsRow([[all, all === 1 ? texts.secondSectorDiffers : texts.secondSectorsDiffer, ''],
             [onlyCodes, texts.secondDifferInCodesOnly, ''], [damaged, texts.secondDamagedInSecond, damaged > 0 ? 'bad-ink' : '']]);
+        // A script with all differences would be refused.
+        const skipDamaged = damaged > 0 && damaged < all;
+        const save = skipDamaged ? format(texts.secondSaveWithoutDamaged, { n: damaged }) : texts.secondSaveTheScript;
         const write = [element('p', {}, ...this.directionWords()), element('div', { class: 'row' },
-            button('main', () => this.write('save'), texts.secondSaveTheScript),
+            button('main', () => this.write('save', skipDamaged), save),
             button('', () => this.write('open'), texts.secondOpenInScript))];
         const same = notice('good', tail ? texts.secondBothSameSectors : texts.secondBothSameBytes);
         const other = tail && notice('warn', texts.secondTailsDiffer, texts.secondNoScriptChangesThem);
@@ -83,12 +86,15 @@ export class SecondCompare extends PairJob {
         return say(texts.secondScriptTurns, { image: image && nameOf(image.name), goal: second && nameOf(second.name) });
     }
 
-    /** @param {import('./script.js').Then} then what to do with the script */
-    write(then) {
+    /**
+     * @param {import('./script.js').Then} then what to do with the script
+     * @param {boolean} [skipDamaged]
+     */
+    write(then, skipDamaged) {
         const { image, second } = this.app;
         if (image !== null && second !== null) {
             const name = patchedName(second.name, 'changes', '.txt');
-            writeScript(this.app, this.place, { image, fresh: second.reader, goal: nameOf(second.name), name }, then);
+            writeScript(this.app, this.place, { image, fresh: second.reader, goal: nameOf(second.name), name }, then, skipDamaged);
         }
     }
 

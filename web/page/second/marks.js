@@ -1,6 +1,5 @@
 // The marks of two images on the map: the sectors that can be repaired, or those that differ.
 
-import { SECOND_STATE } from '../../core/tasks/index.js';
 import { MARK, SURVEY_LOOKS } from '../app/index.js';
 import * as texts from '../texts/index.js';
 
@@ -80,7 +79,10 @@ export function repairMarks(survey, taken, unrepaired) {
     return marks;
 }
 
-/** @param {SurveyMarks} survey */
+/**
+ * The loud looks are those of SECOND_STATE, in its order.
+ * @param {SurveyMarks} survey
+ */
 export function compareMarks(survey) {
     return new PairMarks(survey, looksOf(texts.secondSameInBoth, [texts.secondDifferInSecond, texts.secondDamagedInSecond,
         texts.secondDifferNotMode1]));
@@ -92,7 +94,5 @@ export function compareMarks(survey) {
  * @param {Differing} differing
  */
 export function addDiffering(marks, { blocks, states }) {
-    blocks.forEach((block, i) => {
-        marks.set(block, states[i] === SECOND_STATE.DAMAGED ? 1 : states[i] === SECOND_STATE.NOT_MODE1 ? 2 : 0);
-    });
+    blocks.forEach((block, i) => marks.set(block, states[i]));
 }

@@ -1,7 +1,8 @@
 // The base class of both jobs with a second image. Each job runs once, with a progress bar, and shows its result.
 
+import { jobAt } from '../app/index.js';
 import * as texts from '../texts/index.js';
-import { element, fill, jobBar } from '../ui/index.js';
+import { element, fill } from '../ui/index.js';
 
 /** @typedef {import('../app/state.js').App} App */
 /** @typedef {import('./marks.js').PairMarks} PairMarks */
@@ -42,20 +43,13 @@ export class PairJob {
      * @param {(found: Found) => Promise<void>} show
      */
     async once(compare, show) {
-        const { app } = this;
-        const { second } = app;
         this.begun = true;
-        try {
-            const found = await app.runPair((signal, cancel) => {
-                const bar = jobBar(texts.secondComparingBoth, cancel);
-                fill(this.body, ...bar.parts);
-                return compare({ signal, progress: bar.sectors });
-            });
-            if (app.second === second) await show(found);
-        } catch (error) {
-            if (app.second !== second) return;
-            this.begun = false;
-            throw error;
-        }
+        await jobAt(this.app, this.body, {
+            name: texts.secondComparingBoth, of: 'pair', replaces: true, run: (bar, signal) => compare({ signal, progress: bar.sectors }),
+            done: show, failed: error => {
+                this.begun = false;
+                throw error;
+            },
+        });
     }
 }

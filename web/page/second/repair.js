@@ -1,7 +1,7 @@
 // Repairs the open image from a second image, and shows the result before anything is saved.
 
-import { pieceReader } from '../../core/piece_reader.js';
-import { blocksIn } from '../../core/sectors/index.js';
+import { pieceReader } from '../../core/readers/views.js';
+import { blocksIn } from '../../core/sectors/views.js';
 import { isSameRange, repairTrack } from '../../core/tasks/index.js';
 import { swapImages } from '../open/index.js';
 import { patchedName } from '../save/index.js';
@@ -80,7 +80,7 @@ export class SecondRepair extends PairJob {
         const label = element('span', {}, ...say(texts.openRepairOtherFrom, { name: nameOf(second.name), other: nameOf(image.name) }));
         return [unrepaired.length === 0 && isSameRange(image, second) &&
             button('main', () => this.app.setSecond(second, 'compare'), texts.openCompareIt),
-        button('', () => !refuseWhileSaving(this.app, [second.name]) && swapImages(this.app, second), label)];
+        button('away', () => !refuseWhileSaving(this.app, [second.name]) && swapImages(this.app, second), label)];
     }
 
     /**
@@ -92,7 +92,8 @@ export class SecondRepair extends PairJob {
         if (blocksIn(repair.taken) === 0) return null;
         const save = () => void this.saver.save(pieces, blocksIn(repair.taken), unrepaired);
         const script = () => {
-            const [fresh, name] = [pieceReader(image.reader, pieces), patchedName(image.name, 'repair', '.txt')];
+            const fresh = pieceReader(image.reader, pieces);
+            const name = patchedName(image.name, 'repair', '.txt');
             void writeScript(this.app, this.place, { image, fresh, goal: texts.secondTheRepairedImage, name, skipMode2: true });
         };
         return element('div', { class: 'row' }, button('main', save, texts.secondSaveRepaired), button('', script,

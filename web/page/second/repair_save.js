@@ -1,17 +1,18 @@
 // Saves a repaired image, and shows its hash if the page can read the file.
 
-import { blocksIn } from '../../core/sectors/index.js';
+import { blocksIn } from '../../core/sectors/views.js';
 import { blocksText } from '../../sentences/index.js';
-import { sha1Of } from '../app/index.js';
+import { jobAt, sha1Of } from '../app/index.js';
 import { fileReader, readImage } from '../open/index.js';
 import { failureOfSaving, givingAll, isDiscOfOneTrack, patchedName, saveImage, sheetParts } from '../save/index.js';
 import * as texts from '../texts/index.js';
 import { format, playerTexts, say } from '../texts/index.js';
-import { askBeforeLeaving, button, element, fill, hashParts, jobBar, megabytes, messageOf, nameOf, notice, runAt } from '../ui/index.js';
+import { button, element, fill, hashParts, megabytes, messageOf, nameOf, notice } from '../ui/index.js';
 
 /** @typedef {{ words: string, tone: 'good' | 'warn' }} Done what was repaired, and a warning if sectors are still damaged */
 /** @typedef {import('../app/state.js').App} App */
 /** @typedef {import('../app/state.js').Image} Image */
+/** @typedef {import('../app/store.js').RunningJob} RunningJob */
 /** @typedef {import('../../core/bytes.js').Piece} Piece */
 /** @typedef {import('../../core/sectors/runs.js').Run} Run */
 /** @typedef {import('../ui/fill.js').Child} Child */
@@ -29,13 +30,12 @@ export class RepairSaver {
     constructor(app, place) {
         this.app = app;
         this.place = place;
-        /** Whether a file is being saved, as far as this page can know. */
-        this.saving = false;
-        askBeforeLeaving(() => this.saving);
+        /** The browser's own saving of a file, which ends when the user says so, null if there is none. */
+        this.kept = /** @type {RunningJob | null} */ (null);
     }
 
     forget() {
-        this.saving = false;
+        this.app.endJob(this.kept);
     }
 
     /**
@@ -43,35 +43,26 @@ export class RepairSaver {
      * @param {number} taken the number of repaired sectors
      * @param {Run[]} unrepaired
      */
-    save(pieces, taken, unrepaired) {
-        return runAt(this.place, () => this.saveHere(pieces, doneWords(taken, unrepaired)));
-    }
-
-    /**
-     * @param {Piece[]} pieces
-     * @param {Done} done
-     */
-    async saveHere(pieces, done) {
+    async save(pieces, taken, unrepaired) {
         const { app, place, app: { image, second } } = this;
         if (image === null || second === null) return;
         const { size } = image.reader;
         const oneTrack = isDiscOfOneTrack(app.calls, image);
-        try {
-            const saved = await app.runSave((signal, cancel) => {
-                const bar = jobBar(playerTexts.saveSavingImage, cancel, { saves: true });
-                fill(place, ...bar.parts);
-                this.saving = true;
+        await jobAt(app, place, {
+            name: playerTexts.saveSavingImage, saves: true, run: (bar, signal) => {
+                this.forget();
                 const watch = { signal, progress: (/** @type {number} */ at) => bar.at(at, size) };
                 const name = patchedName(image.name, REPAIRED);
                 return saveImage([image.reader, second.reader], async () => givingAll(pieces), name, app.openFiles(), watch);
-            });
-            this.saving = saved !== null && !saved.streamed;
-            if (saved !== null) app.noteSaved(image, saved.name);
-            fill(place, ...saved ? this.savedWords(saved, image, await oneTrack, done) : []);
-        } catch (error) {
-            this.saving = false;
-            fill(place, failureOfSaving(error, size));
-        }
+            },
+            done: async saved => {
+                if (saved === null) return fill(place);
+                app.noteSaved(image, saved.name);
+                if (!saved.streamed) this.kept = app.beginJob({ name: saved.name, isLost: true });
+                return fill(place, ...this.savedWords(saved, image, await oneTrack, doneWords(taken, unrepaired)));
+            },
+            failed: error => fill(place, failureOfSaving(error, size)),
+        });
     }
 
     /**
@@ -87,7 +78,7 @@ export class RepairSaver {
         const what = element('p', {}, done.words);
         const whole = () => notice(done.tone, say(texts.discFileSaved, { name: nameOf(name) }), what, texts.secondOthersAsBefore);
         const isComplete = () => {
-            this.saving = false;
+            this.forget();
             fill(message, whole());
         };
         const isSaving = say(playerTexts.saveBrowserIsSaving, { name: nameOf(name) });
@@ -95,7 +86,7 @@ export class RepairSaver {
             format(playerTexts.secondKeepPageOpen, { size: megabytes(size) }),
             element('div', { class: 'row' }, button('slim', isComplete, texts.saveIsComplete))));
         const sheet = sheetParts(image, name, oneTrack, REPAIRED);
-        const open = file && button('', () => {
+        const open = file && button('away', () => {
             readImage(app, null);
             app.open([file], 'look');
         }, texts.saveOpenNewImage);

@@ -2,7 +2,7 @@
 
 import { readBytes } from '../../core/bytes.js';
 import { SECTOR_SIZE } from '../../core/module/index.js';
-import { blocksIn, findingOf, firstBlocks, testMode2 } from '../../core/sectors/index.js';
+import { blocksIn, findingOf, firstBlocks, testMode2 } from '../../core/sectors/views.js';
 import { mode2Finding } from '../app/index.js';
 import * as texts from '../texts/index.js';
 import { format } from '../texts/index.js';

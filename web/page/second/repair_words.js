@@ -1,6 +1,6 @@
 // The texts about a repair: how many sectors it repairs and how many stay damaged, or why it is refused.
 
-import { blocksIn } from '../../core/sectors/index.js';
+import { blocksIn } from '../../core/sectors/views.js';
 import { blocksText } from '../../sentences/index.js';
 import * as texts from '../texts/index.js';
 import { format, say } from '../texts/index.js';
@@ -20,13 +20,15 @@ const MOST_RUNS_NAMED = 8;
  * @param {Refusal} refused
  * @param {Image} image
  */
-export function refusedWords({ different: [different], same: [n], ranges: [{ common }] }, refused, { name }) {
+export function refusedWords({ same: [n] }, refused, { name }) {
+    if (refused.why === 'untested') return notice('bad', say(texts.secondNothingTested, { name: nameOf(name) }));
     if (refused.why === 'apart') return notice('bad', say(texts.openIsAnotherPart, { name: nameOf(name) }));
     if (refused.shift !== null) return shiftedWords(refused.shift, name);
-    const all = blocksIn(common);
+    const { sound, untested, common: all } = refused;
     const same = format(2 * n > all ? texts.secondMostAreSame : texts.secondSomeAreSame, { n, all });
-    return notice('bad', texts.secondNotTheSameDisc, `${same} `,
-        format(texts.secondTooManyDiffer, { sectors: format(texts.secondSoundAndDiffer, { n: different }) }));
+    const sectors = [sound > 0 && format(texts.secondSoundAndDiffer, { n: sound }),
+        untested > 0 && format(texts.secondUntestedAndDiffer, { n: untested })].filter(Boolean).join(', ');
+    return notice('bad', texts.secondNotTheSameDisc, `${same} `, format(texts.secondTooManyDiffer, { sectors }));
 }
 
 /**

@@ -1,12 +1,13 @@
 // Writes the script from the open image to another image. The proved calls have applied it before it is shown.
 
-import { blocksIn } from '../../core/sectors/index.js';
+import { blocksIn } from '../../core/sectors/views.js';
 import { blocksText } from '../../sentences/index.js';
 import { compareTrack, isToMode2 } from '../../core/tasks/index.js';
+import { jobAt } from '../app/index.js';
 import { download } from '../save/index.js';
 import * as texts from '../texts/index.js';
 import { format, remarkText, say } from '../texts/index.js';
-import { button, element, fill, isCancelled, jobBar, nameOf, notice, runAt, sentence } from '../ui/index.js';
+import { button, element, failureNotice, fill, nameOf, notice } from '../ui/index.js';
 
 /** @typedef {import('../app/state.js').App} App */
 /** @typedef {import('../app/state.js').Image} Image */
@@ -41,39 +42,20 @@ const last = { blob: new Blob(), name: '' };
  * @param {boolean} [skipDamaged]
  */
 export function writeScript(app, place, wanted, then = '', skipDamaged = false) {
-    return runAt(place, () => writeScriptAt(app, place, wanted, then, skipDamaged));
-}
-
-/**
- * @param {App} app
- * @param {HTMLElement} place
- * @param {Wanted} wanted
- * @param {Then} then
- * @param {boolean} skipDamaged
- */
-async function writeScriptAt(app, place, wanted, then, skipDamaged) {
     const { image, fresh, name, skipMode2 } = wanted;
-    const { second } = app;
-    const show = (/** @type {Node[]} */ ...parts) => {
-        if (app.second === second) fill(place, ...parts);
-    };
-    try {
-        const compared = await app.runPair((signal, cancel) => {
-            const bar = jobBar(texts.secondWritingScript, cancel);
-            show(...bar.parts);
-            return compareTrack(app, image.opened, fresh, { skipDamaged, skipMode2 }, { signal, progress: bar.sectors });
-        });
-        const again = () => void writeScript(app, place, wanted, then, true);
-        if (compared.script === null) return show(refusedScript(compared, again));
-        const message = element('p');
-        const does = doesWith(app, compared.script, name, message);
-        show(written(compared.script, compared.left, wanted, then === '' ? does : {}, message));
-        if (then !== '' && app.second === second) does[then]?.();
-    } catch (error) {
-        const rest = texts.secondNoScriptWritten;
-        show(isCancelled(error) ? notice('plain', texts.discJobCancelled, rest) : notice('bad', sentence(error), rest));
-    }
-    return undefined;
+    return jobAt(app, place, {
+        name: texts.secondWritingScript, of: 'pair',
+        run: (bar, signal) => compareTrack(app, image.opened, fresh, { skipDamaged, skipMode2 }, { signal, progress: bar.sectors }),
+        done: compared => {
+            const again = () => void writeScript(app, place, wanted, then, true);
+            if (compared.script === null) return fill(place, refusedScript(compared, again));
+            const message = element('p');
+            const does = doesWith(app, compared.script, name, message);
+            fill(place, written(compared.script, compared.left, wanted, then === '' ? does : {}, message));
+            return then === '' ? undefined : does[then]?.();
+        },
+        failed: error => fill(place, failureNotice(error, texts.secondNoScriptWritten)),
+    });
 }
 
 /**

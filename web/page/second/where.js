@@ -1,6 +1,6 @@
 // Finds the file of the open image that contains a block, for the tables of two images.
 
-import { filesAt } from '../../core/iso/index.js';
+import { filesAt } from '../../core/iso/views.js';
 import { USER_SIZE } from '../../core/module/index.js';
 import * as texts from '../texts/index.js';
 import { shownName } from '../ui/index.js';
@@ -17,13 +17,15 @@ const OWN = { descriptor: texts.sectorVolumeDescriptor, directory: texts.sectorI
 export function fileSayer(volume) {
     if (volume === null) return () => '–';
     const { files, own } = volume;
-    let [from, end, name] = [0, 0, ''];
+    let [from, end] = [0, 0];
+    let name = '';
     return block => {
         if (block < from || block >= end) {
             const [file] = filesAt(files, block, 0);
             const next = files.find(it => it.block > block);
             from = block;
-            end = file ? file.block + Math.ceil(file.size / USER_SIZE) : next ? next.block : Infinity;
+            const after = next ? next.block : Infinity;
+            end = file ? file.block + Math.ceil(file.size / USER_SIZE) : after;
             name = file ? shownName(file.path) : '';
         }
         if (name !== '') return name;

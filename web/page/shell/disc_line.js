@@ -1,20 +1,40 @@
 // The line about the open image above every panel. On the Disc panel it also has the verdict, or the progress of reading.
 
 import { LAST_BASE, SECTOR_SIZE } from '../../core/module/index.js';
-import { MARK, lookOf, mode2Note, testedWords } from '../app/index.js';
-import { dumpWords, isAllOver, otherBase, placesOf } from '../disc/index.js';
+import { verdictText } from '../../sentences/index.js';
+import { MARK, lookOf, mode2Note } from '../app/index.js';
+import { dumpWords, otherBase, placesOf } from '../disc/index.js';
 import { changeBase, imageOfTrack, readImage } from '../open/index.js';
 import * as texts from '../texts/index.js';
 import { counted, format, playerTexts, say } from '../texts/index.js';
 import { button, byId, capital, copyButton, element, fill, jobEnd, keyed, megabytesDone, nameOf, seen, shownName } from '../ui/index.js';
-import { noteLongJob, term, timeLeft } from '../ui/index.js';
+import { term, timeLeft } from '../ui/index.js';
 import { closeImage } from './close_image.js';
 import { tracksInWords } from './tracks.js';
 
 /** @typedef {import('../app/state.js').App} App */
 /** @typedef {import('../app/state.js').Image} Image */
 /** @typedef {import('../app/state.js').Surveyed} Surveyed */
+/** @typedef {import('../app/store.js').RunningJob} RunningJob */
+/** @typedef {import('../../core/tasks/verdict.js').Verdict} Verdict */
 /** @typedef {import('../ui/fill.js').Child} Child */
+
+/**
+ * Notes how much of the disc was read among the running jobs. Returns the job, or null when the reading has ended.
+ * @param {App} app
+ * @param {RunningJob | null} job
+ * @param {Element} place of the bar
+ */
+function readingJob(app, job, place) {
+    const { survey } = app;
+    if (survey === null || survey.over) {
+        app.endJob(job);
+        return null;
+    }
+    const reading = job || app.beginJob({ name: texts.imageReadingDisc, place });
+    app.noteJob(reading, percentOf(survey));
+    return reading;
+}
 
 /** @param {App} app */
 export function mountDiscLine(app) {
@@ -22,14 +42,13 @@ export function mountDiscLine(app) {
     const top = element('div', { class: 'disc-line' });
     const lead = element('div', { class: 'lead' });
     line.append(top, lead);
-    const drawn = { waiting: 0, hashed: 0, changing: false, redraw: () => {} };
+    const drawn = { waiting: 0, hashed: 0, changing: false, redraw: () => {}, reading: /** @type {RunningJob | null} */ (null) };
     const draw = () => {
         drawn.waiting = 0;
-        const { survey } = app;
-        noteLongJob(texts.imageReadingDisc, survey === null || survey.over ? null : percentOf(survey));
+        lead.hidden = app.panel !== 'disc';
+        drawn.reading = readingJob(app, drawn.reading, lead);
         if (app.image === null) return;
         if (!drawn.changing) fill(top, ...keptParts(app.image.name, facts(app, app.image, drawn)));
-        lead.hidden = app.panel !== 'disc';
         fill(lead, ...keptParts('lead', leadOf(app)));
         drawCounts(app);
     };
@@ -60,7 +79,7 @@ function keptParts(name, parts) {
 
 /** @param {App} app */
 function drawCounts({ survey }) {
-    const findings = survey ? survey.marks.findings() : 0;
+    const findings = survey?.verdict?.total ?? survey?.marks.findings() ?? 0;
     const count = byId('count-disc');
     count.hidden = findings === 0;
     const number = counted(findings);
@@ -77,7 +96,6 @@ function drawCounts({ survey }) {
 function facts(app, image, drawn) {
     const { survey, panel } = app;
     const counts = survey ? survey.marks.counts : new Uint32Array(16);
-    const findings = survey ? survey.marks.findings() : 0;
     const mode1 = survey ? survey.marks.mode1() : 0;
     const cell = (/** @type {string} */ name, /** @type {Child[]} */ ...value) => element('div', {}, element('dt', {}, name),
         element('dd', {}, ...value));
@@ -89,13 +107,12 @@ function facts(app, image, drawn) {
     const mode2 = survey && survey.marks.modeTwo || counts[MARK.MODE2];
     if (mode2 > 0) own.push(sectors(MARK.MODE2, mode2));
     if (counts[MARK.NOSYNC] > 0) own.push(sectors(MARK.NOSYNC));
-    if (findings > 0) own.push(cell(texts.imageFindingsCount, element('b', { class: 'bad-ink' }, counted(findings))));
     if (panel !== 'disc') {
         const hash = cell('SHA-1', ...shaOf(image, drawn, 12));
         hash.className = 'hash';
         own.push(hash);
     }
-    const close = button('slim bare tiny', () => void closeImage(app), playerTexts.close, element('span', { class: 'hide' },
+    const close = button('slim bare tiny away', () => void closeImage(app), playerTexts.close, element('span', { class: 'hide' },
         texts.imageTheImage));
     const name = element('div', { class: 'row' }, element('p', { class: 'name' }, nameOf(image.name)), close,
         !isMoved && panel === 'disc' && change);
@@ -124,7 +141,7 @@ function imageParts(app, image) {
  */
 function trackChoice(app, image) {
     const chosen = (/** @type {{ target: HTMLSelectElement }} */ { target }) =>
-        readImage(app, imageOfTrack(image.disc, image.sheet, Number(target.value), image.renamed));
+        readImage(app, imageOfTrack(image.disc, Number(target.value), image.renamed));
     const choice = element('select', { class: 'slim', change: chosen });
     for (const { number, type, image: own } of image.disc.tracks) {
         if (own === null) continue;
@@ -198,7 +215,7 @@ function leadOf(app) {
             button('slim', () => readImage(app, { ...image }), texts.imageReadAgain)];
     }
     if (!survey.over) return progressOf(app, image, survey);
-    const [words, ...buttons] = verdict(app, image, survey);
+    const [words, ...buttons] = verdictOn(app, image, survey);
     return [words, lackWords(survey), ...buttons];
 }
 
@@ -232,7 +249,8 @@ function progressOf(app, { sectors, reader }, survey) {
     const seconds = (performance.now() - began) / 1000;
     const bar = element('i');
     bar.style.width = `${100 * part}%`;
-    const [percent, done] = [percentOf(survey), known * SECTOR_SIZE];
+    const percent = percentOf(survey);
+    const done = known * SECTOR_SIZE;
     const values = { 'aria-valuemin': 0, 'aria-valuemax': 100, 'aria-valuenow': percent };
     return [element('b', {}, format(texts.imageReadingAt, { percent })),
         element('div', { class: 'progress', role: 'progressbar', 'aria-label': texts.imageReadingDisc, ...values }, bar),
@@ -241,45 +259,29 @@ function progressOf(app, { sectors, reader }, survey) {
         jobEnd(() => app.reading.abort(), false)];
 }
 
+/** @type {Record<Verdict['level'], string>} */
+const INKS = { damage: 'bad-ink', doubt: 'warn-ink', sound: 'good-ink', nothing: 'warn-ink' };
+
 /**
- * The findings in one sentence, and buttons for the next step.
+ * The verdict in one sentence, and buttons for the next step.
  * @param {App} app
  * @param {Image} image
  * @param {Surveyed} survey
  * @returns {Child[]}
  */
-function verdict(app, image, { marks }) {
-    const [damaged, lost, elsewhere] = [marks.damaged(), marks.counts[MARK.LOST], marks.counts[MARK.ADDRESS]];
-    if (marks.tested() === 0) {
-        return [element('span', {}, element('b', { class: 'warn-ink' }, texts.imageNoModeOne), ` ${texts.imageCanBeLookedAt}`)];
-    }
+function verdictOn(app, image, { marks, verdict }) {
+    if (verdict === null) return [];
+    const { level, total, canRepair } = verdict;
     const base = otherBase({ base: image.base, addressed: image.opened.byAddresses.image.addressed }, marks);
-    if (base !== null) return otherBaseVerdict(app, image, base, damaged);
-    const others = [];
-    if (lost > 0) others.push(format(texts.imageLostSync, { n: lost }));
-    if (elsewhere > 0) others.push(format(texts.imageHaveOtherAddress, { n: elsewhere }));
-    if (damaged + others.length === 0) {
-        return [element('span', {}, element('b', { class: 'good-ink' }, testedWords(marks).sound),
-            ` ${format(texts.imageTheirCodesFit, { n: marks.tested() })} ${mode2Note(marks)}`)];
+    if (base !== null) return otherBaseVerdict(app, image, base, marks.damaged());
+    if (level === 'nothing') {
+        return [element('span', {}, element('b', { class: INKS[level] }, texts.imageNoModeOne), ` ${texts.imageCanBeLookedAt}`)];
     }
-    const codesFit = element('b', { class: 'good-ink' }, format(texts.imageCodesFit, { sectors: testedWords(marks).all }));
-    const said = damaged > 0 ? damageVerdict(marks, others) : say(texts.imageCodesFitBut, { codesFit, others: others.join('; ') });
-    return [element('span', {}, ...said, ` ${mode2Note(marks)}`),
-        damaged > 0 && app.second === null && button('slim', () => app.choose('repair'), texts.imageRepairFromOther),
-        button('slim bare', () => app.goTo(image.base + placesOf(marks)[0].first, -1, true), texts.imageGoToFirstPlace)];
-}
-
-/**
- * Says how many sectors are damaged, and where.
- * @param {import('../app/marks.js').SurveyMarks} marks
- * @param {string[]} others the other findings
- */
-function damageVerdict(marks, others) {
-    const hurt = placesOf(marks).filter(it => it.counts[MARK.EDC] + it.counts[MARK.PARITY] > 0);
-    const where = hurt.some(place => isAllOver(place, marks.known)) ? texts.imageAllOverDisc : format(texts.imageInPlaces,
-        { n: hurt.length });
-    const count = format(texts.imageDamagedOf, { n: marks.damaged(), sectors: testedWords(marks).count });
-    return say(texts.imageDamagedWhere, { damaged: element('b', { class: 'bad-ink' }, count), places: [where, ...others].join('; ') });
+    const words = element('b', { class: INKS[level] }, `${capital(verdictText(verdict))}.`);
+    return [element('span', {}, words, ` ${mode2Note(marks)}`),
+        canRepair && app.second === null && button('slim', () => app.choose('repair'), texts.imageRepairFromOther),
+        marks.findings() > 0 && total > 0 && button('slim bare', () => app.goTo(image.base + placesOf(marks)[0].first, -1, true),
+            texts.imageGoToFirstPlace)];
 }
 
 /**

@@ -1,7 +1,7 @@
 // The frame around the panels: the tabs, the notes, and the keys that work everywhere.
 
 import { PANELS } from '../app/index.js';
-import { SAVING, byId, endMessages, endSavingNotices, escapeJob, noteLongJob, oneTabStop, setAttribute } from '../ui/index.js';
+import { byId, endMessages, endSavingNotices, escapeJob, oneTabStop, setAttribute } from '../ui/index.js';
 
 /** @typedef {import('../app/state.js').App} App */
 /** @typedef {import('../app/state.js').PanelName} PanelName */
@@ -11,10 +11,7 @@ export function mountFrame(app) {
     oneTabStop(byId('tabs'), '[role=tab]', tab => app.showPanel(panelOfTab(tab)));
     for (const name of PANELS) byId(`tab-${name}`).addEventListener('click', () => app.showPanel(name));
     const frame = { started: false, panel: app.panel };
-    app.on('saved', () => {
-        endSavingNotices();
-        noteLongJob(SAVING, null);
-    });
+    app.on('saved', endSavingNotices);
     app.on('closed', () => { frame.started = false; });
     for (const name of /** @type {const} */ (['panel', 'image'])) app.on(name, () => showPanels(app, frame));
     app.on('panel', () => panelComes(app, frame));

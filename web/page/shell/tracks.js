@@ -1,6 +1,6 @@
 // Describes the tracks of a disc, including audio tracks.
 
-import { sheetOf } from '../../core/disc/index.js';
+import { sheetOf } from '../../core/disc/views.js';
 import * as texts from '../texts/index.js';
 import { format, say } from '../texts/index.js';
 import { namesOf } from '../ui/index.js';
@@ -24,9 +24,11 @@ export function tracksInWords({ name, sheet, disc }) {
     const own = audio.flatMap(track => points.filter(it => it.track === track && it.index === 1).map(it => files[it.file].name));
     const last = (/** @type {string} */ path) => path.replace(/^.*[/\\]/, '').toLowerCase();
     const others = [...new Set(own)].filter(it => last(it) !== last(name));
-    const [few, more] = [namesOf(others.slice(0, MOST_NAMES)), others.length - MOST_NAMES];
+    const few = namesOf(others.slice(0, MOST_NAMES));
+    const more = others.length - MOST_NAMES;
     const missing = disc.tracks.some(({ file }) => file < 0);
-    const state = !missing ? texts.imageNotForEditing : others.length === 1 ? texts.imageIsNotHere : texts.imageNotAllHere;
+    const absent = others.length === 1 ? texts.imageIsNotHere : texts.imageNotAllHere;
+    const state = missing ? absent : texts.imageNotForEditing;
     const where = others.length === 0 ? texts.imageInSameFile
         : say(state, { names: more > 0 ? say(texts.imageNamesAndMore, { names: few, n: more }) : few });
     return [tracks.length > audio.length && `${data}, `, ...say(texts.imageAudioTracks, { n: audio.length, where })];

@@ -1,7 +1,7 @@
 // The card with the bytes around a hit, in hexadecimal and as text.
 
 import { USER_SIZE } from '../../core/module/index.js';
-import { bytesAround, bytesInside, charactersFrom } from '../../core/texts/index.js';
+import { bytesAround, bytesInside, charactersFrom } from '../../core/texts/views.js';
 import * as texts from '../texts/index.js';
 import { format } from '../texts/index.js';
 import { button, element, fill, hexOf } from '../ui/index.js';
@@ -106,7 +106,8 @@ function hexRows(app, hit, { bytes: user, at }, columns) {
  * @param {boolean} hit
  */
 function byteBox(byte, hit) {
-    return element('i', { class: hit ? 'hit' : byte === 0 ? 'zero' : '' }, hexOf(Uint8Array.of(byte)));
+    const plain = byte === 0 ? 'zero' : '';
+    return element('i', { class: hit ? 'hit' : plain }, hexOf(Uint8Array.of(byte)));
 }
 
 /**

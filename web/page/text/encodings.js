@@ -1,6 +1,6 @@
 // The encodings that the user can choose, and the tables that add to them.
 
-import { ENCODINGS, USUAL_ENCODING, encodingOf, linesLeftOut, tableEncoding, tableTextOf } from '../../core/encodings/index.js';
+import { ENCODINGS, USUAL_ENCODING, encodingOf, linesLeftOut, tableInTurns, tableTextOf } from '../../core/encodings/views.js';
 import * as texts from '../texts/index.js';
 import { remarkText, say } from '../texts/index.js';
 import { capital, element, fill, messageOf, nameOf, notice, showNotice, shownName } from '../ui/index.js';
@@ -84,7 +84,7 @@ export function bindEncodings(app, choice, isOffered = () => true) {
 export async function takeTable(app, file) {
     try {
         const text = tableTextOf(new Uint8Array(await file.arrayBuffer()));
-        const table = tableEncoding(text);
+        const table = await tableInTurns(text);
         sources.set(table, text);
         app.addTable(file.name, table);
         const leftOut = linesLeftOut(table);

@@ -1,7 +1,7 @@
 // Generates the lines of a script that replace the hits of a search.
 
 import { MOST_PATCHES } from '../../core/module/index.js';
-import { linesMade } from '../../core/script/index.js';
+import { linesMade } from '../../core/script/views.js';
 import { replaceHits } from '../../core/tasks/index.js';
 import { remarkText } from '../texts/index.js';
 

@@ -1,7 +1,7 @@
 // The table of hits, with the file and the context of each.
 
 import { USER_SIZE } from '../../core/module/index.js';
-import { contextOf, contextsOf, filesWith, shownCell } from '../../core/texts/index.js';
+import { FilesAlong, contextOf, contextsOf, filesWith, shownCell } from '../../core/texts/views.js';
 import * as texts from '../texts/index.js';
 import { format, remarkText } from '../texts/index.js';
 import { button, copyButton, element, fill, keyed, oneTabStop, seen, shownPaths, term } from '../ui/index.js';
@@ -166,9 +166,10 @@ export class HitsCard {
         const { search, app: { image, files } } = this;
         if (search === null || image === null) return '';
         const rows = ['block\toffset\tfile\ttext\n'];
+        const along = new FilesAlong(files ? files.files : []);
         for await (const group of contextsOf(search.image, chosenEncoding(this.app), search.hits)) {
             for (const { hit, context: { before, hit: text, after } } of group) {
-                const paths = files ? filesWith(files.files, hit).map(({ path }) => seen(path)) : [];
+                const paths = along.with(hit).map(({ path }) => seen(path));
                 const shown = shownCell(shownCharacters([...before, ...text, ...after]));
                 rows.push(`${hit.block}\t${hit.offset}\t${paths.join(' ')}\t${shown}\n`);
             }

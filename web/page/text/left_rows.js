@@ -1,6 +1,6 @@
 // The rows of a list that do not fit: each with its place and the reason, the card that corrects one, and the bytes at its place.
 
-import { encodingOf, usualBytes } from '../../core/encodings/index.js';
+import { encodingOf, usualBytes } from '../../core/encodings/views.js';
 import { importRows, leftTable, roomInTrack } from '../../core/tasks/index.js';
 import { downloadText } from '../save/index.js';
 import * as texts from '../texts/index.js';
@@ -15,7 +15,7 @@ import { RowCard } from './row_card.js';
 
 /** @typedef {import('../app/state.js').App} App */
 /** @typedef {import('../app/state.js').Image} Image */
-/** @typedef {import('../../core/tasks/list.js').LeftRow} LeftRow */
+/** @typedef {import('../../core/tasks/fitted_lists.js').LeftRow} LeftRow */
 /** @typedef {import('../../core/tasks/list_rows.js').ListRow} ListRow */
 /** @typedef {import('../../core/tasks/table.js').RowOptions} RowOptions */
 /** The rows of a list in a file that do not fit an image, and how they were imported. */

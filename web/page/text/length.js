@@ -29,8 +29,10 @@ export function gauge(bytes, size, filling) {
     const made = element('div', { class: 'gauge', 'aria-hidden': 'true' });
     made.style.setProperty('--n', String(count));
     for (let i = 0; i < count; i++) {
-        const byte = i < bytes.length ? bytes[i] : filling ? filling[(i - bytes.length) % filling.length] : -1;
-        made.append(element('i', { class: i >= size ? 'over' : i >= bytes.length ? 'pad-byte' : '' },
+        const fill = filling ? filling[(i - bytes.length) % filling.length] : -1;
+        const byte = i < bytes.length ? bytes[i] : fill;
+        const within = i < bytes.length ? '' : 'pad-byte';
+        made.append(element('i', { class: i < size ? within : 'over' },
             count <= 24 && byte >= 0 ? hexOf(Uint8Array.of(byte)) : ''));
     }
     return made;

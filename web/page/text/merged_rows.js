@@ -1,6 +1,6 @@
 // Adds the lines of imported rows to the script.
 
-import { linesBeside, linesMade } from '../../core/script/index.js';
+import { linesBeside, linesMade } from '../../core/script/views.js';
 import { ownFault } from '../../sentences/index.js';
 import { mergeOf } from '../app/index.js';
 import * as texts from '../texts/index.js';

@@ -1,10 +1,11 @@
 // The panel Text: finds texts, lists the hits, and adds lines to the script that replace them.
 
 import { filledUp, replaceBytes } from '../../core/tasks/index.js';
+import { jobAt } from '../app/index.js';
 import * as texts from '../texts/index.js';
 import { format, say } from '../texts/index.js';
 import {
-    announce, button, element, fill, hexOf, isCancelled, jobBar, messageArea, messageOf, notice, sentence, showMessageAt,
+    announce, button, element, failureNotice, fill, hexOf, isCancelled, messageArea, messageOf, notice, sentence, showMessageAt,
 } from '../ui/index.js';
 import { term } from '../ui/index.js';
 import { AroundCard, readAround } from './around_card.js';
@@ -252,30 +253,28 @@ class TextPanel {
      * @param {Uint8Array | null} filling
      */
     async addAll(fresh, filling) {
-        const [{ app, found }, { image }] = [this, this.app];
+        const { app, found } = this;
+        const { image } = app;
         if (found === null || image === null) return;
-        try {
-            const { lines, left } = await app.runOnImage((signal, cancel) => {
-                const bar = jobBar(texts.discMakingLines, cancel, { noun: texts.textMakingOfHits });
-                fill(this.replace.job, ...bar.parts);
+        await jobAt(app, this.replace.job, {
+            name: texts.discMakingLines, noun: texts.textMakingOfHits, of: 'image', run: (bar, signal) => {
                 const hits = found.hits.filter(hit => app.script.lineAt(hit) === 0);
                 const places = { image: found.image, encoding: chosenEncoding(app), hits };
                 return linesForAll(app, image.opened, places, size => filledUp(fresh, size, filling), { signal, progress: bar.things });
-            });
-            if (app.image !== image || this.found !== found) return;
-            const rest = left.length === 0 ? texts.textCheckToTest
-                : format(texts.textHitsLeft, { n: left.length, why: left.slice(0, 5).join('; ') + (left.length > 5 ? '; …' : '.') });
-            const words = notice(left.length > 0 ? 'warn' : 'good', format(texts.discLinesAdded, { n: lines.length }), rest);
-            if (lines.length === 0) return void showMessageAt(this.replace.message, words);
-            app.addLines(lines);
-            await this.replace.changed(words);
-        } catch (error) {
-            const rest = texts.discNothingAdded;
-            if (app.image === image) showMessageAt(this.replace.message, isCancelled(error) ? notice('plain', texts.discJobCancelled, rest)
-                : notice('bad', sentence(error), rest));
-        } finally {
-            fill(this.replace.job);
-        }
+            },
+            done: made => this.found === found && this.addedAll(made),
+            failed: error => showMessageAt(this.replace.message, failureNotice(error, texts.discNothingAdded)),
+        });
+    }
+
+    /** @param {Awaited<ReturnType<typeof linesForAll>>} made */
+    async addedAll({ lines, left }) {
+        const rest = left.length === 0 ? texts.textCheckToTest
+            : format(texts.textHitsLeft, { n: left.length, why: left.slice(0, 5).join('; ') + (left.length > 5 ? '; …' : '.') });
+        const words = notice(left.length > 0 ? 'warn' : 'good', format(texts.discLinesAdded, { n: lines.length }), rest);
+        if (lines.length === 0) return showMessageAt(this.replace.message, words);
+        this.app.addLines(lines);
+        return this.replace.changed(words);
     }
 
     async load() {

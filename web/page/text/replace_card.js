@@ -1,6 +1,6 @@
 // The card that replaces a hit: the new text, its length compared with the old text, and the line that is added to the script.
 
-import { encodeText, fillsOf, spaceIn } from '../../core/encodings/index.js';
+import { encodeText, fillsOf, spaceIn } from '../../core/encodings/views.js';
 import { bytesOfHex, hexText } from '../../core/hex_digits.js';
 import { filledUp, untriedLines } from '../../core/tasks/index.js';
 import * as texts from '../texts/index.js';
@@ -166,7 +166,7 @@ export class ReplaceCard {
     }
 
     /**
-     * The replacement for the line of the script that writes exactly this hit; '' if there is no such line.
+     * The replacement for the line of the script that writes exactly this hit; '' if no line does.
      * @param {Target} target
      * @param {Uint8Array} fresh
      */

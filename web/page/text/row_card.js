@@ -6,7 +6,7 @@ import { button, element, fill, isDisabled, messageArea, sentence, setDisabled, 
 import { gauge, sizeWords } from './length.js';
 
 /** @typedef {import('../../core/tasks/list_rows.js').ListRow} ListRow */
-/** @typedef {Awaited<ReturnType<typeof import('../../core/tasks/list.js').roomOfRow>>} Room */
+/** @typedef {Awaited<ReturnType<typeof import('../../core/tasks/rows_in_image.js').roomOfRow>>} Room */
 
 /** The card. */
 export class RowCard {

@@ -1,18 +1,21 @@
 // Saves all texts of the disc as a table or a PO file for a translator, and generates lines of the script from lists with new texts.
 
-import { SEARCHED } from '../../core/encodings/index.js';
-import { linesMade } from '../../core/script/index.js';
+import { SEARCHED, withEnd } from '../../core/encodings/views.js';
+import { hexText } from '../../core/hex_digits.js';
+import { linesMade } from '../../core/script/views.js';
 import { exportTable, importTable, patchedTexts } from '../../core/tasks/index.js';
+import { jobAt } from '../app/index.js';
 import { fileReader } from '../open/index.js';
 import { downloadBytes, patchedWork } from '../save/index.js';
 import * as texts from '../texts/index.js';
 import { format, remarkText, say } from '../texts/index.js';
-import { announce, button, capital, element, fill, isCancelled, jobBar, messageParts, nameOf, notice, runAt } from '../ui/index.js';
+import { announce, button, capital, element, failureNotice, fill, nameOf, notice } from '../ui/index.js';
 import { chosenEncoding, tableSource } from './encodings.js';
 import { LeftRows, reasonWords } from './left_rows.js';
 import { mergedWords, rowsMerged } from './merged_rows.js';
 import { isWritten, withdrawnLines } from './withdrawn.js';
 
+/** @typedef {import('../app/jobs.js').Bar} Bar */
 /** @typedef {import('../app/state.js').App} App */
 /** @typedef {import('../app/state.js').Image} Image */
 /** @typedef {import('../../core/script/merge_lines.js').ScriptLine} ScriptLine */
@@ -20,14 +23,13 @@ import { isWritten, withdrawnLines } from './withdrawn.js';
 /** @typedef {import('../../core/tasks/list_rows.js').ListRow} ListRow */
 /** @typedef {import('../ui/fill.js').Child} Child */
 
-/** The maximum number of lines, of codes that new texts leave out, and of characters that only new texts have, that are listed. */
+/** The maximum number of lines, and of codes that new texts leave out, that are listed. */
 const MOST_NUMBERS = 200;
 const MOST_CODES = 20;
-const MOST_GLYPHS = 100;
 
 /**
  * A remark on a list, as a sentence.
- * @template {'list/code-left' | 'list/new-characters' | 'list/fuzzy'} Name
+ * @template {'list/code-left' | 'list/fuzzy'} Name
  * @param {Name} code
  * @param {import('../../core/facts.js').Facts[Name]} facts
  */
@@ -43,6 +45,9 @@ export class TextsTable {
         /** @type {HTMLInputElement} */
         this.input = element('input', { type: 'file', class: 'hide', tabindex: -1, accept: '.tsv,.csv,.txt,.po',
             'aria-label': texts.textTableToImport, change: () => this.chosen() });
+        /** @type {HTMLInputElement} */
+        this.end = element('input', { type: 'text', class: 'mono', id: 'texts-end', maxlength: 2, size: 2, autocomplete: 'off',
+            spellcheck: 'false', pattern: '[0-9A-Fa-f]{2}' });
         this.job = element('div', { class: 'stack' });
         this.message = element('div', { role: 'status' });
         this.left = new LeftRows(app, () => this.ended());
@@ -50,7 +55,8 @@ export class TextsTable {
             element('span', { class: 'small quiet' }, texts.textAllTextsAsTable),
             button('slim', () => void this.save('csv'), texts.textExportTexts),
             button('slim', () => void this.save('po'), texts.textExportPo),
-            button('slim', () => this.input.click(), texts.textImportTable)),
+            button('slim', () => this.input.click(), texts.textImportTable),
+            element('label', { class: 'small quiet', for: 'texts-end' }, texts.textEndByte), this.end),
         element('p', { class: 'small quiet hint' }, texts.textHowRecognised), this.job, this.message, this.input);
         app.on('image', () => this.forget());
         app.addTaker(file => this.isTable(file));
@@ -66,27 +72,19 @@ export class TextsTable {
      * @param {string} name of the job
      * @param {string} noun the things that it counts, in the plural
      * @param {string} failure the message if it fails
-     * @param {(image: Image, bar: ReturnType<typeof jobBar>, signal: AbortSignal) => Promise<Child>} job
+     * @param {(image: Image, bar: Bar, signal: AbortSignal) => Promise<Child>} job
      */
     async work(name, noun, failure, job) {
         const { app } = this;
         const { image } = app;
         if (image === null) return void fill(this.message, notice('warn', texts.textNoImageIsOpen, texts.textOpenDiscFirst));
-        return runAt(this.job, async () => {
-            this.forget();
-            try {
-                const message = await app.runOnImage((signal, cancel) => {
-                    const bar = jobBar(name, cancel, { noun });
-                    fill(this.job, ...bar.parts);
-                    return job(image, bar, signal);
-                });
-                if (app.image === image) fill(this.message, message);
-            } catch (error) {
-                if (app.image === image) fill(this.message, isCancelled(error) ? notice('plain', texts.discJobCancelled, failure)
-                    : notice('bad', failure, ...messageParts(error, [image.name])));
-            } finally {
-                fill(this.job);
-            }
+        return jobAt(app, this.job, {
+            name, noun, of: 'image', run: (bar, signal) => {
+                this.forget();
+                return job(image, bar, signal);
+            },
+            done: message => fill(this.message, message),
+            failed: error => fill(this.message, failureNotice(error, failure, [image.name])),
         });
     }
 
@@ -98,6 +96,11 @@ export class TextsTable {
         return SEARCHED.includes(encoding) || !encoding.hasCharacters ? {} : { encoding: encoding.name };
     }
 
+    /** The byte that ends texts, if one was entered. */
+    endByte() {
+        return /^[0-9A-Fa-f]{2}$/.test(this.end.value) ? parseInt(this.end.value, 16) : undefined;
+    }
+
     /**
      * Saves the list that `cdscript texts` prints with --csv or --po, with the new texts of the script.
      * @param {'csv' | 'po'} form
@@ -106,6 +109,10 @@ export class TextsTable {
         return this.work(texts.textLookingForTexts, '', texts.textNoTableSaved, async (image, bar, signal) => {
             const pieces = [];
             let [all, news] = [0, 0];
+            /** @type {Set<string>} */
+            const ends = new Set();
+            const ended = (/** @type {string} */ _, /** @type {number} */ byte) => void ends.add(hexText(Uint8Array.of(byte)));
+            const how = { ...this.textOptions(), end: this.endByte(), form, ended };
             const newTextOf = await this.newTextOf(image);
             const freshOf = async (/** @type {ListedText} */ listed) => {
                 const fresh = newTextOf === null ? '' : await newTextOf(listed);
@@ -113,7 +120,7 @@ export class TextsTable {
                 return fresh;
             };
             const watch = { signal, progress: bar.sectors };
-            for await (const { text, count } of exportTable(this.app, image.opened, { ...this.textOptions(), form, freshOf }, watch)) {
+            for await (const { text, count } of exportTable(this.app, image.opened, { ...how, freshOf }, watch)) {
                 pieces.push(text);
                 all += count;
             }
@@ -121,6 +128,7 @@ export class TextsTable {
             const name = `${image.name.replace(/\.[^.]*$/, '')} (texts).${form}`;
             downloadBytes(pieces, name);
             const words = [format(texts.textTableHasTexts, { n: all }), ...news > 0 ? [format(texts.textHasNewTexts, { n: news })] : [],
+                ...ends.size > 0 ? [format(texts.textEndsFound, { bytes: [...ends].join(', ') })] : [],
                 form === 'po' ? texts.textTranslatePo : texts.textWriteNewTexts];
             const lacking = newTextOf === null ? texts.textTableLacksScript : '';
             return notice(lacking === '' ? 'good' : 'warn', say(texts.discFileSaved, { name: nameOf(name) }), words.join(' '), lacking);
@@ -166,14 +174,14 @@ export class TextsTable {
             const encoding = chosenEncoding(app);
             const isAsked = app.tables.has(app.encoding);
             const encodings = isAsked ? [encoding] : [...new Set([...encoding.hasCharacters ? [encoding] : [], ...SEARCHED])];
-            const options = { encodings, isAsked, partial: true };
+            const options = { encodings: encodings.map(it => withEnd(it, this.endByte())), isAsked, partial: true };
             const lists = [{ name: file.name, reader: fileReader(file) }];
             const isAlso = (/** @type {ListRow} */ row) => isWritten(app, row);
             const made = await importTable(app, image.opened, { ...options, lists, isAlso }, { signal, progress: bar.things });
             const lines = await rowsMerged(app, image, made.script, signal);
             if (lines === null) return null;
             const withdrawn = await withdrawnLines(app, linesMade(made.old), lines.incoming, signal);
-            void this.left.show({ image, name: file.name, rows: made.left, options });
+            await this.left.show({ image, name: file.name, rows: made.left, options });
             return this.madeNotice(made, lines.merged, withdrawn);
         });
     }
@@ -188,7 +196,8 @@ export class TextsTable {
         const fit = count - left;
         const isAny = merged.added + merged.replaced + merged.same + withdrawn.length > 0;
         const added = mergedWords(merged) || texts.discNothingAdded;
-        const rows = fit + left === 0 ? '' : left === 0 ? format(texts.textNewTextsFit, { n: fit })
+        const all = fit === 0 ? '' : format(texts.textNewTextsFit, { n: fit });
+        const rows = left === 0 ? all
             : `${format(texts.textSomeTextsFit, { n: fit })} ${format(texts.textOthersDoNot, { n: left, why: reasonWords(rowsLeft) })}`;
         const n = withdrawn.length;
         const lines = withdrawn.map(({ number }) => number).slice(0, MOST_NUMBERS).join(', ') + (n > MOST_NUMBERS ? ', …' : '');
@@ -196,9 +205,8 @@ export class TextsTable {
             ...codes.slice(0, MOST_CODES).map(it => remarkWords('list/code-left', it)),
             codes.length > MOST_CODES && format(texts.textMoreCodesLeftOut, { n: codes.length - MOST_CODES }),
             fuzzy > 0 && remarkWords('list/fuzzy', { count: fuzzy })].flatMap(it => it || []);
-        const newCharacters = glyphs.length === 0 ? []
-            : [remarkWords('list/new-characters', { glyphs: glyphs.slice(0, MOST_GLYPHS), count: glyphs.length })];
-        const remarks = [...others, ...newCharacters];
+        const newCharacters = glyphs.length > 0 && capital(remarkText({ code: 'list/new-characters', facts: { characters: glyphs } }));
+        const remarks = [...others, ...newCharacters ? [newCharacters] : []];
         announce([added, rows, ...remarks].join(' '));
         return notice(left + others.length === 0 ? 'good' : 'warn', added, rows, ...remarks.map(it => element('p', {}, it)),
             isAny && element('div', { class: 'row' },

@@ -1,6 +1,6 @@
 // Finds lines of the script that write where a table has no new text. They come from an earlier table that still had the new text.
 
-import { replacedLinesInTurns } from '../../core/script/index.js';
+import { replacedLinesInTurns } from '../../core/script/views.js';
 
 /** @typedef {import('../app/state.js').App} App */
 /** @typedef {import('../../core/tasks/list_rows.js').ListRow} ListRow */

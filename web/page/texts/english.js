@@ -63,6 +63,8 @@ export const frameOpenImage = 'Open image';
 export const frameHasNotStarted = 'cdpatch could not start.';
 export const frameWhyNotStarted = 'Either your browser cannot run it (any browser from mid-2024 on can, if JavaScript is allowed), or ' +
     'this file has been modified. In that case get it again from a source you trust.';
+export const frameNoVectors = 'Your browser has no WebAssembly SIMD. Chromium 91, Firefox 89, Safari 16.4, and later versions have it, ' +
+    'unless the processor has no SSE4.1 or the browser’s compilers are switched off.';
 export const frameNotInsideAnother = 'cdpatch does not run inside another page.';
 export const frameOpenTheFile = 'Open the file cdpatch.html itself.';
 
@@ -137,14 +139,17 @@ export const KEYS = [
 ];
 
 // the notes of the footer, and About
-export const frameProvedCode = 'Every sector that this page makes, every line of a script that it reads, and every finding in a Mode 1 ' +
-    'sector comes from code whose promises are proved theorems: libcdpatch, which is in this file as WebAssembly.';
-export const frameNotProved = 'JavaScript opens the files, moves the bytes, adds up the counts, and draws. It is tested against the ' +
-    'program cdpatch, byte for byte, but not proved. You still have to trust the compiler, the tool that converts the proved 64-bit ' +
-    'module to this 32-bit one, and your browser.';
-export const frameScriptsWereApplied = 'Before you see a script made from two images or from translations, or an undo script, the proved ' +
-    'code has applied it, and the result was exactly as intended. The JavaScript tests Mode 2 sectors. That a sector in a data track has ' +
-    'lost its sync field or mode byte is only its guess.';
+// trust: the page
+export const frameProvedCode =
+    'This page is tested, not proved; it encodes and patches sectors by a module that is made from proved calls.';
+// end of trust
+export const frameNotProved =
+    'The module also reads scripts and tests Mode 1 sectors. JavaScript opens the files, moves the bytes, copies ' +
+    'whole sectors, adds up the counts, and draws. Both are tested against the program cdpatch, byte for byte. You still have to trust ' +
+    'the compiler and your browser.';
+export const frameScriptsWereApplied = 'Before you see a script made from two images or from translations, or an undo script, the ' +
+    'module has applied it, and the result was exactly as intended. The JavaScript tests Mode 2 sectors. That a sector in a data ' +
+    'track has lost its sync field or mode byte is only its guess.';
 export const frameWhatItIsFor = 'cdpatch applies patches to raw CD images, helps to translate discs, and finds and repairs damaged ' +
     'sectors.';
 export const framePageIsOneFile = 'This page is a single file. It makes no network connections, sends nothing, and works offline: save ' +
@@ -185,7 +190,6 @@ export const openSaveAsUtf8 = 'Save it as plain UTF-8';
 export const openSameName = 'Two of these files have the same name. Open only one.';
 export const openIsOpenAlready = 'An image is open already: {name}. Open one more, {one} or {other}, to compare it.';
 export const openSheetLacks = 'The cue sheet does not name it: {sheet}.|The cue sheet does not name them: {sheet}.';
-export const openTooManySectors = 'An image has at most {most} sectors, and this one has more: {name}.';
 export const openCompressedImage = 'A compressed image (CHD), which cdpatch cannot read: {name}';
 export const openMakeRawImage = 'Convert it to a raw image first, in a terminal. Then open the new .cue and .bin here.';
 export const openRenameToDisc = 'Rename it to disc.chd before that: a terminal may read a part of its name as a command.';
@@ -226,7 +230,6 @@ export const listTrackMissing = 'Track {number} is in a missing file.';
 // ---- the open image's line
 
 export const imageFindingsOfTab = '{n} finding|{n} findings';
-export const imageFindingsCount = 'Findings';
 export const imageChangeBase = 'Change';
 export const imageSetTheBase = 'Set the base…';
 export const imageTheImage = ' the image';
@@ -257,16 +260,6 @@ export const imageReadingAt = 'Reading the disc: {percent} %';
 export const imageReadingDisc = 'Reading the disc';
 export const imageNoModeOne = 'No Mode 1 sectors:';
 export const imageCanBeLookedAt = 'this is audio, or Mode 2 as on PlayStation discs. You can view it, but not patch it.';
-export const imageAllSound = 'The Mode 1 sector is sound:|All {n} Mode 1 sectors are sound:';
-export const imageTheirCodesFit = 'its EDC and parity match.|their EDC and parity match.';
-export const imageCodesFit = 'The EDC and parity of {sectors} match';
-export const imageCodesFitBut = '{codesFit}; {others}.';
-export const imageLostSync = '{n} lost its sync field or mode byte|{n} lost their sync field or mode byte';
-export const imageHaveOtherAddress = '{n} has a wrong address|{n} have a wrong address';
-export const imageCountOfModeOne = '{n} Mode 1 sector|{n} Mode 1 sectors';
-export const imageCountOfData = '{n} data sector|{n} data sectors';
-export const imageAllDataSound = 'The data sector that was tested is sound:|All {n} data sectors that were tested are sound:';
-export const imageModeTwoNotTested = '{n} Mode 2 sector could not be tested.|{n} Mode 2 sectors could not be tested.';
 export const imageModeTwoNotPatched = 'You can view and repair Mode 2 sectors, but not patch them.';
 export const modeTwoIsDamaged = 'This Mode 2 sector is damaged: {what}.';
 export const modeTwoNotTested = 'This Mode 2 sector was not tested: it has no codes that show damage.';
@@ -274,10 +267,6 @@ export const modeTwoElsewhere = 'The address in its header is not that of its bl
 export const modeTwoSubheader = 'the two copies of the subheader differ';
 export const modeTwoEdc = 'the EDC does not match';
 export const modeTwoParity = 'the parity does not match';
-export const imageDamagedOf = '{n} of {sectors} is damaged,|{n} of {sectors} are damaged,';
-export const imageDamagedWhere = '{damaged} {places}. The other tested sectors are sound.';
-export const imageAllOverDisc = 'all over the disc';
-export const imageInPlaces = 'in {n} place|in {n} places';
 export const imageRepairFromOther = 'Repair from another dump…';
 export const imageGoToFirstPlace = 'Go to the first finding';
 export const imageNoAddressFits = 'No Mode 1 sector has the address expected for its block.';
@@ -322,8 +311,6 @@ export const discIsDamaged = 'damaged';
 export const discIsDamagedBy = 'damaged: {codes}';
 export const discAddressOfSector = 'address {address}';
 export const discFileIs = 'file {name}';
-export const discModeOneSectors = 'the Mode 1 sector|all {n} Mode 1 sectors';
-export const discDataSectors = 'the tested data sector|all {n} tested data sectors';
 
 // the card of findings: its tabs and buttons; screen readers say the second text of a copy button after the first
 export const discFindingsCard = 'Findings, files and runs';
@@ -357,7 +344,8 @@ export const discFoundJoint = ', ';
 // the appearance of a place; an ordinal has the forms for numbers like 1, like 2, and like 3, and for all others
 export const discAnotherBase = 'another base?';
 export const discNotDamage = 'not damage';
-export const discRowSpliced = '{count} in a row: spliced by hand? not damage';
+export const discRowShifted = '{count} in a row: sectors before them are missing or extra';
+export const discRowLost = '{count} in a row: perhaps not read by the drive';
 export const discRowOnPurpose = '{count} in a row: perhaps on purpose (copy protection)';
 export const discSingleSector = 'a single sector';
 export const discSingleSectorUserDataFit = 'a single sector; its user data match their EDC';
@@ -479,7 +467,8 @@ export const sectorByteOfCodes = 'P and Q give {fresh} in place of {old} at {pla
 export const sectorBytesFromTo = '{first} to {last}';
 export const sectorSoundElsewhere = 'This sector is sound, but it has a wrong address. {line}';
 export const sectorHeaderSays = 'Its header says {has}, and block {block} has {wants}.';
-export const sectorElsewhereIsNoDamage = 'This is not damage: the image may have been spliced by hand, or its {base} may be wrong.';
+export const sectorElsewhereIsNoDamage =
+    'The sector itself is not damaged. Perhaps sectors before it are missing or extra, or the {base} is wrong.';
 export const sectorBaseTerm = 'base';
 export const sectorHasNoSync = 'This sector has no sync field.';
 export const sectorIsNotModeOne = 'This is not a Mode 1 sector.';
@@ -652,8 +641,10 @@ export const textOpenTheSector = 'Open the sector';
 
 // all texts of the disc
 export const textAllTextsAsTable = 'All text on the disc, with the translations in the script:';
-export const textHowRecognised = 'Text is recognised by its Japanese characters, or by those of the chosen encoding. Plain ASCII ' +
-    'text is listed only if a .tbl file with its letters is chosen.';
+export const textHowRecognised = 'Text is recognised by its Japanese characters, or by those of the chosen encoding. For English ' +
+    'and other European languages choose Windows-1252, CP850, or a similar encoding.';
+export const textEndByte = 'Byte that ends each text (such as FF; leave empty to find it):';
+export const textEndsFound = 'In some files, texts end with {bytes}.';
 export const textExportTexts = 'Export a table…';
 export const textExportPo = 'Export PO…';
 export const textLookingForTexts = 'Looking for text';
@@ -715,6 +706,9 @@ export const scriptIsNotSaved = 'Your script is not saved.';
 export const scriptReplacedYours = 'This script replaced yours, which was not saved.';
 export const scriptBringItBack = 'Bring it back';
 export const scriptLinesNotShown = 'This script is too long: its lines are not shown.';
+export const scriptTooManyPatches = 'more than {n} patches';
+export const scriptHasTooManyPatches = 'This script has more than {n} patches, the most that this page applies.';
+export const scriptAppliedWithLong = 'Apply it with {command}.';
 
 // the script that undoes the open script
 export const scriptUndoScript = 'A script that undoes it…';
@@ -761,23 +755,20 @@ export const scriptOldText = 'old';
 
 // the help for a faulty line, and the labels of the buttons that correct it
 export const scriptLineHasForm = 'The line has this form: {form}.';
-export const scriptFormsOfSet = 'set BLOCK OFFSET NEW, or set BLOCK OFFSET NEW was OLD';
-export const scriptFormOfFill = 'fill BLOCK OFFSET COUNT BYTE';
-export const scriptFormOfRebuild = 'rebuild BLOCK';
-export const scriptFormOfAddress = 'address BLOCK MM:SS:FF';
-export const scriptFormsOfHead = 'cdpatch 1, or cdpatch 2';
+export const scriptOr = '{some}, or {last}';
 export const scriptNumbersAreDecimal = 'Blocks, offsets and counts are decimal, with 1 to 9 digits: no 0x, no separators.';
 export const scriptAddressIs = 'An address is MM:SS:FF with two digits each: SS to 59, FF to 74.';
 export const scriptMostPatches = 'A script has at most {most} patches. Cut it into two scripts.';
-export const scriptBeginsWithHead = 'A script begins with the line cdpatch 1.';
+export const scriptBeginsWithHead = 'A script begins with the line {head}.';
 export const scriptAddIt = 'Add it';
-export const scriptHeadHasNothingElse = 'A script begins with the line cdpatch 1 or cdpatch 2. Nothing else may be on that line.';
+export const scriptHeadHasNothingElse = 'A script begins with the line {heads}. Nothing else may be on that line.';
 export const scriptMakeIt = 'Change it to “{head}”';
 export const scriptVerbNeedsHead = 'The verb {verb} needs the head line {head}.';
 export const scriptOneHeadLine = 'A script has one head line, and it is the first.';
 export const scriptVerbsAreSmall = 'Verbs are written in lower case.';
 export const scriptIsItVerb = '{verb}?';
-export const scriptTheVerbsAre = 'The verbs are set, fill, and rebuild, and in version 2 address, in lower case.';
+export const scriptTheVerbsAre = 'The verbs are {verbs}, in lower case.';
+export const scriptVerbOfVersion = '{verb} (from version {version} on)';
 export const scriptOddDigits = 'An odd number of digits: {digits}. Two digits make one byte.';
 export const scriptBytesAreHexadecimal = 'Bytes are hexadecimal digits, two for each byte: no 0x, no quotes, no spaces between them.';
 export const scriptFillTakes = 'fill needs a count of 1 to {most}, and one byte: two digits.';
@@ -890,7 +881,6 @@ export const saveSavedFileRight = 'Correct: {name}';
 export const saveSumsMatch = 'Its size and SHA-1 are those of the patched image.';
 export const saveOpenSavedFile = 'Open it';
 export const saveSavedFileWrong = 'Wrong contents: {name}';
-export const saveNotSavedToEnd = 'It has {size} bytes instead of {wanted}: saving did not finish.';
 export const saveSumDiffersSaveAgain = 'Its SHA-1 does not match. Save it again.';
 
 // the reasons why an image was not saved
@@ -934,7 +924,7 @@ export const secondNotTestedStay = 'These are audio or Mode 2 sectors without co
 export const secondPerhapsAnotherRelease = 'Perhaps it is another release of the disc. They stay as they are here.';
 export const secondTailsDiffer = 'The bytes after the last sector differ.';
 export const secondTheyStay = 'They stay as they are here.';
-export const secondWhatRepairDoes = 'Whole sectors are copied, and only those that are damaged here and sound there. ' +
+export const secondWhatRepairDoes = 'Whole sectors are copied, and only those that are damaged or lost here and sound there. ' +
     'A sound sector is never changed. Your file stays as it is.';
 export const secondSaveRepaired = 'Save repaired image…';
 export const secondWriteRepairAsScript = 'Write it as a script';
@@ -950,6 +940,8 @@ export const secondMostAreSame = '{n} of {all} sectors are the same in both: it 
 export const secondSomeAreSame = '{n} of {all} sectors are the same in both.';
 export const secondTooManyDiffer = '{sectors}: more than one in a hundred. Nothing was copied.';
 export const secondSoundAndDiffer = '{n} sector is sound in both and differs|{n} sectors are sound in both and differ';
+export const secondUntestedAndDiffer = '{n} sector was not tested and differs|{n} sectors were not tested and differ';
+export const secondNothingTested = '{name} has no sector whose codes can show damage, so it cannot be repaired. Nothing was copied.';
 
 // the sectors that are not repaired
 export const secondCountNotRepaired = 'Cannot be repaired: {n}';
@@ -983,6 +975,8 @@ export const secondDifferInCodesOnly = 'only in EDC or parity';
 export const secondNoScriptChangesThem = 'A script cannot change them.';
 export const secondScriptTurns = 'The script turns {image} into {goal}.';
 export const secondSaveTheScript = 'Save the script…';
+export const secondSaveWithoutDamaged =
+    'Save the script without the damaged sector…|Save the script without the {n} damaged sectors…';
 export const secondOpenInScript = 'Open in Script';
 export const secondBytesThatDiffer = 'Bytes that differ, by field';
 export const secondSaveTheList = 'Save the list…';
@@ -1038,12 +1032,14 @@ says so to players.|{n} patches without old bytes ({was}): on another dump nothi
 export const publishReadingYourImage = 'Reading your image…';
 export const publishNotReadToEnd = 'Your image was not read to its end. Read it again under Disc.';
 export const publishYourImageSound = 'All sectors of your image that were tested are sound.';
-export const publishYourImageHasFindings = 'Your image has {n} finding: players with a sound disc have a different SHA-1.|\
-Your image has {n} findings: players with a sound disc have a different SHA-1.';
+export const publishYourImageHasFindings = 'Of your image, {what}. Players with a sound disc have a different SHA-1.';
+export const publishImageNotWhole =
+    'Your image is not whole: {what}. Players compare theirs with it, so publish from a whole image.';
 export const publishCalculatingOwnSha1 = 'Calculating the SHA-1 of your image…';
 export const publishComparedWithSha1 = 'Players’ images are compared with this SHA-1: {sha1}';
 export const publishTitleMissing = 'The title is missing.';
 export const publishWriteTitle = 'Add a title';
+export const publishTooLong = 'The title and the author may have at most {most} characters each, and the note {note}.';
 // The page inserts the signs, since | separates the forms of a text.
 export const publishPatchedNameRule = 'The name of the patched image has to end in .bin, .img, or .iso, with at most 120 characters before \
 that, none of them invisible, and none of {signs}.';

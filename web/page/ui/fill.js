@@ -49,13 +49,14 @@ export function fill(target, ...children) {
 }
 
 /**
- * The control that gets the focus: one in this part, or else one in its card, or else the card itself, which has a name.
+ * The control that gets the focus: one in this part, or else one in its card, or else the card itself, which has a name. Buttons of the
+ * class `away`, which close a part or replace what is open, never get it: a second press of Enter would press them.
  * @param {Element} target
  */
 function controlIn(target) {
     const card = /** @type {HTMLElement} */ (target.closest('.card') || target);
     for (const place of [target, card]) {
-        const control = place.querySelector('.btn.next, .next .btn') || place.querySelector('.btn');
+        const control = place.querySelector('.btn.next, .next .btn') || place.querySelector('.btn:not(.away)');
         if (control instanceof HTMLElement) return control;
     }
     card.tabIndex = -1;
@@ -67,7 +68,10 @@ function controlIn(target) {
  * @returns {(Node | string)[]}
  */
 export function nodesOf(children) {
-    return children.flatMap(child => child === null || child === false ? [] : child instanceof Node ? child : String(child));
+    return children.flatMap(child => {
+        if (child === null || child === false) return [];
+        return child instanceof Node ? child : String(child);
+    });
 }
 
 /**

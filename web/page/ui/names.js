@@ -37,6 +37,14 @@ export function seenTitle(text) {
 }
 
 /**
+ * Like `seenTitle`, for a text of several lines: line ends and tabs are kept.
+ * @param {string} text
+ */
+export function seenLines(text) {
+    return text.replace(/(?!\r?\n|\t)[\p{Cc}\p{Cs}\p{Zl}\p{Zp}\p{Bidi_Control}]/gu, '·');
+}
+
+/**
  * A text with a capital first letter.
  * @param {string} text
  */

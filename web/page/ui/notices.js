@@ -54,7 +54,8 @@ function showWords(made) {
         clearNotices();
         focusAgain(before);
     };
-    made.append(element('button', { type: 'button', class: 'btn slim bare cross', 'aria-label': playerTexts.close, click: press }, '×'));
+    made.append(element('button', { type: 'button', class: 'btn slim bare cross away', 'aria-label': playerTexts.close, click: press },
+        '×'));
     fill(place, made);
     place.hidden = false;
     made.scrollIntoView({ block: 'nearest' });
@@ -155,7 +156,8 @@ function errorWords(error) {
     }
     if (failedBy(error, 'image-ended')) return playerTexts.fileIsShorter;
     if (failedBy(error, 'no-memory')) return playerTexts.noMemoryLeft;
-    const message = error instanceof Fault ? remarkText(error) : error instanceof Error ? error.message : String(error);
+    const other = error instanceof Error ? error.message : String(error);
+    const message = error instanceof Fault ? remarkText(error) : other;
     return message.length > MOST_MESSAGE ? `${message.slice(0, MOST_MESSAGE)}…` : message;
 }
 
@@ -189,6 +191,16 @@ export function sentence(error) {
 /** @param {unknown} error */
 export function isCancelled(error) {
     return failedBy(error, 'cancelled');
+}
+
+/**
+ * The notice about a job that was cancelled or has failed.
+ * @param {unknown} error
+ * @param {string} failure what was not done
+ * @param {string[]} [names] of the files that the error may name
+ */
+export function failureNotice(error, failure, names = []) {
+    return isCancelled(error) ? notice('plain', texts.discJobCancelled, failure) : notice('bad', failure, ...messageParts(error, names));
 }
 
 /**

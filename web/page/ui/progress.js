@@ -9,37 +9,30 @@ import { Pace } from './pace.js';
 
 /** @typedef {import('./fill.js').Child} Child */
 
-/** @typedef {{ began: number, percent: number, name: string }} LongJob */
-/** @type {Map<string, LongJob>} the jobs that the bar of the page shows once they are long, by their keys */
-const longJobs = new Map();
+/** @typedef {import('../app/store.js').RunningJob} RunningJob */
 
 /** Milliseconds after which a job is long. */
 const LONG_AFTER = 500;
 
-/** The key of the job that saves an image. Its name changes with the language. */
-export const SAVING = 'saving';
+let waiting = 0;
 
 /**
- * Notes the progress of a job. If the job is long, the bar of the page shows it on every panel.
- * @param {string} key of the job: its name, or `SAVING`
- * @param {number | null} percent null if the job has ended
- * @param {string} [name]
+ * Shows in the bar of the page the long jobs that the visible panel does not show, or else the one that began first.
+ * @param {Set<RunningJob>} jobs
  */
-export function noteLongJob(key, percent, name = key) {
-    const { began } = longJobs.get(key) || { began: performance.now() };
-    if (percent !== null && !longJobs.has(key)) setTimeout(drawLongJob, LONG_AFTER);
-    if (percent === null) longJobs.delete(key);
-    else longJobs.set(key, { began, percent, name });
-    drawLongJob();
+export function drawLongJobs(jobs) {
+    clearTimeout(waiting);
+    const now = performance.now();
+    const withBars = [...jobs].filter(({ place }) => place !== null);
+    const long = withBars.filter(({ began }) => now - began >= LONG_AFTER);
+    if (long.length < withBars.length) waiting = window.setTimeout(drawLongJobs, LONG_AFTER, jobs);
+    const elsewhere = long.filter(({ place }) => place !== null && place.closest('[hidden]') !== null);
+    const shown = elsewhere.length > 0 ? elsewhere : long.slice(0, 1);
+    byId('long-job').hidden = shown.length === 0;
+    fill(byId('long-job'), ...shown.map(longJobLine));
 }
 
-function drawLongJob() {
-    const [shown] = [...longJobs.values()].filter(({ began }) => performance.now() - began >= LONG_AFTER).map(longJobLine);
-    byId('long-job').hidden = shown === undefined;
-    fill(byId('long-job'), shown || null);
-}
-
-/** @param {LongJob} job */
+/** @param {RunningJob} job */
 function longJobLine({ name, percent }) {
     const line = element('i');
     line.style.width = `${percent}%`;
@@ -53,10 +46,10 @@ function longJobLine({ name, percent }) {
  * other things.
  * @param {string} name what the job does, for screen readers
  * @param {() => void} cancel
- * @param {{ saves?: boolean, isNoted?: boolean, noun?: string }} how whether an image is saved; whether the job is noted as a long job,
- *     whose end the caller notes; and the name of the `things`, in the plural
+ * @param {{ saves?: boolean, noun?: string, note: (percent: number) => void }} how whether an image is saved; the name of the `things`, in
+ *     the plural; and a function that receives how much is done
  */
-export function jobBar(name, cancel, { saves = false, isNoted = saves, noun = '' } = {}) {
+export function jobBar(name, cancel, { saves = false, noun = '', note }) {
     const bar = element('i');
     const progress = element('div', { class: 'progress', role: 'progressbar', 'aria-label': name, 'aria-valuemin': 0,
         'aria-valuemax': 100 }, bar);
@@ -70,7 +63,7 @@ export function jobBar(name, cancel, { saves = false, isNoted = saves, noun = ''
         const { percent, rate, left } = all === 0 ? { percent: 0, rate: 0, left: 0 } : pace.now.at(done, now);
         bar.style.width = `${percent}%`;
         progress.setAttribute('aria-valuenow', String(percent));
-        if (isNoted) noteLongJob(saves ? SAVING : name, percent, name);
+        note(percent);
         fill(facts, element('span', {}, bold(format(playerTexts.inPercent, { n: percent }))),
             ...all === 0 ? [] : [...amounts(rate), timeLeft(left)]);
     };
@@ -115,7 +108,7 @@ export function jobEnd(cancel, saves) {
         /** @type {HTMLElement} */ (part.querySelector('.btn')).focus();
     };
     const question = element('div', { class: 'say warn', role: 'alert' }, bold(playerTexts.endTheSaving), playerTexts.noImageIsKept,
-        element('div', { class: 'row' }, button('', () => show(row), playerTexts.goOnSaving), button('', cancel, playerTexts.endIt)));
+        element('div', { class: 'row' }, button('', () => show(row), playerTexts.goOnSaving), button('away', cancel, playerTexts.endIt)));
     const escaped = () => saves ? show(question.isConnected ? row : question) : cancel();
     const end = element('div', { class: 'job-end', escape: escaped }, row);
     return end;
@@ -125,26 +118,9 @@ export function jobEnd(cancel, saves) {
  * Shows that a job is already running, until it ends.
  * @param {Element} place of its bar
  */
-function sayBusy(place) {
+export function sayBusy(place) {
     place.querySelector('.is-busy')?.remove();
     place.append(element('p', { class: 'is-busy', role: 'status' }, playerTexts.anotherJobRuns));
-}
-
-/** @type {WeakSet<Element>} places at which a job runs */
-const busy = new WeakSet();
-
-/**
- * Runs a job with its progress bar at a place. If a job is already running there, shows that instead.
- * @param {Element} place
- * @param {() => Promise<void>} job
- */
-export async function runAt(place, job) {
-    if (busy.has(place)) return sayBusy(place);
-    busy.add(place);
-    await job().finally(() => {
-        busy.delete(place);
-        place.querySelector('.is-busy')?.remove();
-    });
 }
 
 /**

@@ -34,12 +34,11 @@ export function oneTabStop(group, controls, chosen = () => {}) {
  */
 function nextOf(list, at, event) {
     if (at < 0 || event.altKey || event.ctrlKey || event.metaKey) return null;
-    const last = list.length - 1;
     /** @type {Record<string, number>} */
-    const places = { ArrowRight: at + 1, ArrowDown: at + 1, ArrowLeft: at - 1, ArrowUp: at - 1, Home: 0, End: last };
+    const places = { ArrowRight: at + 1, ArrowDown: at + 1, ArrowLeft: at - 1, ArrowUp: at - 1, Home: 0, End: -1 };
     const place = places[event.key];
     if (place === undefined) return null;
-    return list[place < 0 ? last : place > last ? 0 : place];
+    return list[(place + list.length) % list.length];
 }
 
 /**

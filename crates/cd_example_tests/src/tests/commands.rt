@@ -1,13 +1,15 @@
-//! The examples of cd_args, cd_program and cd_memory.
+//! The examples of cd_args, cd_program and cd_memory, and of the commands on images.
 
 use cd_args::{Job, LineFault, NO_MEMORY, Settings, job_of, refusal_line};
-use cd_image::{FailAfter, Sink, SliceSink, SliceSource, ToWrite, ZeroSource};
-use cd_memory::{File, Memory, audit_image, list_image, run_on_files};
+use cd_memory::{File, Memory, run_on_files};
 use cd_program::{
-    Host, LoadFault, System, load_fault_line, load_script, print_and_fail, read_script, run_apply,
-    run_args, run_audit, run_check, run_list,
+    Host, LoadFault, System, load_fault_line, load_script, read_script, run_apply, run_args,
+    run_audit, run_check, run_list,
 };
+use cd_read::{Fault, long_image_line, print_and_fail, report_fault};
+use cd_report::{audit_image, list_image};
 use cd_script::parse;
+use cd_stream::{FailAfter, Sink, SliceSink, SliceSource, ToWrite, ZeroSource};
 use std::alloc::AllocError;
 use std::io;
 use std::test::Fail;
@@ -33,17 +35,11 @@ fn settings_without_a_job(rt: HostRuntime) {
 }
 
 #[test]
-fn the_status_of_a_fault(rt: HostRuntime) {
-    let fault = LineFault::NoMemory;
-    assert_eq!(rt; fault.status(), 2);
-}
-
-#[test]
 fn the_line_of_a_fault(rt: HostRuntime) {
     let fault = LineFault::NoMemory;
     let text = fault.parser_text(rt.alloc()); // None
     assert_eq!(rt; refusal_line(text.as_deref()), NO_MEMORY);
-    assert_eq!(rt; fault.status_with(text.as_deref()), 2);
+    assert!(rt; !fault.asks_for_help());
 }
 
 #[test]
@@ -77,9 +73,27 @@ fn a_script_from_a_file(rt: HostRuntime) {
 fn a_line_and_status_2(rt: HostRuntime) {
     let mut space = [0; 64];
     let mut out = SliceSink::new(&mut space);
-    let line = load_fault_line(LoadFault::TooLong);
+    let line = long_image_line();
     assert_eq!(rt; print_and_fail(line.as_slice(), &mut out), 2);
-    assert!(rt; out.written().starts_with(b"cdpatch: the script is longer"));
+    assert!(rt; out.written().starts_with(b"cdpatch: the image has more"));
+}
+
+#[test]
+fn a_fault_and_status_2(rt: HostRuntime) {
+    let mut space = [0; 64];
+    let mut out = SliceSink::new(&mut space);
+    assert_eq!(rt; report_fault(Fault::Write, Fault::Write, &mut out), 2);
+    assert_eq!(rt; report_fault(Fault::Read, Fault::Write, &mut out), 2);
+    assert!(rt; out.written().starts_with(b"cdpatch: reading the image"));
+}
+
+#[test]
+fn the_line_of_a_script_that_is_not_loaded(rt: HostRuntime) {
+    let line = load_fault_line(LoadFault::TooLong);
+    assert!(rt;
+        line.as_slice()
+            .starts_with(b"cdpatch: the script is longer")
+    );
 }
 
 #[test]

@@ -1,9 +1,10 @@
 //! The examples of cd_run.
 
+use cd_line::text_line;
 use cd_patch::Outcome;
+use cd_read::{failed_read_line, long_image_line};
 use cd_run::{
-    Ahead, PatchRun, Step, counts_line, failed_read_line, long_image_line, long_script_line,
-    outcome_line, script_fault_line, text_line,
+    Ahead, PatchRun, Step, counts_line, long_script_line, outcome_line, script_fault_line,
 };
 use cd_script::{Edit, LentBytes, Patch, ScriptFault, is_patch};
 use cd_sector::{SECTOR_SIZE, Sector, USER_SIZE, encode};

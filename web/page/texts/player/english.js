@@ -46,6 +46,7 @@ export const ENGLISH = /** @type {const} */ ({
     saveNoImageKept: 'No image was kept.',
     saveDiskIsFull: 'The disk is full at {percent} %.',
     saveWritingFailed: 'Writing failed at {percent} %: {why}',
+    saveNotSavedToEnd: 'The saved file has {size} bytes instead of {wanted}: saving did not finish.',
     saveAsksAfterClick: 'The browser shows its file dialog only right after a click. Press the button again.',
     saveOpenFileHasName: 'Another open file has this name: {name}',
     saveNothingSavedChooseName: 'Nothing was saved. Choose another name.',
@@ -71,8 +72,6 @@ export const ENGLISH = /** @type {const} */ ({
     playerThisVeryPage: 'The same file as this page, byte for byte: {name}',
     playerThisPageAndSpace: 'This page, and white space after it: {name}',
     playerThisCdpatch: 'Exactly the program of this page, byte for byte: {name}',
-    playerReleaseOfCdpatch: 'Exactly the program of cdpatch {release}, byte for byte: {name}',
-    playerEarlierRelease: 'It is an earlier release.',
     playerOtherVersionOrChanged: 'It is another version, or it was changed.',
     playerHoldsNoPatch: 'It holds no patch.',
     playerOnlyPatchRead: 'Only its patch was read.',
@@ -125,7 +124,7 @@ export const ENGLISH = /** @type {const} */ ({
     // the verdict on the image
     playerRightDisc: 'This is the right disc.',
     playerOtherDumpFits: 'This is a different dump, but the patch fits it.',
-    playerNotAuthorsDisc: 'This is not the author’s disc.',
+    playerCannotTell: 'cdpatch cannot tell whether this is the right disc.',
     playerOtherDumpFitsNot: 'This is a different dump, and the patch does not fit it.',
     playerDumpDamaged: 'This dump is damaged in places that the patch changes.',
     playerImageIsPatched: 'This image is patched already.',
@@ -146,6 +145,7 @@ export const ENGLISH = /** @type {const} */ ({
     playerPlacesMatch: 'The place matches.|All {n} places match.',
     playerRestDiffers: 'The rest of the disc differs from the author’s.',
     playerMusicShiftedPerhaps: 'The rest of the disc differs from the author’s: perhaps its music is shifted.',
+    playerSomePlacesMatch: '{n} of {places} matches.|{n} of {places} match.',
     playerPlacesMatchRestUnknown: 'The place matches, but nothing shows whether the rest is of the same disc.|\
 All {n} places match, but nothing shows whether the rest is of the same disc.',
     playerNamesNoOldBytes: '{n} of {changes} names no old bytes, so nothing shows whether it fits.|\

@@ -5,7 +5,8 @@ use Rattle.clap.specs.Words.{Text, found_of, one_text, rows_of, without_minus}
 use Rattle.clap.specs.declared.parser.matches.Found.{Found}
 use Rattle.clap.proofs.CallerReads.{signed_reads}
 use Rattle.clap.proofs.WalkLemmas.{one_text-rows}
-use Rattle.cd_args.specs.Options.{HasBase, max_base}
+use Rattle.cd_args.specs.Options.{HasBase}
+use Rattle.cd_address.specs.Address.{last_block}
 use Rattle.cd_args.proofs.settings.base_of.Goals as goal
 
 base_text : (found : Found) (h : HasBase (rows_of found))
@@ -16,7 +17,7 @@ pub unwrap-requires : goal.unwrap-requires
 unwrap-requires c =
     let got =
     signed_reads _ (λ bs r. ParsesUnsigned 32 10 bs r × ExplainsUnsignedError 10 bs r
-    × HasUnsignedDigitsIfOk bs r) 32 0 max_base c.requires.text c.get_one.result
+    × HasUnsignedDigitsIfOk bs r) 32 0 last_block c.requires.text c.get_one.result
     (c.get_one.ensures.value _ (base_text (found_of c.args.matches.now) c.requires)) (λ u x g. g.0)
     (omega arith) c.requires.accepted in
     rw got.1 refl
@@ -32,7 +33,7 @@ pub returns-clause-most : goal.returns-clause-most
 returns-clause-most c =
     let got =
     signed_reads _ (λ bs r. ParsesUnsigned 32 10 bs r × ExplainsUnsignedError 10 bs r
-    × HasUnsignedDigitsIfOk bs r) 32 0 max_base c.requires.text c.get_one.result
+    × HasUnsignedDigitsIfOk bs r) 32 0 last_block c.requires.text c.get_one.result
     (c.get_one.ensures.value _ (base_text (found_of c.args.matches.now) c.requires)) (λ u x g. g.0)
     (omega arith) c.requires.accepted in
     let is = got.1 in

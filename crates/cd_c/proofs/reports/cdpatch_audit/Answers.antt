@@ -1,5 +1,5 @@
 use Rattle.std.proofs.Common.{ap, rules}
-use Rattle.cd_memory.proofs.RoomLemmas.{fills-counted}
+use Rattle.cd_stream.proofs.RoomLemmas.{fills-counted}
 use Rattle.cd_c.proofs.ReportLemmas.{report-clauses}
 use Rattle.cd_c.proofs.TextSizeLemmas.{texts-short}
 use Rattle.cd_c.proofs.reports.cdpatch_audit.Goals as goal

@@ -1,7 +1,8 @@
 use Rattle.std.proofs.Common.{◌∙◌, arith}
 use Rattle.std.proofs.lemmas.Result.{err_from_is_err_and}
 use Rattle.cd_image.specs.Applying.{streams}
-use Rattle.cd_c_scripts.proofs.ClientLemmas.{led_next, said_all, said_fails, said_next}
+use Rattle.cd_c_scripts.proofs.ClientEnds.{led_next}
+use Rattle.cd_c_scripts.proofs.RefusalLemmas.{said_all, said_fails, said_next}
 use Rattle.cd_c_scripts.proofs.client.lead.Goals as goal
 
 pub returns-in_err-done-clause-leads : goal.returns-in_err-done-clause-leads

@@ -4,7 +4,10 @@ use Rattle.cd_script.specs.Order.{order}
 use Rattle.cd_script.proofs.ParseLemmas.{order-list}
 use Rattle.cd_run.specs.Messages.{long_script, script_fault_line}
 use Rattle.cd_image.specs.Applying.{streams}
-use Rattle.cd_c_scripts.proofs.ClientLemmas.{applies_whole, refused_fails}
+use Rattle.cd_c_scripts.specs.Flags.{all_as_asked, carries}
+use Rattle.cd_c_scripts.proofs.EntryLemmas.{IsPatchList-asked}
+use Rattle.cd_c_scripts.proofs.ClientEnds.{applies_whole}
+use Rattle.cd_c_scripts.proofs.RefusalLemmas.{refused_fails}
 use Rattle.cd_c_scripts.proofs.client.run_script.Goals as goal
 
 pub returns-in_err-status-clause-applies : goal.returns-in_err-status-clause-applies
@@ -14,10 +17,10 @@ returns-in_err-status-clause-applies g c =
     (streams (g.I.Source.seen c.args.image.now) (g.O.Sink.seen c.args.out.now)
     (g.L.Sink.seen c.args.log.now)) in
     rw (failed.1, failed.2) (λ ps short is room.
-    applies_whole (Err _) (order-list _ ps is).each (
+    applies_whole (Err _) (IsPatchList-asked c.args.flags _ (order-list _ ps is)).each (
       Err _,
       refl,
-      c.in_err-status.ensures.leads c.args.carry (order ps) c.args.base start
+      c.in_err-status.ensures.leads (carries c.args.flags) (all_as_asked c.args.flags (order ps)) c.args.base start
           (c.begin.ensures.led ps short is room start),
     ))
 
@@ -62,10 +65,11 @@ returns-clause-applies g c = λ ps short is room.
     let start =
     (streams (g.I.Source.seen c.args.image.now) (g.O.Sink.seen c.args.out.now)
     (g.L.Sink.seen c.args.log.now)) in
-    applies_whole c.close.result (order-list _ ps is).each
-    (c.close.ensures.reports c.args.carry c.args.script.now c.begin.new.entries (order ps) c.args.base
+    applies_whole c.close.result (IsPatchList-asked c.args.flags _ (order-list _ ps is)).each
+    (c.close.ensures.reports (carries c.args.flags) c.args.script.now c.begin.new.entries
+    (all_as_asked c.args.flags (order ps)) c.args.base
     start (g.I.Source.seen c.lead.new.image) c.lead.new.run c.lead.new.hand c.lead.new.step
-    (c.in_ok-status.ensures.leads c.args.carry (order ps) c.args.base start
+    (c.in_ok-status.ensures.leads (carries c.args.flags) (all_as_asked c.args.flags (order ps)) c.args.base start
     (c.begin.ensures.led ps short is room start)))
 
 pub returns-clause-too_long : goal.returns-clause-too_long

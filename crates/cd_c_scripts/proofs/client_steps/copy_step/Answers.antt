@@ -1,7 +1,8 @@
 use Rattle.std.proofs.Common.{◌≡◌, ◌+◌, ◌∙◌, inl, inr, arith}
 use Rattle.std.proofs.lemmas.Bool.{eqb-true}
 use Rattle.std.proofs.lemmas.Result.{err_from_is_err_and}
-use Rattle.cd_c_scripts.proofs.ClientLemmas.{copies, copies_whole, copy_fails, less_by, passed_more}
+use Rattle.cd_c_scripts.proofs.ClientCopies.{copies, copies_whole, copy_fails, passed_more}
+use Rattle.cd_c_scripts.proofs.ClientMoves.{less_by}
 use Rattle.cd_c_scripts.proofs.client_steps.copy_step.Goals as goal
 
 pub returns-in_err-came-clause-takes : goal.returns-in_err-came-clause-takes

@@ -17,12 +17,12 @@ few_patches text ps is = (rw is at (script-short text)).1
 pub returns-then-index-entries-clause-most : goal.returns-then-index-entries-clause-most
 returns-then-index-entries-clause-most c =
     let i = c.in-Ok.ensures.indexed in
-    inr (omega (arith, i.counted, few_patches c.args.script.now i.patches i.is_script))
+    inr (inr (omega (arith, i.counted, few_patches c.args.script.now i.patches i.is_script)))
 
 pub returns-else-index-entries-clause-most : goal.returns-else-index-entries-clause-most
 returns-else-index-entries-clause-most c =
     let i = c.in-Ok.ensures.indexed in
-    inr (omega (arith, i.counted, few_patches c.args.script.now i.patches i.is_script))
+    inr (inr (omega (arith, i.counted, few_patches c.args.script.now i.patches i.is_script)))
 
 pub returns-else-index-entries-clause-begins : goal.returns-else-index-entries-clause-begins
 returns-else-index-entries-clause-begins c = λ small few short room.

@@ -96,11 +96,11 @@ const PARSER_TEXTS: &[(&str, u8, &str)] = &[
     ),
 ];
 
-/// Whether a fault is the parser's, and has this status, and this part of a text.
+/// Whether a fault is the parser's, and a request for help if the status is 0, and has this part of a text.
 fn is_told(alloc: Global, fault: &LineFault, status: u8, part: &str) -> bool {
     let text = fault.parser_text(alloc);
     matches!(fault, LineFault::Parser(_))
-        && fault.status_with(text.as_deref()) == status
+        && fault.asks_for_help() == (status == 0)
         && refusal_line(text.as_deref()).contains(part)
 }
 

@@ -7,9 +7,9 @@ use super::messages::{
 };
 use crate::tests::images::Sample::{self, Damaged, Filled, Zeros};
 use crate::tests::images::image_of;
-use cd_args::MAX_BASE;
 use cd_image::{FailAfter, SliceSink, SliceSource, ZeroSource};
 use cd_program::{run_apply, run_audit, run_check, run_list};
+use cd_report::MAX_BASE;
 use cd_script::{Script, parse};
 use std::alloc::{AllocError, Global};
 use std::process::Abort;

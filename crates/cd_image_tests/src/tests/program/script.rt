@@ -51,7 +51,7 @@ const TEXTS: &[(&str, Option<ScriptFault>)] = &[
     ("cdpatch 2\naddress x 00:60:00", Some(Number(2))),
     ("cdpatch 2\naddress 0", Some(Words(2))),
     ("cdpatch 1\naddress 0 00:02:00", Some(Verb(2))),
-    ("cdpatch 3", Some(Head(1))),
+    ("cdpatch 9", Some(Head(1))),
 ];
 
 #[test]

@@ -24,9 +24,9 @@ returns g c =
     c.in-Ok-image_at.input c.image_at.new.host c.in-Ok-image_at.ensures.asked
     c.in-Ok-output_at.output c.output_at.new.self c.in-Ok-output_at.ensures.gives
     (record {
-      left = c.run_apply_by-status.new.image;
-      made = c.run_apply_by-status.new.out;
-      applies = c.run_apply_by-status.ensures;
+      left = c.run_apply-status.new.image;
+      made = c.run_apply-status.new.out;
+      applies = c.run_apply-status.ensures;
       last = c.flush_rest.new.out;
       rest = c.flush_rest.ensures;
       back = c.take_back.ensures;

@@ -1,7 +1,7 @@
 use Rattle.std.proofs.Common.{ℕ, List, Ok, rules}
 use Rattle.cd_program.specs.Hosting.{Hosting}
 use Rattle.cd_program.specs.Program.{DoesReport, TakesImage}
-use Rattle.cd_program.specs.Running.{RunsReport}
+use Rattle.cd_report.specs.Running.{RunsReport}
 use Rattle.cd_report.specs.Report.{ReportSpec}
 use Rattle.cd_stream.specs.Stream.{Incoming, Outgoing}
 use Rattle.cd_program.proofs.jobs.open_and_audit.Goals as goal

@@ -11,5 +11,5 @@ pub returns : goal.returns
 returns g c =
     DoesCheck.checked c.in-Ok.script c.script_at.new.host
     (g.L.Sink.seen c.script_at.new.log) c.in-Ok.ensures.takes
-    c.in-Ok-image_at.image c.run_check_by.new.image c.in-Ok-image_at.ensures.asked
-    c.run_check_by.ensures
+    c.in-Ok-image_at.image c.run_check.new.image c.in-Ok-image_at.ensures.asked
+    c.run_check.ensures

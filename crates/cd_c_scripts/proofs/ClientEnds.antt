@@ -1,0 +1,293 @@
+-- A client after a step, and at its end: its effects are those of `apply` of cd_image.
+use Rattle.std.proofs.Common.{◌≡◌, ℕ, ◌+◌, ◌<◌, ◌≤◌, ◌⊎◌, inl, inr, Bool, true, false, List, [], length, Result, Ok, Err, refl, sym, ap, ◌∙◌, arith, append-nil, length-append}
+use Rattle.std.specs.Prelude.{All, ◌-◌}
+use Rattle.std.proofs.KnownBytes.{Consumes-nil}
+use Rattle.std.proofs.lemmas.Bool.{cases_lt, true≢false}
+use Rattle.cd_script.specs.Patch.{IsPatch}
+use Rattle.cd_script.specs.PatchForm.{Patch}
+use Rattle.cd_sector.specs.Image.{sector_limit, sectors, tail}
+use Rattle.cd_patch.specs.declared.outcome.Outcome.{Outcome}
+use Rattle.cd_patch.proofs.SequenceLemmas.{PatchSequence-lengths}
+use Rattle.cd_stream.specs.Stream.{Incoming, IsBeginning, Outgoing}
+use Rattle.cd_stream.specs.Transfer.{Flushes}
+use Rattle.cd_stream.proofs.TransferLemmas.{Takes-flushed, Takes-nil}
+use Rattle.cd_read.specs.Ends.{MayBeImageAtEnd}
+use Rattle.cd_read.specs.declared.fault.Fault.{Fault}
+use Rattle.cd_read.specs.declared.fault.Fault.TheVariants as fault
+use Rattle.cd_read.specs.declared.fault.Fault.TheVariants.{Log, Write}
+use Rattle.cd_read.proofs.EndLemmas.{MayBeImageAtEnd-end, by_end, by_length, ended as all_ended, log_failed, read_failed, too_long, write_failed}
+use Rattle.cd_run.specs.Patched.{EachPatching}
+use Rattle.cd_run.specs.PatchLog.{log_lines, log_text, sent_when_log_fails}
+use Rattle.cd_run.proofs.PatchLogLemmas.{log_when_out_fails-end, sent_when_log_fails-later}
+use Rattle.cd_run.proofs.PatchedLemmas.{IsPatched-determined}
+use Rattle.cd_image.specs.Applying.{Applies, Streams, patch_tally, streams}
+use Rattle.cd_image.proofs.ApplyReportLemmas.{Applies-carried, Applies-ending, Applies-ends_log, Applies-ends_out, Applies-few, Applies-few_counted, Applies-log_bytes, Applies-output}
+use Rattle.cd_image.proofs.KnownLemmas.{applies}
+use Rattle.cd_c_scripts.specs.Client.{AppliesAs, HasEnded, HasTaken, IsLed, ReportsAs}
+use Rattle.cd_c_scripts.specs.Flags.{carries}
+use Rattle.cd_c_scripts.specs.Runs.{Goes, IsBegun, IsDone, IsRunning, MayEnd, Moved, Tells, unknown_size}
+use Rattle.cd_c_scripts.specs.StepKinds.{end_kind}
+use Rattle.cd_c_scripts.specs.declared.entries.Entry.{Entry}
+use Rattle.cd_c_scripts.specs.declared.run_state.RunStep.{RunStep}
+use Rattle.cd_c_scripts.specs.declared.run_state.ScriptRun.{ScriptRun}
+use Rattle.cd_c_scripts.specs.declared.run_state.TheConstants.{OVER}
+use Rattle.cd_c_scripts.proofs.MovedLemmas.{asks_few}
+use Rattle.cd_c_scripts.proofs.TellingLemmas.{not_logged, status_few}
+use Rattle.cd_c_scripts.proofs.ClientLogs.{patched_size}
+
+-- ---- the next step
+
+pub led_next : {carry : Bool} {text : List ℕ} {es : List Entry} {patches : List Patch} {base : ℕ}
+    {start now : Streams} {run : ScriptRun} {hand before : List (List ℕ)} {done : ℕ}
+    (t : HasTaken carry text es patches base start now run before hand done)
+    (run' : ScriptRun) (hand' : List (List ℕ)) (step : RunStep)
+    → Goes text es patches base t.read' t.sent' t.log_bytes run' hand' step
+    → run'.flags ≡ run.flags → run'.image_size ≡ run.image_size
+    → (run.machine.stage ≡ 0 → 0 < run'.machine.stage → MayEnd run run' done)
+    → (run'.asked ≡ OVER → (run.asked ≡ OVER)
+    ⊎ ((run'.machine.stage ≡ 2) × (run'.machine.sectors ≤ sector_limit)))
+    → IsLed carry text es patches base start now run' hand' step
+led_next {text = text} {es = es} {patches = patches} {base = base} {now = now} {run = run} {done = done} t run' hand' step goes flags size ends over = record {
+  read = t.read';
+  sent = t.sent';
+  log_bytes = t.log_bytes;
+  moved = t.moved;
+  goes = goes;
+  within = t.within;
+  ended = by_running goes.running;
+  carried = ap carries flags ∙ t.carried;
+  unknown = size ∙ t.unknown;
+}
+  where
+    by_end : run'.machine.sectors ≤ sector_limit → MayEnd run run' done → HasEnded now.image
+    by_end few (MayEnd.fewer asks less unknown) = t.short asks less
+    by_end few (MayEnd.whole asks all) = absurd (omega (arith, all, t.little asks, t.unknown))
+    by_end few (MayEnd.known all) = absurd (omega (arith, all, t.unknown, few))
+
+    by_stage : run'.machine.sectors ≤ sector_limit → 0 < run'.machine.stage → HasEnded now.image
+    by_stage few some = elim (cases_lt 0 run.machine.stage) [
+      | inl was ↦ t.ended (inr was)
+      | inr none ↦ by_end few (ends (omega (arith, none)) some)
+    ]
+
+    by_running : {log_bytes : List ℕ}
+        → IsRunning text es patches base t.read' t.sent' log_bytes run' hand'
+        → (run'.asked ≡ OVER) ⊎ (0 < run'.machine.stage) → HasEnded now.image
+    by_running (IsRunning.going about state asks) is = elim is [
+      | inl last ↦ absurd (omega (arith, asks_few asks, last))
+      | inr some ↦ by_stage state.sound.sectors some
+    ]
+    by_running (IsRunning.over last done) is = elim (over last) [
+      | inl was ↦ t.ended (inl was)
+      | inr two ↦ by_stage two.1 (omega (arith, two.0))
+    ]
+    by_running (IsRunning.long stopped long) is =
+        absurd (omega (arith, long.goes_beyond.beyond, t.within))
+
+-- the first step: nothing was requested before
+pub led_first : {carry : Bool} {text : List ℕ} {es : List Entry} {patches : List Patch} {base : ℕ}
+    {run : ScriptRun} {hand : List (List ℕ)} (start : Streams) → IsBegun text es patches base run
+    → carries run.flags ≡ carry → run.image_size ≡ unknown_size
+    → HasTaken carry text es patches base start start run hand hand 0
+led_first start begun carried unknown = record {
+  read = [];
+  sent = [];
+  read' = [];
+  sent' = [];
+  log_bytes = [];
+  moved = record {
+    gives = record { consumes = Consumes-nil start.image.rest; counted = omega arith };
+    sends = Takes-nil start.out;
+    logs = Takes-nil start.log;
+    unfailed = omega arith;
+    unflushed = omega arith;
+  };
+  running = begun.3 _;
+  took = Moved.told (inl begun.1) (sym begun.0) refl refl;
+  same = record { window = refl; tail = λ one. refl };
+  within = omega arith;
+  ended = λ is. absurd (elim is [
+    | inl over ↦ omega (arith, over, begun.1)
+    | inr some ↦ omega (arith, some, begun.2)
+  ]);
+  short = λ asks less. absurd (omega (arith, less, begun.0));
+  little = λ asks. absurd (elim asks [
+    | inl reading ↦ omega (arith, reading, begun.1)
+    | inr copying ↦ omega (arith, copying, begun.1)
+  ]);
+  carried = carried;
+  unknown = unknown;
+}
+
+-- ---- the end
+
+log_size : (ps : List Patch) (os : List Outcome)
+    → (n : ℕ) × (length (log_text ps os) ≡ length (log_lines ps os) + n)
+unfolding log_text
+log_size ps os = (_, length-append (log_lines ps os) _)
+
+-- once the whole log is written, the whole image is written
+sent_at_end : (ps : List Patch) (os : List Outcome) (base : ℕ) (image : List ℕ)
+    → length os ≡ length ps
+    → sent_when_log_fails ps os base image (length (log_text ps os)) ≡ length image
+sent_at_end ps os base image same =
+    let n = log_size ps os in
+    ap (sent_when_log_fails ps os base image) n.1
+    ∙ (rw (append-nil, append-nil) at (sent_when_log_fails-later image base ps [] os [] n.0 same))
+
+module _ {carry : Bool} {text : List ℕ} {es : List Entry} {patches : List Patch} {base : ℕ}
+    {start now : Streams} {run : ScriptRun} {hand : List (List ℕ)} {step : RunStep}
+    (l : IsLed carry text es patches base start now run hand step) (kind : step.kind ≡ end_kind) where
+  over_by : Tells patches l.read l.sent run step → (run.asked ≡ OVER) × (step.status ≡ run.most)
+  over_by (Tells.to_end is over status) = (over, status)
+  over_by (Tells.to_stop is too_long status) = absurd (omega (arith, too_long, l.within))
+  over_by (Tells.to_read is _ _ _ _ _ _) = absurd (omega (arith, is, kind))
+  over_by (Tells.to_copy is _ _ _ _ _) = absurd (omega (arith, is, kind))
+  over_by (Tells.to_write is _ _ _ _ _) = absurd (omega (arith, is, kind))
+  over_by (Tells.to_log is _ _) = absurd (omega (arith, is.kind, kind))
+  over_by (Tells.to_log_last is _ _) = absurd (omega (arith, is.kind, kind))
+
+  over : (run.asked ≡ OVER) × (step.status ≡ run.most)
+  over = over_by l.goes.tells
+
+  done_by : {log_bytes : List ℕ} → IsRunning text es patches base l.read l.sent log_bytes run hand
+      → IsDone carry patches base l.read l.sent log_bytes run.most
+  done_by (IsRunning.going about state asks) = absurd (omega (arith, asks_few asks, over.0))
+  done_by (IsRunning.over is done) = rw l.carried at done
+  done_by (IsRunning.long is long) = absurd (omega (arith, is, over.0))
+
+  d : IsDone carry patches base l.read l.sent l.log_bytes run.most
+  d =
+      rw (not_logged step step.kind refl (omega (arith, kind)), append-nil l.log_bytes) at
+      (done_by l.goes.running)
+
+  pub end_status : step.status ≤ 1
+  end_status = omega (arith, status_few d, over.1)
+
+  size : length l.sent ≡ length l.read
+  size = patched_size l.read l.sent d.patched
+
+  ended : HasEnded now.image
+  ended = l.ended (inl over.0)
+
+  -- a property of this run holds for each way of patching each image that matches it
+  by_run : (Holds : List ℕ → List Outcome → List ℕ → Type 0) → Holds l.read d.outcomes l.sent
+      → (whole : List ℕ) → MayBeImageAtEnd now.image.rest l.read whole
+      → EachPatching carry patches base whole (Holds whole)
+  by_run Holds h whole fits os last patched =
+      let is = MayBeImageAtEnd-end now.image.rest l.read whole ended.0 fits in
+      let same = IsPatched-determined _ _ _ _ _ _ _ _ (rw is at patched) d.patched in
+      rw (is, same.0, same.1) h
+
+  begins : IsBeginning l.sent l.sent × IsBeginning l.log_bytes (log_text patches d.outcomes)
+  begins = (([], sym (append-nil _)), ([], sym d.log_right ∙ sym (append-nil _)))
+
+  pub end_out_fails : {E : Type 0} {e : E} {out : Outgoing} → Flushes {E = E} now.out out (Err e)
+      → Applies carry patches base start (record now { out = out }) (Err fault.Write)
+  end_out_fails {out = out} fails =
+      applies l.moved.gives (Takes-flushed _ _ _ _ _ l.moved.sends fails) l.moved.logs
+      (omega (arith, size)) (record {
+        failed = record {
+          reads = l.moved.unfailed.reads;
+          writes = omega (arith, fails.count, l.moved.unfailed.writes);
+          logs = l.moved.unfailed.logs;
+        };
+        out_flushes = out.flushes - now.out.flushes;
+        flushes = record {
+          outs = omega (arith, fails.flushes, l.moved.unflushed.outs);
+          logs = l.moved.unflushed.logs;
+        };
+        once = omega (arith, fails.flushes);
+        at_end = λ less. absurd (omega (arith, less, size));
+        cut = λ sure. absurd (true≢false (sym fails.fails ∙ l.moved.sends.flush_may_fail ∙ sure));
+        within = l.within;
+        begins = by_run _ begins;
+        between_sinks = by_run _ (d.log_right ∙ sym (log_when_out_fails-end _ _ _ _ _ size));
+      })
+
+  module _ {E : Type 0} {x : Unit {0}} {out : Outgoing} (flushed : Flushes {E = E} now.out out (Ok x)) where
+    pub end_log_fails : {F : Type 0} {f : F} {log : Outgoing} → Flushes {E = F} now.log log (Err f)
+        → Applies carry patches base start (record now { out = out; log = log }) (Err fault.Log)
+    end_log_fails {log = log} fails =
+        applies l.moved.gives (Takes-flushed _ _ _ _ _ l.moved.sends flushed)
+        (Takes-flushed _ _ _ _ _ l.moved.logs fails) (omega (arith, size)) (record {
+          failed = record {
+            reads = l.moved.unfailed.reads;
+            writes = flushed.count ∙ l.moved.unfailed.writes;
+            logs = omega (arith, fails.count, l.moved.unfailed.logs);
+          };
+          out_flushes = 1;
+          log_flushes = log.flushes - now.log.flushes;
+          flushes = record {
+            outs = omega (arith, flushed.flushes, l.moved.unflushed.outs);
+            logs = omega (arith, fails.flushes, l.moved.unflushed.logs);
+          };
+          once = omega (arith, fails.flushes);
+          within = l.within;
+          begins = by_run _ begins;
+          between_sinks =
+              by_run _ (size ∙ sym (ap (sent_when_log_fails patches d.outcomes base l.read) (ap length d.log_right)
+              ∙ sent_at_end patches d.outcomes base l.read
+              (PatchSequence-lengths _ _ _ _ _ _ d.patched.run)));
+          flushed = by_run _ (λ all. flushed.finished);
+          at_end = by_run _ (λ all. refl, λ once. d.log_right);
+          cut = λ sure. absurd (true≢false (sym fails.fails ∙ l.moved.logs.flush_may_fail ∙ sure));
+        })
+
+    pub end_ok : {F : Type 0} {y : Unit {0}} {log : Outgoing} (status : ℕ) → status ≡ step.status
+        → Flushes {E = F} now.log log (Ok y)
+        → ReportsAs carry patches base start (record now { out = out; log = log }) (Ok status)
+    end_ok status is logged = (
+      Ok (patch_tally l.read d.outcomes),
+      is ∙ over.1 ∙ d.status_right,
+      applies l.moved.gives (Takes-flushed _ _ _ _ _ l.moved.sends flushed)
+          (Takes-flushed _ _ _ _ _ l.moved.logs logged) (omega (arith, size)) (record {
+            failed = record {
+              reads = l.moved.unfailed.reads;
+              writes = flushed.count ∙ l.moved.unfailed.writes;
+              logs = logged.count ∙ l.moved.unfailed.logs;
+            };
+            flushes = record {
+              outs = omega (arith, flushed.flushes, l.moved.unflushed.outs);
+              logs = omega (arith, logged.flushes, l.moved.unflushed.logs);
+            };
+            out_finished = flushed.finished;
+            log_finished = logged.finished;
+            at_end = ended.0;
+            ended = ended.1;
+            within = l.within;
+            outcomes = d.outcomes;
+            patched = d.patched;
+            log_right = d.log_right;
+            tally_right = refl;
+          }),
+    )
+
+-- ---- the clauses of `apply`
+
+pub applies_whole : {carry : Bool} {patches : List Patch} {base : ℕ} {image image' : Incoming}
+    {out out' log log' : Outgoing} (result : Result ℕ Fault) → All IsPatch patches
+    → ReportsAs carry patches base (streams image out log) (streams image' out' log') result
+    → AppliesAs carry patches base image image' out out' log log' result
+applies_whole result each r =
+    let ending = Applies-ending r.0 r.2 in (
+      r.0,
+      r.1,
+      record {
+        report = r.2;
+        output = Applies-output r.0 r.2;
+        carried = Applies-carried r.0 r.2 each;
+        log_bytes = Applies-log_bytes r.0 r.2;
+        output_ends_well = Applies-ends_out r.0 r.2;
+        log_ends_well = Applies-ends_log r.0 r.2;
+        read_failed = read_failed r.0 ending;
+        write_failed = write_failed r.0 ending;
+        log_failed = log_failed r.0 ending;
+        too_long = too_long r.0 ending;
+        by_length = λ reads writes logs. by_length reads writes logs r.0 ending;
+        ended = all_ended r.0 ending;
+        by_end = λ reads writes logs. by_end reads writes logs r.0 ending;
+        holds_few = Applies-few r.0 r.2;
+        holds_few_counted = Applies-few_counted r.0 r.2;
+      },
+    )

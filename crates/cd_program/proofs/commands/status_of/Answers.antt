@@ -1,5 +1,0 @@
-use Rattle.std.proofs.Common.{arith}
-use Rattle.cd_program.proofs.commands.status_of.Goals as goal
-
-pub returns-else-tally-eq0 : goal.returns-else-tally-eq0
-returns-else-tally-eq0 c = grind arith

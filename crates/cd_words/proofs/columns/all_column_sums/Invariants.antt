@@ -1,6 +1,0 @@
-use Rattle.std.proofs.Common.{◌*◌}
-use Rattle.cd_code.specs.CodeWords.{SumsOf, column_of}
-use Rattle.cd_words.proofs.columns.all_column_sums.Given as goal
-
-abbrev pub invariant-loop-k : goal.invariant-loop-k
-invariant-loop-k l = SumsOf (column_of l.bytes) (8 * l.k) l.sums.plain l.sums.weighted

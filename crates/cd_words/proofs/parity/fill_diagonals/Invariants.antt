@@ -1,8 +1,0 @@
-use Rattle.std.proofs.Common.{◌*◌}
-use Rattle.cd_code.specs.Filling.{Filled}
-use Rattle.cd_words.specs.Words.{diagonal_input_of}
-use Rattle.cd_words.proofs.parity.fill_diagonals.Given as goal
-
-abbrev pub invariant-loop-k : goal.invariant-loop-k
-invariant-loop-k l =
-    Filled (diagonal_input_of l.initial.bytes) 2248 52 (8 * l.k) l.initial.bytes l.bytes

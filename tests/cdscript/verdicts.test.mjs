@@ -1,0 +1,63 @@
+// The verdict on an image: one table (tests/lib/verdict_images.py), which `info` and `scan` give, and the page in test_verdicts.py.
+
+import assert from 'node:assert/strict';
+import { spawnSync } from 'node:child_process';
+import { createHash } from 'node:crypto';
+import { join } from 'node:path';
+import { test } from 'node:test';
+import { inDirectory, read, run, top, write } from './common.mjs';
+
+/** What the line of the verdict has for a kind of finding. Wrong addresses after a gap are not counted again. */
+const SAYS = { damaged: /damaged/, lost: /lost/, short: /missing at the end/, cut: /the last sector is cut/, gap: /before block \d|in \d+ places/,
+    untested: /could not be tested/, missing: /in a missing file/, address: /wrong address|before block|in \d+ places/ };
+
+/** The keys of `info --json` with the number of a kind of finding. */
+const KEYS = { damaged: 'damaged', lost: 'lost', address: 'wrongAddress' };
+const IS_WRONG = { damage: 1, doubt: 1, sound: 0, nothing: 0 };
+
+const objects = out => out.split('\n').filter(Boolean).map(line => JSON.parse(line));
+
+/** The findings of the files of a disc, summed up. */
+function findings(files) {
+    const counts = {};
+    const add = (code, count) => { if (count > 0) counts[code] = (counts[code] || 0) + count; };
+    for (const it of files) {
+        if (it.kind === 'missing') add('missing', Number(it.name === 'gone.bin'));
+        for (const [code, key] of Object.entries(KEYS)) add(code, it[key]);
+    }
+    return counts;
+}
+
+test('info and scan give the verdict of the table', () => inDirectory(async room => {
+    const made = spawnSync('python3', ['-B', join(top, 'tests/lib/verdict_images.py'), room], { maxBuffer: 1 << 24 });
+    assert.equal(made.status, 0, `${made.stderr}`);
+    const { verdicts, others } = JSON.parse(made.stdout);
+    for (const [name, level, due] of verdicts) {
+        const text = await run(['info', name], { cwd: room });
+        const json = await run(['info', '--json', name], { cwd: room });
+        const scan = await run(['scan', '--json', name], { cwd: room });
+        const files = objects(json.out);
+        const wanted = Object.fromEntries(Object.entries(due).filter(([code]) => code in KEYS || code === 'missing'));
+        assert.deepEqual(findings(files), wanted, name);
+        assert.ok(files.some(it => it.verdict === level), `${name}: ${files.map(it => it.verdict)}`);
+        assert.deepEqual([text.status, json.status], [IS_WRONG[level], IS_WRONG[level]], name);
+        // A track in a missing file is an error of scan, which cannot examine it.
+        assert.equal(scan.status, 'missing' in due ? 2 : IS_WRONG[level], name);
+        assert.deepEqual(objects(scan.out).map(it => it.verdict), files.filter(it => it.kind !== 'missing').map(it => it.verdict), name);
+        for (const code of Object.keys(due)) assert.match(text.out.split('\n').filter(line => line.startsWith('verdict')).join(), SAYS[code], name);
+    }
+    const withBase = async name => run(['info', '--base', '100', name], { cwd: room });
+    assert.doesNotMatch((await withBase('sound.bin')).out, SAYS.gap, 'a wrong base is not a gap');
+    assert.match((await withBase('hole.bin')).out, SAYS.gap, 'a gap is found with a wrong base');
+    for (const name of others) assert.equal((await run(['info', name], { cwd: room })).status, 1, name);
+}));
+
+test('info of a file that a DAT verifies has status 0 if nothing is wrong with it, whatever it is', () => inDirectory(async room => {
+    spawnSync('python3', ['-B', join(top, 'tests/lib/verdict_images.py'), room]);
+    const rom = bytes => `<rom name="a" size="${bytes.length}" sha1="${createHash('sha1').update(bytes).digest('hex')}"/>`;
+    for (const [name, due] of [['disc.iso', 0], ['audio.bin', 0], ['subchannels.bin', 0], ['unproven.bin', 0], ['data.bin', 1]]) {
+        write(room, { dat: `<datafile><game name="a">${rom(read(room, name))}</game></datafile>` });
+        assert.equal((await run(['info', name, '--dat', 'dat'], { cwd: room })).status, due, name);
+        assert.equal((await run(['info', name, '--dat', 'dat', '--json'], { cwd: room })).status, due, name);
+    }
+}));

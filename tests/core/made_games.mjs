@@ -1,0 +1,129 @@
+// Files as games of several kinds have them, made here, with the places of all texts and a reader of the game's own kind.
+
+import { core, diceOf } from './common.mjs';
+
+const { encodeText } = await core('encodings/encoding.js');
+const { encodingOf } = await core('encodings/encodings.js');
+
+const bytesOf = (name, text) => Buffer.from(encodeText(encodingOf(name), text));
+const number = (size, value, isBig = false) => {
+    const bytes = Buffer.alloc(size);
+    if (isBig) bytes.writeUIntBE(value, 0, size);
+    else bytes.writeUIntLE(value, 0, size);
+    return bytes;
+};
+
+const WHO = ['勇者', '村人', '王様', '魔王', '盗賊', '戦士', '老人', '商人', '姫', '兵士', '父さん', '神父さま'];
+const WHAT = ['薬草', '剣', '盾', '鍵', '地図', '宝箱', '指輪', '聖水', '魔法の杖', '手紙', 'かがみ', 'たいまつ'];
+const WHERE = ['北の塔', '東の洞窟', '城の地下', '海の向こう', '森の奥', '西の港町', '砂漠の遺跡', '天空の城'];
+const DID = ['を手に入れた', 'を探している', 'を見つけた', 'を盗まれた', 'がほしいのか', 'を持ってきてくれ', 'が光りだした'];
+const END = ['。', '！', '？', '…。', 'よ。', 'のだ。'];
+const WORDS = ['やくそう', 'どくけし', 'せいすい', '剣士', '鉄の盾', '皮の鎧', 'まほうのカギ', '地図', '薬草', '指輪', '炎の杖', '王冠', 'はい', 'いいえ', '回復', '防具', '道具屋', '宿屋',
+    '教会', '北の塔', '洞窟', '地下室', '水晶', '手紙', '金貨', '弓矢', '石版', '小船', '馬車'];
+
+/** Sentences of several languages, as programs have them, from parts. */
+const PARTS = {
+    English: [['Cannot open', 'Delete', 'Save changes to', 'Please insert', 'You found', 'The old man gave you'], ['the file', 'this game', 'the disc', 'a silver key', 'the castle gate', 'your profile'], ['.', '?', ' now.', ' before you continue.']],
+    German: [['Möchten Sie', 'Sie können', 'Bitte prüfen Sie, ob Sie', 'Der Händler möchte'], ['den Schlüssel öffnen', 'die Größe ändern', 'das Gerät für später wählen', 'zurück zum Menü'], ['?', '.', ' ...', '!']],
+    Polish: [['Czy chcesz', 'Nie można', 'Możesz teraz', 'Proszę najpierw'], ['usunąć plik', 'zapisać zmiany', 'otworzyć drzwi', 'włożyć płytę do napędu'], ['?', '.', ' później.', ' jeszcze raz.']],
+    Russian: [['Вы хотите', 'Невозможно', 'Теперь можно', 'Сначала нужно'], ['удалить файл', 'сохранить игру', 'открыть дверь', 'вставить диск в дисковод'], ['?', '.', ' позже.', ' ещё раз.']],
+};
+
+/** A line of a game with about as many forms as this number says. */
+function lineOf(dice) {
+    const [who, what, where, did, end] = [WHO, WHAT, WHERE, DID, END].map(some => some[dice(some.length)]);
+    return [`${who}は${where}で${what}${did}${end}`, `「${who}、${what}${did}${end}」`, `${where}へ行けば${what}があるらしい${end}`,
+        `${who}さま、どうか${what}を${where}まで届けてください${end}`][dice(4)];
+}
+
+const linesOf = (dice, count) => Array.from({ length: count }, () => lineOf(dice));
+const wordsOf = (dice, count) => Array.from({ length: count }, (_, i) => WORDS[(7 * i + dice(3)) % WORDS.length]);
+const sentencesOf = (language, dice, count) => Array.from({ length: count }, () => PARTS[language].map(some => some[dice(some.length)]).join(' ').replace(/ ([.?!])/, '$1'));
+
+/** Bytes like code and numbers. */
+const others = (dice, size) => Buffer.from(Array.from({ length: size }, () => [0, 0, 1, 2, 4, 0x89, 0x8B, 0xE8, 0xFF, 0x55, dice(256)][dice(11)]));
+
+/** Texts that end with a byte, after a table of pointers. */
+function ended(dice, texts, end, name, encoding) {
+    const all = texts.map(text => Buffer.concat([bytesOf(encoding, text), Buffer.of(end)]));
+    let at = 2 * all.length;
+    const places = all.map(bytes => [at, (at += bytes.length) - 1]);
+    const bytes = Buffer.concat([...places.map(([from]) => number(2, from)), ...all, others(dice, 300)]);
+    return { name, encoding, bytes, places, read: file => places.map(([from]) => [from, file.indexOf(end, from)]) };
+}
+
+/** Texts with a length before each. */
+function counted(dice, texts, size, isBig, name) {
+    const before = others(dice, 60);
+    const all = texts.map(text => bytesOf('CP932', text)).filter(({ length }) => size > 1 || length < 256);
+    const bytes = Buffer.concat([before, ...all.flatMap(it => [number(size, it.length, isBig), it]), others(dice, 200)]);
+    const read = file => {
+        let at = before.length;
+        return all.map(() => {
+            const length = isBig ? file.readUIntBE(at, size) : file.readUIntLE(at, size);
+            return [at += size, at += length];
+        });
+    };
+    return { name, encoding: 'CP932', bytes, places: read(bytes), read };
+}
+
+/** String tables of Windows: blocks of 16 strings, each with its number of characters before it; many are empty. */
+function tables(dice, texts) {
+    const slots = texts.flatMap(text => dice(3) === 0 ? [text] : ['', text]);
+    const all = slots.map(text => Buffer.concat([number(2, text.length), bytesOf('UTF-16LE', text)]));
+    const read = file => {
+        const found = [];
+        let at = 64;
+        for (let i = 0; i < slots.length; i++) {
+            const length = 2 * file.readUInt16LE(at);
+            if (length > 0) found.push([at + 2, at + 2 + length]);
+            at += 2 + length;
+        }
+        return found;
+    };
+    const bytes = Buffer.concat([others(dice, 64), ...all, others(dice, 100)]);
+    return { name: 'string tables', encoding: 'UTF-16LE', bytes, places: read(bytes), read };
+}
+
+/** Fields of 16 bytes that are filled with a byte, with numbers between them. */
+function fields(dice, texts, filler) {
+    const all = texts.map(text => {
+        const field = Buffer.alloc(16, filler);
+        bytesOf('CP932', text).copy(field);
+        return Buffer.concat([field, Buffer.from(Array.from({ length: 6 }, () => 1 + dice(200)))]);
+    });
+    const read = file => all.map((_, i) => {
+        let end = 22 * i + 16;
+        while (end > 22 * i && file[end - 1] === filler) end -= 1;
+        return [22 * i, end];
+    });
+    const bytes = Buffer.concat(all);
+    return { name: `fields filled with ${filler}`, encoding: 'CP932', bytes, places: read(bytes), read, least: 0 };
+}
+
+/** A program: texts that end with 00, at places that 4 divides, among code. */
+function program(dice, language, encoding) {
+    const all = sentencesOf(language, dice, 40).map(text => Buffer.concat([bytesOf(encoding, text), Buffer.of(0)]));
+    const padded = all.map(bytes => Buffer.concat([bytes, Buffer.alloc(-bytes.length & 3)]));
+    let at = 400;
+    const places = padded.map((it, i) => [at, (at += it.length) - it.length + all[i].length - 1]);
+    const bytes = Buffer.concat([others(dice, 396), Buffer.alloc(4), ...padded, others(dice, 3000)]);
+    return { name: `${language} in ${encoding}`, encoding, bytes, places, isNamed: true, read: file => places.map(([from]) => [from, file.indexOf(0, from)]) };
+}
+
+/** All games. Of the texts of each, 9 in 10 are rows, or a share of `least`. */
+export function madeGames(seed) {
+    const dice = diceOf(seed);
+    return [
+        ...[0x00, 0xFF, 0x03, 0xFE].flatMap(end => [
+            ended(dice, linesOf(dice, 60), end, `lines, then ${end}`, 'CP932'),
+            ended(dice, wordsOf(dice, 120), end, `words, then ${end}`, 'CP932'),
+        ]),
+        counted(dice, linesOf(dice, 60), 1, false, 'lengths of a byte'),
+        counted(dice, linesOf(dice, 60), 2, false, 'lengths of two bytes, the least first'),
+        counted(dice, linesOf(dice, 60), 2, true, 'lengths of two bytes, the greatest first'),
+        tables(dice, linesOf(dice, 60)), ...[0x00, 0x20, 0xFF].map(filler => fields(dice, wordsOf(dice, 60), filler)),
+        program(dice, 'English', 'Windows-1252'), program(dice, 'German', 'Windows-1252'), program(dice, 'German', 'CP850'),
+        program(dice, 'Polish', 'Windows-1250'), program(dice, 'Polish', 'CP852'), program(dice, 'Russian', 'Windows-1251'), program(dice, 'Russian', 'CP866'),
+    ];
+}

@@ -1,0 +1,297 @@
+"""Nothing is lost: only its own Cancel ends a job, an unsaved script stays unsaved, and a progress bar stays until its job ends."""
+
+from pathlib import Path
+
+import common
+import discs
+from keys import Keys
+from pages import GATE, HELD, PICKER, PageTest, applied, patcher
+
+
+def repairable() -> tuple[bytes, bytes]:
+    """A dump with two damaged sectors, and an undamaged dump."""
+    return common.damaged(common.damaged(discs.game(), 40), 60), discs.game()
+
+
+# Presses the button that closes the open image or the second one, in the part of the page with this id.
+CLOSE = 'document.getElementById(arguments[0]).querySelectorAll("button").forEach(it => { if (it.textContent.startsWith("Close")) it.click(); })'
+
+
+class Unsaved(PageTest):
+    stub = PICKER
+
+    def state(self) -> str:
+        return str(self.browser.run('return chosen.state'))
+
+    def repairs(self) -> dict[str, Path]:
+        """Opens two dumps, and starts saving the repaired one."""
+        first, second = repairable()
+        files = discs.written(first=first, second=second, third=common.damaged(second, 90))
+        self.open_image(files['first'])
+        self.open_files(files['second'])
+        self.browser.answer('Repair the open first.bin with this file')
+        self.browser.wait('.tally', 'can be repaired')
+        self.begins('Save repaired image')
+        return files
+
+    def patches(self) -> dict[str, Path]:
+        files = discs.written(game=discs.game(), english=discs.script(), other=common.damaged(discs.game(), 90))
+        self.open_image(files['game'])
+        self.open_script(files['english'])
+        self.begins()
+        return files
+
+    def ends_well(self, due: bytes) -> None:
+        """Lets the save end, and compares the bytes."""
+        self.browser.run('chosen.release()')
+        common.waited(lambda: self.state() in ('closed', 'aborted'), 'the save does not end')
+        self.assertEqual(self.state(), 'closed')
+        self.assertEqual(self.chosen_bytes(), due)
+        self.assertFalse(self.browser.run('return chosen.removed'))
+
+    def test_no_file_that_is_dropped_ends_the_saving_of_a_repaired_image(self) -> None:
+        files = self.repairs()
+        self.browser.drop('#main', [files['third']])
+        self.browser.wait('#messages .say.warn', 'Not opened: third.bin.')
+        self.browser.wait('#messages .say.warn', common.text('imageBeingSaved'))
+        self.browser.wait('#second-title', 'second.bin')
+        self.browser.wait('#second-body .progress')
+        self.assertTrue(self.browser.asks_before_leaving())
+        self.browser.click('#tab-text')
+        self.browser.wait('#long-job [aria-label=Saving]', 'Saving')
+        self.browser.click('#tab-disc')
+        self.ends_well(discs.game())
+        self.is_gone('#long-job')
+        self.browser.wait('#second-body .say.good', 'Saved: first (repaired).bin')
+        self.assertFalse(self.browser.asks_before_leaving())
+
+    def test_no_button_ends_the_saving_of_a_repaired_image_but_its_own(self) -> None:
+        self.repairs()
+        for card, place in (('disc-line', '#messages'), ('panel-disc', '#panel-disc .said')):
+            self.browser.run(CLOSE, card)
+            self.browser.wait(f'{place} .say.warn', common.text('imageBeingSaved'))
+        self.press('Open it instead')
+        self.press('Set the base')
+        self.browser.wait('#disc-line form', 'Set it only if a script or list numbers the blocks of this file differently.')
+        self.press('Set')
+        self.browser.wait('#disc-line .name', 'first.bin')
+        self.browser.wait('#second-title', 'second.bin')
+        self.browser.wait('#second-body .progress')
+        self.ends_well(discs.game())
+
+    def test_another_track_does_not_end_the_saving_of_a_repaired_image(self) -> None:
+        first, second = repairable()
+        files = discs.written(first=first, later=common.image_of([b'later'] * 300, base=900), second=second)
+        cue = files['first'].with_name('disc.cue')
+        cue.write_text(discs.sheet_of(first=discs.DATA, later=discs.DATA))
+        self.open_files(cue, files['first'], files['later'])
+        self.wait_for_hash()
+        self.open_files(files['second'])
+        self.browser.answer('Repair the open first.bin with this file')
+        self.browser.wait('.tally', 'can be repaired')
+        self.begins('Save repaired image')
+        self.browser.choose('#disc-line select', '2')
+        self.browser.wait('#messages .say.warn', common.text('imageBeingSaved'))
+        self.assertEqual(self.browser.text('#disc-line .name'), 'first.bin')
+        self.ends_well(discs.game())
+
+    def test_a_second_press_does_not_save_twice(self) -> None:
+        self.repairs()
+        for button in ('Save repaired image', 'Save repaired image', 'Write it as a script'):
+            self.press(button)
+        self.assertEqual(self.browser.run('return [chosen.asked, document.querySelectorAll("#second-body .progress").length]'), [1, 1])
+        self.assertTrue(self.browser.asks_before_leaving())
+        self.ends_well(discs.game())
+
+    def test_a_slow_choice_of_a_file_is_not_asked_for_twice(self) -> None:
+        files = self.open_both(discs.game(), discs.script())
+        self.browser.run('chosen.pickLater()')
+        self.press_save()
+        self.browser.wait('#panel-script .progress')
+        self.browser.click('.editor textarea')
+        self.browser.press(Keys.ENTER, held=Keys.CONTROL)
+        self.open_files(discs.written(third=discs.scratched())['third'])
+        self.browser.wait('#messages .say.warn', 'Not opened: third.bin.')
+        self.assertEqual(self.browser.run('return chosen.asked'), 1)
+        self.browser.run('chosen.pick()')
+        self.browser.wait('#panel-script .say.good', 'Saved: game (patched).bin')
+        self.assertEqual(self.chosen_bytes(), applied(files['game'], files['english'])[2])
+
+    def test_escape_elsewhere_ends_no_saving(self) -> None:
+        files = self.patches()
+        self.browser.click('#tab-text')
+        self.browser.click('#find-text')
+        self.browser.press('a', Keys.ESCAPE)
+        self.browser.click('#tab-disc')
+        self.browser.send('#map', Keys.HOME, Keys.ENTER)
+        self.wait_for_focus('.hex')
+        self.browser.press(Keys.ESCAPE)
+        self.browser.press(Keys.ESCAPE)
+        self.edit(Keys.ESCAPE)
+        self.browser.wait('#panel-script .progress')
+        self.assertNotIn(common.text('endTheSaving'), self.browser.text('#panel-script'))
+        self.ends_well(applied(files['game'], files['english'])[2])
+
+    def test_escape_in_its_card_asks_before_it_ends_a_saving(self) -> None:
+        files = self.patches()
+        self.assertEqual(self.focused(), 'Check: Cancel')
+        self.browser.press(Keys.ESCAPE)
+        self.browser.wait('#panel-script .say.warn', common.text('endTheSaving'))
+        self.assertEqual(self.focused(), 'Check: Keep saving')
+        self.browser.press(Keys.ESCAPE)
+        self.assertEqual(self.focused(), 'Check: Cancel')
+        self.browser.press(Keys.ESCAPE)
+        self.press('Keep saving')
+        self.browser.wait('#panel-script .progress')
+        self.ends_well(applied(files['game'], files['english'])[2])
+
+    def test_escape_and_a_yes_end_a_saving(self) -> None:
+        self.patches()
+        self.browser.press(Keys.ESCAPE)
+        self.press('Stop and discard')
+        self.browser.run('chosen.release()')
+        self.browser.wait('#panel-script .say', 'Cancelled.')
+        self.assertEqual(self.browser.run('return [chosen.state, chosen.removed]'), ['aborted', True])
+
+    def test_escape_elsewhere_does_not_stop_the_reading_of_a_disc(self) -> None:
+        game = discs.written(game=discs.game() * 60)['game']
+        self.browser.run(HELD)
+        self.open_files(game)
+        self.browser.wait('#disc-line .lead', 'Reading the disc')
+        self.browser.click('#tab-text')
+        self.browser.click('#find-text')
+        self.browser.press(Keys.ESCAPE)
+        self.browser.run('letGo()')
+        self.browser.click('#tab-disc')
+        self.browser.wait('#disc-line .lead', 'Sectors are missing or extra in 59 places')
+        self.wait_for_hash()
+
+    def test_no_patcher_is_opened_and_none_is_left_while_an_image_is_saved(self) -> None:
+        files = self.patches()
+        made = applied(files['game'], files['english'])[2]
+        page = self.written_page(patcher(discs.game(), made, discs.script()))
+        self.browser.drop('#main', [page])
+        self.browser.wait('#messages .say.warn', 'Not opened: starlit.html.')
+        self.ends_well(made)
+        self.browser.run('Object.assign(chosen, { writes: [], state: "none", begun: 0 })')
+        self.browser.open(page)
+        self.browser.give('#player-files', [files['game']])
+        self.browser.wait('#verdict', 'right disc')
+        self.begins('Patch and save')
+        self.press('Open this in the full cdpatch')
+        self.browser.wait('#player .say.warn', common.text('imageBeingSaved'))
+        self.ends_well(made)
+        self.browser.wait('#saved', 'Saved:')
+
+    def test_one_comes_back_from_the_player_to_a_save_that_runs(self) -> None:
+        files = self.patches()
+        made = applied(files['game'], files['english'])[2]
+        self.browser.click('#tab-publish')
+        self.browser.type('#patcher-title', 'Mine')
+        common.waited(lambda: not self.is_off('Preview as a player'), 'nothing can be shown')
+        self.press('Preview as a player')
+        self.browser.wait('#player h1', 'Mine')
+        self.press('Back to Publish')
+        self.browser.wait('#patcher-title')
+        self.browser.click('#tab-script')
+        self.browser.wait('#panel-script .job-end button', 'Cancel')
+        self.ends_well(made)
+
+    def test_a_script_that_was_only_shown_to_players_is_in_no_file(self) -> None:
+        self.open_image(discs.written(game=discs.game())['game'])
+        self.edit(Keys.ARROW_DOWN, f'set {discs.first_block()} 0 41')
+        self.browser.click('#tab-publish')
+        self.browser.type('#patcher-title', 'Mine')
+        self.browser.wait('#panel-publish', 'Nothing shows whether the patch of the script fits game.bin.')
+        self.press('Preview as a player')
+        self.browser.wait('#player h1', 'Mine')
+        self.press('Open this in the full cdpatch')
+        self.browser.wait('#panel-script header .tag.warn', 'not saved')
+        self.assertTrue(self.browser.asks_before_leaving())
+        self.script_text()
+        self.assertTrue(self.browser.asks_before_leaving(), 'the texts of Publish are in no patcher')
+
+    def test_a_script_that_is_taken_back_does_not_take_the_panels_with_it(self) -> None:
+        self.open_script(discs.written(english=discs.script())['english'])
+        self.browser.click('.editor textarea')
+        self.browser.press('z', held=Keys.CONTROL)
+        self.browser.wait('#panel-script header h2', 'New script')
+        self.browser.click('#tab-text')
+        self.browser.wait('#panel-text')
+        self.edit('y', held=Keys.CONTROL)
+        self.browser.wait('#panel-script header h2', 'english.txt')
+
+    def test_an_undo_script_has_the_name_of_its_own_script(self) -> None:
+        files = discs.written(game=discs.game(), english=discs.script(), other='cdpatch 1\nrebuild 3\n')
+        self.open_image(files['game'])
+        self.open_script(files['english'])
+        self.browser.run(GATE)
+        self.save_undo()
+        self.browser.wait('#panel-script .progress')
+        self.browser.run('held = 0')
+        self.open_script(files['other'])
+        self.browser.wait('#panel-script header h2', 'other.txt')
+        self.browser.wait('#panel-script .progress')
+        self.assertEqual(self.browser.run('return document.querySelectorAll("#messages .progress").length'), 0)
+        self.browser.run('openGate()')
+        undo = self.browser.downloaded('english (undo).txt')
+        self.browser.wait('#panel-script .said .say.good', 'Saved: english (undo).txt')
+        _, _, patched = applied(files['game'], files['english'])
+        self.assertEqual(applied(discs.written(patched=patched)['patched'], undo)[2], discs.game())
+        self.is_gone('#panel-script .progress')
+
+    def test_20000_patches_are_saved_as_the_program_saves_them_whatever_is_done_meanwhile(self) -> None:
+        lines = [f'fill {block} {block % 2000} 8 {block % 256:02X}\n' for block in range(200, 18200)] + [f'rebuild {at}\n' for at in range(10, 2010)]
+        files = discs.written(scratches=discs.scratches(), many='cdpatch 1\n' + ''.join(lines), other=discs.game())
+        self.open_image(files['scratches'])
+        self.open_script(files['many'])
+        self.browser.run('chosen.pickLater()')
+        self.press_save()
+        self.browser.wait('#panel-script .progress')
+        self.browser.run('chosen.hold(); chosen.pick()')
+        self.browser.click('#tab-text')
+        self.browser.drop('#main', [files['other']])
+        self.browser.wait('#messages .say', 'Not opened: other.bin')
+        self.browser.click('#find-text')
+        self.browser.press('a', Keys.ESCAPE)
+        self.browser.run('chosen.release()')
+        self.browser.click('#tab-script')
+        self.browser.wait('#panel-script .say', 'Saved: scratches (patched).bin')
+        self.browser.wait('#saved-sha1', common.sha1(applied(files['scratches'], files['many'])[2]))
+
+    def test_lines_that_are_being_made_keep_their_bar(self) -> None:
+        self.open_image(discs.written(many=discs.many_texts())['many'])
+        self.find()
+        self.browser.wait('#panel-text .hits tbody tr:nth-child(200)', 'スタート')
+        self.browser.type('#new-text', 'Start')
+        self.browser.run(GATE)
+        self.press('Replace all')
+        self.browser.wait('#panel-text .facts', ' of 400 hits')
+        self.assertNotIn('MB', self.browser.text('#panel-text .facts'))
+        self.browser.click('#find-text')
+        self.browser.press('x', Keys.ENTER)
+        self.browser.wait('#panel-text .progress')
+        self.browser.wait('#panel-text .say.warn', 'The script is still being updated.')
+        self.browser.run('openGate()')
+        self.browser.wait('#count-script', '400')
+
+    def test_a_search_ends_with_its_image(self) -> None:
+        files = discs.written(game=discs.game(), other=discs.scratched())
+        self.open_image(files['game'])
+        self.open_files(files['other'])
+        self.browser.answer('Compare')
+        self.browser.wait('#second-title', 'other.bin')
+        self.browser.click('#tab-text')
+        self.browser.run('''const post = Worker.prototype.postMessage; globalThis.late = [];
+            Worker.prototype.postMessage = function (...given) { if (given[0].job === 'find') late.push(() => post.apply(this, given)); else post.apply(this, given); };''')
+        self.browser.type('#find-text', 'スタート')
+        self.press('Find')
+        self.browser.wait('#panel-text .progress')
+        self.browser.click('#tab-disc')
+        self.press('Open it instead')
+        self.browser.wait('#disc-line .name', 'other.bin')
+        self.browser.click('#tab-text')
+        self.browser.run('late.forEach(it => it())')
+        self.wait_for_hash()
+        self.assertEqual(self.browser.text('#panel-text .say'), '')
+        self.assertEqual(self.browser.run('return [document.querySelectorAll("#panel-text .progress").length, document.querySelector("#panel-text .hits")?.checkVisibility() ?? false]'), [0, False])

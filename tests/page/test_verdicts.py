@@ -1,0 +1,36 @@
+"""The verdict of the page is that of `cdscript info`: the table of tests/lib/verdict_images.py."""
+
+import common
+from pages import PageTest
+from verdict_images import OTHERS, VERDICTS, images
+
+# The colour of each level, as a class. Of audio and the like, the page says that nothing can be patched.
+INKS = {'damage': 'bad-ink', 'doubt': 'warn-ink', 'sound': 'good-ink', 'nothing': 'warn-ink'}
+INK = "return document.querySelector('#disc-line .lead b[class$=-ink]')?.className ?? ''"
+# Cue sheets with audio in other files, and images whose data the samples do not show, are for the list, which reads all files.
+LISTED = {'missing.cue', 'audio.bin', 'audio-filled.bin', 'middle.bin', 'gaps.cue'}
+
+
+class Verdicts(PageTest):
+    def test_the_page_has_the_verdicts_of_the_table(self) -> None:
+        place = common.folder('verdicts')
+        for name, content in images().items():
+            (place / name).write_bytes(content)
+        for name, level, _ in VERDICTS:
+            if name in LISTED:
+                continue
+            files = [place / name, *([place / name.replace('.cue', '.bin')] if name.endswith('.cue') else [])]
+            with self.subTest(name):
+                self.setUp()
+                self.open_files(*files)
+                self.browser.wait('#disc-line .lead b[class$=-ink]')
+                self.assertEqual(self.browser.run(INK), INKS[level], self.browser.text('#disc-line .lead'))
+
+    def test_files_that_are_not_images_have_no_verdict(self) -> None:
+        place = common.folder('verdicts')
+        for name in OTHERS:
+            (place / name).write_bytes(images()[name])
+            self.setUp()
+            self.open_files(place / name)
+            self.browser.wait('.say', name)
+            self.assertEqual(self.browser.run(INK), '', name)

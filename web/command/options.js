@@ -1,0 +1,150 @@
+// The options of the command line, a row for each. Help, the man page, and the completions are generated from these rows.
+
+import { LAST_TRACK } from '../core/disc/views.js';
+import { ENCODINGS, encodingOf } from '../core/encodings/views.js';
+import { bytesOfHex } from '../core/hex_digits.js';
+import { LAST_BASE, LAST_BLOCK } from '../core/module/index.js';
+import { ownFault } from '../sentences/index.js';
+import { numberOf } from './numbers.js';
+
+/**
+ * An option: its words; the name of its value, '' if it takes none, and the parser of it, which returns a text by default; what it does;
+ * the values that exist; whether it may be given several times; the options that it excludes; and those that it needs, by the job.
+ * @typedef {{ word: string, short?: string, value: string, does: string, parse?: (text: string) => unknown, values?: readonly string[],
+ *     repeated?: boolean, excludes?: readonly string[], needs?: Readonly<Record<string, string>> }} OptionRow
+ */
+
+/** The greatest distance of records, the most bytes of the text of one, and the most bytes before the first. */
+const MOST_EVERY = 1 << 20;
+const LONGEST_RECORD = 4096;
+const MOST_SKIPPED = 1e12;
+
+const NAMES = ENCODINGS.map(({ name }) => name);
+
+/**
+ * @param {string} text
+ * @returns {Uint8Array | 'end'}
+ */
+function fillOf(text) {
+    if (text === 'end') return text;
+    if (!/^([0-9A-Fa-f]{2})+$/.test(text)) throw ownFault(`--fill needs two hexadecimal digits for each byte, or end, not '${text}'`);
+    return bytesOfHex(text);
+}
+
+/** @param {string} text */
+function endOf(text) {
+    if (!/^[0-9A-Fa-f]{2}$/.test(text)) throw ownFault(`--end needs two hexadecimal digits, such as FF, not '${text}'`);
+    return parseInt(text, 16);
+}
+
+/** @param {string} name */
+function knownEncoding(name) {
+    if (encodingOf(name) === null) throw ownFault(`unknown encoding '${name}'; known encodings: ${NAMES.join(', ')}`);
+    return name;
+}
+
+/**
+ * Returns the parser of a number.
+ * @param {string} word
+ * @param {number} least
+ * @param {number} most
+ */
+function numberFrom(word, least, most) {
+    return (/** @type {string} */ text) => numberOf(text, word, least, most);
+}
+
+const ROWS = /** @type {const} */ ({
+    base: {
+        word: '--base', value: 'N', does: `the block number of the first sector, 0 to ${LAST_BASE}`, excludes: ['first'],
+        parse: (/** @type {string} */ text) => numberOf(text.replace(/^\+(?=\d)/, ''), '--base', 0, LAST_BASE),
+    },
+    track: {
+        word: '--track', value: 'N', does: 'use track N, a data track, instead of the first data track',
+        parse: numberFrom('--track', 1, LAST_TRACK),
+    },
+    encoding: {
+        word: '--encoding', value: 'NAME', does: `the encoding of text: ${NAMES.join(', ')}`, values: NAMES, excludes: ['table'],
+        parse: knownEncoding,
+    },
+    table: { word: '--table', value: 'FILE', does: "a game's own table of characters (.tbl)" },
+    end: {
+        word: '--end', value: 'HH', does: 'the byte that ends each text; the default is what ends most texts of a file',
+        parse: endOf,
+    },
+    fill: {
+        word: '--fill', value: 'HEX', does: 'pad with these bytes, such as 20 or 8140; the word end means the byte that ends text',
+        parse: fillOf,
+    },
+    all: { word: '--all', value: '', does: 'replace every occurrence (at most 1000000)' },
+    inside: { word: '--inside', value: '', does: 'also replace hits that may begin in the middle of a character' },
+    loose: { word: '--loose', value: '', does: 'ignore case and the width of characters' },
+    list: {
+        word: '--list', value: 'FILE', does: 'read translations from this table or PO file; may be repeated', repeated: true,
+        excludes: ['all', 'inside', 'loose'],
+    },
+    file: {
+        word: '--file', value: 'FILE', does: 'use this ordinary file instead of an image', excludes: ['base', 'track', 'in'],
+        needs: { replace: 'list' },
+    },
+    check: {
+        word: '--check', value: '', does: 'check lists without an image',
+        excludes: ['list', 'file', 'all', 'inside', 'loose', 'end', 'fill', 'partial', 'track', 'base', 'output'],
+    },
+    po: { word: '--po', value: '', does: 'print a gettext PO file instead of TSV' },
+    csv: { word: '--csv', value: '', does: 'print CSV, for spreadsheets, instead of TSV', excludes: ['po'] },
+    lines: { word: '--lines', value: '', does: 'print a row for each line of text, without its line ending' },
+    in: { word: '--in', value: 'PATH', does: 'search only this file or directory; may be repeated', repeated: true },
+    every: {
+        word: '--every', value: 'N', does: 'print a row for each record of the file: one begins every N bytes',
+        parse: numberFrom('--every', 1, MOST_EVERY), excludes: ['lines', 'min'], needs: { texts: 'length' },
+    },
+    length: {
+        word: '--length', value: 'N', does: 'the size in bytes of the text field that begins each record',
+        parse: numberFrom('--length', 1, LONGEST_RECORD), needs: { texts: 'every' },
+    },
+    skip: {
+        word: '--skip', value: 'N', does: 'how many bytes precede the first record; the default is 0',
+        parse: numberFrom('--skip', 0, MOST_SKIPPED), needs: { texts: 'every' },
+    },
+    min: {
+        word: '--min', value: 'N', does: 'print text of N characters or more; the default is 2', parse: numberFrom('--min', 1, LAST_BLOCK),
+    },
+    limit: {
+        word: '--limit', value: 'N', does: 'print the first N hits; the default is 1000', parse: numberFrom('--limit', 0, LAST_BLOCK),
+        needs: { texts: 'every' },
+    },
+    first: { word: '--first', value: 'BLOCK', does: 'another name for --base', parse: numberFrom('--first', 0, LAST_BASE) },
+    carry: { word: '--carry', value: '', does: 'patch damaged sectors too, and keep their damage' },
+    long: { word: '--long', value: '', does: 'accept a script with more patches or bytes than cdpatch does' },
+    skipDamaged: { word: '--skip-damaged', value: '', does: 'leave out blocks that are damaged in NEW', excludes: ['partial'] },
+    partial: { word: '--partial', value: '', does: 'leave out differences that a script cannot express', needs: { replace: 'list' } },
+    fields: {
+        word: '--fields', value: '', does: 'print the fields that differ instead of a script', excludes: ['skipDamaged', 'partial'],
+    },
+    output: { word: '-o', value: 'FILE', does: 'write to this new file; - is standard output' },
+    missing: {
+        word: '--missing', value: '', does: 'list the games of the DAT that are missing or lack files', needs: { scan: 'dat' },
+    },
+    dat: { word: '--dat', value: 'FILE', does: 'a list of known dumps (Logiqx XML); may be repeated', repeated: true },
+    json: { word: '--json', value: '', does: 'print one JSON object per line, with all hashes; see cdscript(1)', excludes: ['resume'] },
+    resume: { word: '--resume', value: 'FILE', does: 'append to this list; check only files that are new or changed' },
+    help: { word: '--help', short: '-h', value: '', does: 'print help' },
+    version: { word: '--version', short: '-V', value: '', does: 'print the version' },
+    notices: { word: '--notices', value: '', does: 'print the licences of third-party code' },
+    forms: { word: '--forms', value: '', does: 'print all jobs and options as JSON' },
+});
+
+/** @typedef {keyof typeof ROWS} OptionName */
+/**
+ * The value of an option.
+ * @template Row
+ * @typedef {Row extends { repeated: true } ? string[] : Row extends { parse: (text: string) => infer Value } ? Value
+ *     : Row extends { value: '' } ? boolean : string} ValueOf
+ */
+/** @typedef {{ -readonly [Name in OptionName]?: ValueOf<(typeof ROWS)[Name]> }} Options the options that were given */
+
+/** @type {Record<OptionName, OptionRow>} */
+export const OPTIONS = ROWS;
+
+/** @type {OptionName[]} the options without a job */
+export const OWN_OPTIONS = ['help', 'version', 'notices', 'forms'];

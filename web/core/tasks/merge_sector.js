@@ -1,0 +1,96 @@
+// Decides one sector by its copies in other images: whether it is replaced, and by which of them.
+
+import { sameBytes } from '../bytes.js';
+import { FIELDS, edcOfMode2 } from '../sectors/index.js';
+
+/**
+ * What the codes of a sector show. LOST: the sector is neither Mode 1 nor Mode 2, for example because its sync field or its mode byte was
+ * lost. UNTESTED: it is Mode 2 without a code that can show damage.
+ */
+export const STATE = Object.freeze({ LOST: 0, DAMAGED: 1, UNTESTED: 2, SOUND: 3 });
+
+/** @typedef {{ bytes: Uint8Array, state: number, isHome: boolean }} Copy a sector of an image; `isHome`: it has the address of its block */
+/**
+ * The copy that replaces a sector. `isDisputed`: other copies would replace it too, but are different. `isDoubtful`: nothing in the sector
+ * confirms the copy, and nothing shows that the sector was lost.
+ * @template {Copy} C
+ * @typedef {{ copy: C, isDisputed: boolean, isDoubtful: boolean }} Replacement
+ */
+
+/** The place of the mode byte, the size of the EDC, and where the EDC of Form 2 begins. */
+const MODE_OFFSET = 15;
+const EDC_SIZE = 4;
+const END_OF_CONTENTS = 2348;
+
+/** How well a copy fits the sector that it replaces: it has the same EDC, or else the same data that the EDC includes, or neither. */
+const FIT = { EDC: 2, DATA: 1, NONE: 0 };
+
+/**
+ * Selects the copy that replaces a sector: of the sound ones with the address of the block, the first of those that fit best. Null if the
+ * sector is kept.
+ * @template {Copy} C
+ * @param {Copy} own
+ * @param {C[]} copies
+ * @returns {Replacement<C> | null}
+ */
+export function replacementOf(own, copies) {
+    const possible = copies.filter(copy => copy.state === STATE.SOUND && copy.isHome && canReplace(own, copy));
+    if (possible.length === 0) return null;
+    const fits = possible.map(({ bytes }) => fitOf(own.bytes, bytes));
+    const best = Math.max(...fits);
+    const copy = possible[fits.indexOf(best)];
+    const isDisputed = possible.some(({ bytes }) => !sameBytes(copy.bytes, bytes));
+    const isLost = own.state !== STATE.UNTESTED && isFilledAfterHeader(own.bytes);
+    return { copy, isDisputed, isDoubtful: best === FIT.NONE && (isDisputed || !isLost) };
+}
+
+/**
+ * Whether a sound copy with the right address may replace a sector. A damaged or lost sector is replaced by any such copy. A sound one only
+ * gets its address from a copy with the same contents, as is possible in Mode 2, whose codes do not include the header. One that was not
+ * tested is kept, unless it is 00 from its subheader on, as a lost sector may be.
+ * @param {Copy} own
+ * @param {Copy} copy
+ */
+function canReplace(own, copy) {
+    if (own.state === STATE.SOUND) return !own.isHome && hasSameContents(own, copy);
+    return own.state !== STATE.UNTESTED || isFilledAfterHeader(own.bytes);
+}
+
+/**
+ * Whether two sectors have the same contents, which are the bytes after the header, except the EDC of Form 2, which may be missing. Every
+ * other code lies before that EDC, or follows from the contents.
+ * @param {Copy} own
+ * @param {Copy} copy
+ */
+export function hasSameContents(own, copy) {
+    return hasSame(own.bytes, copy.bytes, FIELDS.user, END_OF_CONTENTS);
+}
+
+/**
+ * @param {Uint8Array} sector
+ * @param {Uint8Array} copy a sound sector
+ */
+function fitOf(sector, copy) {
+    const isMode2 = copy[MODE_OFFSET] === 2;
+    const [from, edc] = isMode2 ? [FIELDS.user, edcOfMode2(copy)] : [FIELDS.header, FIELDS.edc];
+    if (hasSame(sector, copy, edc, edc + EDC_SIZE)) return FIT.EDC;
+    return hasSame(sector, copy, from, edc) ? FIT.DATA : FIT.NONE;
+}
+
+/**
+ * Whether a sector consists of one repeated byte after its header. A Mode 2 sector that was not tested then consists of 00.
+ * @param {Uint8Array} sector
+ */
+function isFilledAfterHeader(sector) {
+    return sector.subarray(FIELDS.user).every(byte => byte === sector[FIELDS.user]);
+}
+
+/**
+ * @param {Uint8Array} a
+ * @param {Uint8Array} b
+ * @param {number} from
+ * @param {number} end
+ */
+function hasSame(a, b, from, end) {
+    return sameBytes(a.subarray(from, end), b.subarray(from, end));
+}

@@ -1,0 +1,8 @@
+// What interfaces may import from this layer besides tasks: texts that they open, show, or name. Procedures are in tasks.
+
+export { unitsAlike } from './alike.js';
+export { shownPlace } from './all_texts.js';
+export { LONGEST_CHARACTER, LOOKED_BACK, bytesInside, charactersFrom } from './boundaries.js';
+export { shownCell } from './codes.js';
+export { FilesAlong, bytesAround, contextOf, contextsOf, filesWith } from './context.js';
+export { visible } from './visible.js';

@@ -1,0 +1,67 @@
+// The verdict on a file in words.
+
+import { blocksIn } from '../core/sectors/views.js';
+
+/** @typedef {import('../core/tasks/verdict.js').Finding} Finding */
+/** @typedef {import('../core/tasks/verdict.js').Verdict} Verdict */
+
+/**
+ * @param {number} count
+ * @param {string} one
+ * @param {string} [many]
+ */
+function counted(count, one, many = `${one}s`) {
+    return `${count.toLocaleString('en')} ${count === 1 ? one : many}`;
+}
+
+/** @param {number} count */
+function are(count) {
+    return count === 1 ? 'is' : 'are';
+}
+
+/** @param {Finding} finding */
+function gapClause({ count, gaps: [{ first, by }] }) {
+    if (count > 1) return `sectors are missing or extra in ${count} places`;
+    const sectors = Math.abs(by);
+    if (by < 0) return `${counted(sectors, 'extra sector')} ${are(sectors)} before block ${first}`;
+    return `${counted(sectors, 'sector')} ${are(sectors)} missing before block ${first}`;
+}
+
+/** @param {Finding} finding */
+function lostClause({ count, bytes }) {
+    const hex = bytes.map(byte => byte.toString(16).toUpperCase().padStart(2, '0'));
+    return `${counted(count, 'data sector')} ${are(count)} lost${hex.length === 0 ? '' : `, filled with ${hex.join(' and ')}`}`;
+}
+
+/** @type {Record<Finding['code'], (finding: Finding, tested: number) => string>} */
+const CLAUSES = {
+    damaged: ({ count }, tested) => `${count.toLocaleString('en')} of ${counted(tested, 'data sector')} ${are(count)} damaged`,
+    lost: lostClause,
+    short: ({ count }) => `${counted(count, 'block')} of the volume ${are(count)} missing at the end`,
+    cut: () => 'the last sector is cut',
+    gap: gapClause,
+    missing: ({ count }) => `${counted(count, 'track')} ${are(count)} in a missing file`,
+    untested: ({ count }) => `${counted(count, 'Mode 2 sector')} could not be tested`,
+    unread: ({ count }) => `${counted(count, 'data track')} without 2352-byte sectors ${count === 1 ? 'was' : 'were'} not tested`,
+    address: ({ count }) => `${counted(count, 'sector')} ${count === 1 ? 'has' : 'have'} a wrong address`,
+};
+
+/**
+ * The verdict as a sentence without a capital and a full stop.
+ * @param {Verdict} verdict
+ */
+export function verdictText({ level, findings, tested, without }) {
+    const more = without === 0 ? '' : `; ${counted(without, 'sector')} ${without === 1 ? 'has' : 'have'} no codes that show damage`;
+    if (level === 'nothing') return `nothing was tested${more}`;
+    const sound = `${counted(tested, 'data sector')}${without === 0 ? '' : ' with codes'}`;
+    if (level === 'sound') return `${tested === 1 ? `the only ${sound.slice(2)} is` : `all ${sound} are`} sound${more}`;
+    return `${findings.filter(isSaid).map(it => CLAUSES[it.code](it, tested)).join('; ')}${more}`;
+}
+
+/**
+ * Whether a finding is said. The wrong addresses after a gap result from it.
+ * @param {Finding} finding
+ */
+function isSaid({ code, count, gaps }) {
+    return code !== 'address' || count > blocksIn(gaps);
+}
