@@ -1,12 +1,15 @@
 // The kind of a file, and the base of an image.
 import assert from 'node:assert';
 import { test } from 'node:test';
-import { calls, core, diceOf, readerOf } from './common.mjs';
+import { calls, core, diceOf, readerOf, someBytes } from './common.mjs';
+import { POOL, WITHOUT_EDC, at } from './dumps.mjs';
+import { localPool } from './pools.mjs';
 
 const { sliceOf, watchedReader } = await core('readers/index.js');
 const { baseByAddresses } = await core('disc/base.js');
 const { kindOfFile } = await core('disc/file_type.js');
 const { isOneTrack } = await core('disc/one_track.js');
+const { CONVERTIBLE, convertToRaw } = await core('tasks/convert.js');
 
 const RAW = 2352;
 
@@ -54,6 +57,58 @@ test('samples near one another are read together, and of a long image little mor
         assert.strictEqual(await baseByAddresses(calls, reader), 0);
         assert.ok(reader.reads.length <= reads, `${reader.reads.length} reads`);
         assert.ok(reader.reads.reduce((sum, { length }) => sum + length, 0) <= bytes);
+    }
+});
+
+/** Mode 2 sectors from a block on, of both forms. @param {number} block @param {number} count */
+const mode2Sectors = (block, count) => Buffer.concat(Array.from({ length: count }, (_, i) => at(block + i, POOL[i % POOL.length])));
+
+/** Sectors without sync fields and headers. @param {Buffer} raw */
+const headerless = raw => Buffer.concat(Array.from({ length: raw.length / RAW }, (_, i) => raw.subarray(RAW * i + 16, RAW * (i + 1))));
+
+test('sectors of 2336 bytes are known by their codes, and not by their size or by subheaders that repeat', async () => {
+    const image = headerless(mode2Sectors(0, 500));
+    for (const count of [1, 2, 3, 147, 500]) assert.strictEqual(await kind(image.subarray(0, count * 2336)), 'headerless', `${count} sectors`);
+    const worn = image.map((byte, i) => i % (2336 * 3) === 40 ? byte ^ 1 : byte);
+    assert.strictEqual(await kind(worn), 'headerless');
+    const without = headerless(Buffer.concat(Array.from({ length: 147 }, (_, i) => WITHOUT_EDC[i % WITHOUT_EDC.length])));
+    const filled = byte => Buffer.alloc(147 * 2336, byte);
+    for (const other of [without, filled(0), filled(0x55), Buffer.from(someBytes(diceOf(3), 147 * 2336))]) assert.strictEqual(await kind(other), 'audio');
+    assert.deepStrictEqual([await kind(image.subarray(0, -1)), await kind(mode2Sectors(0, 500))], ['unknown', 'raw']);
+});
+
+/** Converts an image to a raw image. @param {Buffer} image @param {string} form @param {object} how */
+async function converted(image, form, how = {}) {
+    const sectors = [];
+    await convertToRaw({ calls, pool: localPool() }, { name: 'image', reader: readerOf(image, 100000) }, form, bytes => void sectors.push(bytes), how);
+    return Buffer.concat(sectors);
+}
+
+test('images are converted to raw ones byte by byte, whatever follows or precedes the user data', async () => {
+    for (const count of [1, 2, 511, 512, 513, 1200]) {
+        for (const base of [0, 45000]) {
+            const [mode1, mode2] = [sectors(base, count), mode2Sectors(base, count)];
+            const user = Buffer.concat(Array.from({ length: count }, (_, i) => mode1.subarray(RAW * i + 16, RAW * i + 2064)));
+            const forms = { iso: [user, mode1], subchannels: [longer(mode2), mode2], headerless: [headerless(mode2), mode2] };
+            assert.deepStrictEqual(Object.keys(CONVERTIBLE).sort(), Object.keys(forms).sort());
+            for (const [form, [image, due]] of Object.entries(forms)) assert.ok((await converted(image, form, { base })).equals(due), `${form}: ${count} sectors from block ${base} on`);
+        }
+    }
+});
+
+test('a conversion says how far it is, can be cancelled, and refuses what is cut or has no address', async () => {
+    const images = { subchannels: longer(sectors(0, 1200)), headerless: headerless(mode2Sectors(0, 1200)) };
+    for (const [form, image] of Object.entries(images)) {
+        const [seen, signal] = [[], { aborted: false }];
+        const progress = (done, all) => { seen.push([done, all]); signal.aborted = done === 1024; };
+        await assert.rejects(converted(image, form, { progress, signal }), { code: 'cancelled' });
+        assert.deepStrictEqual(seen, [[512, 1200], [1024, 1200]]);
+    }
+    for (const [form, size] of Object.entries(CONVERTIBLE)) {
+        await assert.rejects(converted(Buffer.alloc(size + 1), form), { code: 'convert/cut', facts: { name: 'image', size: size + 1, unit: size } });
+        if (form === 'subchannels') continue;
+        assert.strictEqual((await converted(Buffer.alloc(2 * size), form, { base: 449848 })).length, 2 * RAW);
+        await assert.rejects(converted(Buffer.alloc(2 * size), form, { base: 449849 }), { code: 'convert/after-last' });
     }
 });
 

@@ -176,7 +176,8 @@ export const FORMS = {
     },
     'raw': {
         job: rawJob, takes: ['IMAGE', 'OUT'], options: ['base', 'first'], says: 'Convert an ISO image to a raw image',
-        does: 'OUT must not exist. It has 2352 bytes per sector. IMAGE may also have 2448 bytes per sector: its subchannels are left out.',
+        does: 'OUT must not exist. It has 2352 bytes per sector. IMAGE may also have 2448 bytes per sector (its subchannels are left ' +
+            'out) or 2336 (Mode 2 without sync fields and headers, which are added).',
         example: 'cdscript raw game.iso game.bin',
     },
     'user': {

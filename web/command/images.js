@@ -1,10 +1,10 @@
 // The jobs that write images: `merge`, `raw`, `user`, and `extract`.
 
 import { bytesOfLines } from '../core/bytes.js';
-import { SUBCHANNEL_SIZE, kindOfFile } from '../core/disc/views.js';
-import { LAST_BASE, USER_SIZE, kindName } from '../core/module/index.js';
+import { kindOfFile } from '../core/disc/views.js';
+import { USER_SIZE, kindName } from '../core/module/index.js';
 import { blocksIn } from '../core/sectors/views.js';
-import { extractFile, passUser, passWithoutSubchannels, repairTrack } from '../core/tasks/index.js';
+import { CONVERTIBLE, convertToRaw, extractFile, isConvertible, passUser, repairTrack } from '../core/tasks/index.js';
 import { blocksText, ownFault, sentenceOf } from '../sentences/index.js';
 import { ALL_HASHES, RunningHashes, sayKnown } from './hashes.js';
 import { jsonLine, mergeObject } from './json_lines.js';
@@ -20,7 +20,6 @@ import { MOST_UNTESTED, linesOfRuns, nameOfUntested, sayOfRuns, untestedTexts, v
 /** @typedef {import('../core/tasks/convert.js').KindRun} KindRun */
 /** @typedef {import('./job.js').Job} Job */
 
-const BLOCKS_WITH_ADDRESS = LAST_BASE + 1;
 const NOT_CONFIRMED = 'has neither its data nor its EDC: perhaps the dumps are of different versions';
 
 /** At most this many places with the same damage in all dumps are listed, since each is also listed as damaged. */
@@ -159,14 +158,16 @@ export async function mergeJob(job) {
 }
 
 /**
- * The number of sectors in an image. Throws a Fault if it is not whole.
- * @param {import('../core/disc/disc.js').DiscFile} image
- * @param {number} size of a sector
+ * The form of a file that `raw` converts. A file whose kind its bytes do not show may be an ISO image without a volume. Throws a Fault.
+ * @param {Job} job
+ * @param {import('../core/disc/disc.js').DiscFile} file
  */
-function sectorsIn({ name, reader }, size) {
-    const count = reader.size / size;
-    if (!Number.isInteger(count)) throw ownFault(`${name} has ${reader.size} bytes, which is not a multiple of ${size}`);
-    return count;
+async function convertibleKind(job, { name, reader }) {
+    const kind = await kindOfFile(job.calls, reader);
+    if (isConvertible(kind)) return kind;
+    if (kind === 'audio' || kind === 'unknown') return 'iso';
+    const sizes = Object.values(CONVERTIBLE).sort((a, b) => a - b).join(', ').replace(/, (?=\d+$)/, ', or ');
+    throw ownFault(`expected an image of ${sizes} bytes a sector, but ${name} is ${sentenceOf({ code: 'kind/what', facts: { kind } })}`);
 }
 
 /** @param {Job} job */
@@ -174,21 +175,9 @@ export async function rawJob(job) {
     const { first, base = first } = job.options;
     const out = await job.files.make(job.names[1]);
     const image = await job.files.image(job.names[0]);
-    const { name, reader } = image;
-    const kind = await kindOfFile(job.calls, reader);
-    if (kind === 'subchannels') {
-        sectorsIn(image, SUBCHANNEL_SIZE);
-        if (base !== undefined) throw ownFault(`${name} has addresses, so it needs no --base`);
-        await passWithoutSubchannels(job.watched(reader), bytes => out.write(bytes));
-        return 0;
-    }
-    const what = sentenceOf({ code: 'kind/what', facts: { kind } });
-    if (!['iso', 'audio', 'unknown'].includes(kind)) throw ownFault(`${name} is ${what}, not an ISO image or one with subchannels`);
-    const count = sectorsIn(image, USER_SIZE);
-    if ((base || 0) + count > BLOCKS_WITH_ADDRESS) {
-        throw ownFault(`${name} continues after block ${BLOCKS_WITH_ADDRESS - 1}, the last one with an address`);
-    }
-    await job.pool.share('raw', [reader], {}, { base: base || 0, units: [USER_SIZE] }, bytes => out.write(bytes));
+    const kind = await convertibleKind(job, image);
+    if (kind === 'subchannels' && base !== undefined) throw ownFault(`${image.name} has addresses, so it needs no --base`);
+    await convertToRaw(job, image, kind, bytes => out.write(bytes), { ...job.watch, base });
     return 0;
 }
 

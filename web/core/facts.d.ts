@@ -124,6 +124,10 @@ export interface Facts {
     'find/inside': { before: number };
     'no-file': { path: string };
 
+    // Conversions to raw images. `size` is in bytes, as is `unit`, the size of a sector of the image.
+    'convert/cut': { name: string; size: number; unit: number };
+    'convert/after-last': { name: string };
+
     // Replacing of bytes. `old`, `fresh`, `size`, and `room` are in bytes.
     'replace/other-size': { fresh: number; old: number };
     'replace/filler': { missing: number; filler: Uint8Array };
@@ -197,7 +201,7 @@ export interface Facts {
 export type RowName = { list: string; unit: 'row' | 'line'; number: number; place: string };
 
 export type FileKind = 'raw' | 'audio' | 'subchannels' | 'iso' | 'chd' | 'ecm' | 'archive' | 'wave' | 'cue' | 'empty' | 'unknown' | 'scrambled' | 'unaligned'
-    | 'nrg' | 'mds' | 'ccd' | 'toc' | 'sub' | 'long' | 'text';
+    | 'headerless' | 'nrg' | 'mds' | 'ccd' | 'toc' | 'sub' | 'long' | 'text';
 
 /** A run of blocks, why a script cannot produce them, and their kinds if these are the reason. */
 export type LeftRun = { first: number; last: number; why: 'damaged' | 'kind' | 'address'; kinds: number[] };

@@ -1,7 +1,7 @@
 // The English sentences for the failures and remarks of the core, by code. A translation is another such table.
 
 import { hexText } from '../core/hex_digits.js';
-import { MOST_SECTORS, kindName } from '../core/module/index.js';
+import { LAST_BASE, MOST_SECTORS, kindName } from '../core/module/index.js';
 import { blocksText } from './blocks.js';
 import { KINDS } from './kinds.js';
 
@@ -227,6 +227,9 @@ export const ENGLISH = {
     'find/nothing': () => 'text not found',
     'find/inside': ({ before }) => `perhaps in the middle of a character (byte before: ${hexText(Uint8Array.of(before))})`,
     'no-file': ({ path }) => `no file or directory ${path} on the disc`,
+
+    'convert/cut': ({ name, size, unit }) => `${name} has ${size} bytes, which is not a multiple of ${unit}`,
+    'convert/after-last': ({ name }) => `${name} continues after block ${LAST_BASE}, the last one with an address`,
 
     'replace/other-size': ({ fresh, old }) => `expected ${old} new bytes, one for each old byte, but got ${fresh}`,
     'replace/filler': wrongFiller,

@@ -19,7 +19,14 @@ export const KINDS = {
     archive: ['an archive', 'Unpack it, and choose the cue sheet or the raw image in it.'],
     wave: ['audio in a RIFF/WAVE file', 'Choose the data track of the disc.'],
     cue: ['a cue sheet', 'Open it together with the files that it names.'],
-    scrambled: ['a scrambled image, with its sectors as they are on the disc', 'Descramble it first, with the program that read the disc.'],
+    scrambled: [
+        'a scrambled image, with its sectors as they are on the disc',
+        'Descramble it with the program that read the disc, such as redumper or DiscImageCreator.',
+    ],
+    headerless: [
+        'an image of 2336 bytes a sector, Mode 2 without sync fields and headers',
+        'Convert it to a raw image with `cdscript raw`, which adds them.',
+    ],
     unaligned: [
         'a raw image whose first sector is cut',
         'Remove the bytes before the first sync field (00, ten bytes FF, 00), or read the disc again.',

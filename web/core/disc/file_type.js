@@ -3,7 +3,7 @@
 import { readBytes, wholeOf } from '../bytes.js';
 import { textOfFile } from '../encodings/index.js';
 import { SECTOR_KIND, SECTOR_SIZE, USER_SIZE } from '../module/index.js';
-import { imageTooLong } from '../sectors/index.js';
+import { HEADERLESS_SIZE, imageTooLong, isSoundMode2, testMode2, withHeaders } from '../sectors/index.js';
 import { isSubchannelFile } from './subchannels.js';
 
 /** @typedef {import('../module/calls.js').Calls} Calls */
@@ -109,8 +109,9 @@ async function kindBySectors(calls, reader) {
     const { synced: longer } = await countSynced(calls, reader, SUBCHANNEL_SIZE);
     const one = reader.size === SUBCHANNEL_SIZE; // a single sector has no neighbour
     if (longer > raw || (one && longer > 0)) return 'subchannels';
-    if (raw === 0) return await isUnaligned(reader) ? 'unaligned' : null;
-    return 2 * scrambled > raw ? 'scrambled' : 'raw';
+    if (raw > 0) return 2 * scrambled > raw ? 'scrambled' : 'raw';
+    if (await isUnaligned(reader)) return 'unaligned';
+    return await isHeaderless(calls, reader) ? 'headerless' : null;
 }
 
 /**
@@ -142,6 +143,20 @@ async function isUnaligned(reader) {
 }
 
 /**
+ * Whether a file has Mode 2 sectors without sync fields and headers: one of the sampled sectors matches its codes. They include neither.
+ * @param {Calls} calls
+ * @param {Reader} reader
+ */
+async function isHeaderless(calls, reader) {
+    if (reader.size % HEADERLESS_SIZE !== 0) return false;
+    for await (const { sector } of sampledSectors(reader, HEADERLESS_SIZE, 2, SAMPLED_PAIRS)) {
+        const raw = withHeaders(calls, sector, 0);
+        if (isSoundMode2(testMode2(calls, raw, calls.survey(raw, 0), null)[0])) return true;
+    }
+    return false;
+}
+
+/**
  * Bytes of a file, one character each. There are fewer if the file ends earlier.
  * @param {Reader} reader
  * @param {number} at
@@ -154,7 +169,7 @@ async function latin(reader, at, length) {
 
 /**
  * Samples sectors from all over a file, in groups of adjacent ones, the first and the last group among them: their numbers from 0, and
- * their first 2352 bytes.
+ * at most their first 2352 bytes.
  * @param {Reader} reader
  * @param {number} size of a sector
  * @param {number} together how many sectors a group has
@@ -176,7 +191,9 @@ export async function* sampledSectors(reader, size, together, most) {
             from = begin;
         }
         const bytes = read.subarray(begin - from, next - from);
-        for (let at = 0; at < bytes.length; at += size) yield { number: first + at / size, sector: bytes.subarray(at, at + SECTOR_SIZE) };
+        for (let at = 0; at < bytes.length; at += size) {
+            yield { number: first + at / size, sector: bytes.subarray(at, at + Math.min(size, SECTOR_SIZE)) };
+        }
     }
 }
 

@@ -6,6 +6,6 @@ export { textOfSheet } from './cue_text.js';
 export { KnownDumps } from './dat.js';
 export { beginsLikeDat } from './dat_text.js';
 export { knownFiles, openChosen, openDisc, openKnown } from './disc.js';
-export { LARGEST_SHEET, SUBCHANNEL_SIZE, kindOfFile } from './file_type.js';
+export { LARGEST_SHEET, kindOfFile } from './file_type.js';
 export { fileIn } from './lost.js';
 export { isOneTrack, sheetOfOneTrack } from './one_track.js';

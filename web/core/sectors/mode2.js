@@ -2,7 +2,7 @@
 
 import { newBytes } from '../faults.js';
 import { RECORD, RECORD_SIZE, SECTOR_KIND, SECTOR_SIZE } from '../module/index.js';
-import { addressIn, asWords, hasOtherAddress } from './sector.js';
+import { HEADER_OFFSET, addressIn, addressOf, asWords, hasOtherAddress } from './sector.js';
 
 /** @typedef {import('../module/calls.js').Calls} Calls */
 /** @typedef {import('./runs.js').Run} Run */
@@ -27,6 +27,29 @@ const FORM2_EDC = 2348;
 
 /** The bit of the submode that is set in Form 2. */
 const FORM2 = 0x20;
+
+/** The bytes of a Mode 2 sector without sync field and header. */
+export const HEADERLESS_SIZE = SECTOR_SIZE - SUBHEADER;
+
+/**
+ * Raw Mode 2 sectors from sectors without sync field and header.
+ * @param {Calls} calls
+ * @param {Uint8Array} bytes of whole sectors of HEADERLESS_SIZE
+ * @param {number} block the block of the first sector. All blocks must have an address.
+ */
+export function withHeaders(calls, bytes, block) {
+    const count = Math.floor(bytes.length / HEADERLESS_SIZE);
+    const sectors = newBytes(count * SECTOR_SIZE);
+    for (let i = 0; i < count; i++) {
+        const address = addressOf(calls, block + i);
+        if (address === null) throw new RangeError(`block ${block + i} has no address`);
+        const at = i * SECTOR_SIZE;
+        sectors.fill(0xFF, at + 1, at + HEADER_OFFSET - 1);
+        sectors.set([...address, 2], at + HEADER_OFFSET);
+        sectors.set(bytes.subarray(i * HEADERLESS_SIZE, (i + 1) * HEADERLESS_SIZE), at + SUBHEADER);
+    }
+    return sectors;
+}
 
 /** @param {number} found */
 export function isTestedMode2(found) {

@@ -1,14 +1,17 @@
-// Extracts the user data of sectors, for an ISO image of a track or for the bytes of a file; and sectors without their subchannels.
+// Converts images: extracts the user data of sectors, for an ISO image of a track or for the bytes of a file; and converts other images to
+// raw ones.
 
 import { readBytes } from '../bytes.js';
 import { SUBCHANNEL_SIZE } from '../disc/index.js';
-import { SECTOR_KIND, SECTOR_SIZE, USER_SIZE, sectorCount } from '../module/index.js';
+import { Fault, cancelled, newBytes } from '../faults.js';
+import { LAST_BASE, SECTOR_KIND, SECTOR_SIZE, USER_SIZE, sectorCount } from '../module/index.js';
 import { sliceOf } from '../readers/index.js';
-import { addToRuns, joinedUser, sectorOf } from '../sectors/index.js';
+import { HEADERLESS_SIZE, addToRuns, joinedUser, sectorOf, withHeaders } from '../sectors/index.js';
 import { fileOfTrack } from './opened.js';
 
 /** @typedef {import('../bytes.js').Reader} Reader */
 /** @typedef {import('../module/calls.js').Calls} Calls */
+/** @typedef {import('../disc/disc.js').DiscFile} DiscFile */
 /** @typedef {import('../iso/files.js').FileEntry} FileEntry */
 /** @typedef {import('../pool/pool.js').Sharer} Sharer */
 /** @typedef {import('../pool/pool.js').Sharing} Sharing */
@@ -18,7 +21,12 @@ import { fileOfTrack } from './opened.js';
 /** @typedef {(bytes: Uint8Array) => void | Promise<void>} TakeBytes */
 /** @typedef {{ user: Uint8Array, others: KindRun[] }} UserRange the user data of a range, and the sectors that are not of Mode 1 */
 
-/** The number of sectors with subchannels that are read at a time. */
+/** The kinds of files that can be converted to raw images, and the bytes of a sector of each. */
+export const CONVERTIBLE = Object.freeze({ iso: USER_SIZE, subchannels: SUBCHANNEL_SIZE, headerless: HEADERLESS_SIZE });
+
+/** @typedef {keyof typeof CONVERTIBLE} ConvertibleKind */
+
+/** The number of sectors with subchannels, or without headers, that are converted at a time. */
 const SECTORS_AT_ONCE = 512;
 
 /**
@@ -83,18 +91,50 @@ export async function extractFile({ pool }, opened, entries, take, how = {}) {
 }
 
 /**
- * Passes the sectors of an image to `take`, in order, without the subchannels that follow each. Throws what the reader throws.
- * @param {Reader} reader of whole sectors with subchannels
- * @param {TakeBytes} take
+ * Whether a file of some kind can be converted to a raw image.
+ * @param {string} kind
+ * @returns {kind is ConvertibleKind}
  */
-export async function passWithoutSubchannels(reader, take) {
-    const step = SECTORS_AT_ONCE * SUBCHANNEL_SIZE;
-    for (let at = 0; at < reader.size; at += step) {
-        const bytes = await readBytes(reader, at, Math.min(step, reader.size - at));
-        const sectors = new Uint8Array(bytes.length / SUBCHANNEL_SIZE * SECTOR_SIZE);
-        for (let from = 0, to = 0; from < bytes.length; from += SUBCHANNEL_SIZE, to += SECTOR_SIZE) {
-            sectors.set(bytes.subarray(from, from + SECTOR_SIZE), to);
-        }
-        await take(sectors);
+export function isConvertible(kind) {
+    return Object.keys(CONVERTIBLE).includes(kind);
+}
+
+/**
+ * Converts an image to a raw image, and passes its sectors to `take`, in order. The blocks of sectors that have no address are counted from
+ * `base`. Throws a Fault, `convert` or `cancelled`, and what the reader throws.
+ * @param {Engine} engine
+ * @param {DiscFile} file
+ * @param {ConvertibleKind} kind of the file
+ * @param {TakeBytes} take
+ * @param {Sharing} [how]
+ */
+export async function convertToRaw({ calls, pool }, { name, reader }, kind, take, how = {}) {
+    const size = CONVERTIBLE[kind];
+    const { base = 0, progress, signal } = how;
+    const count = reader.size / size;
+    if (!Number.isInteger(count)) throw new Fault('convert/cut', { name, size: reader.size, unit: size });
+    if (kind !== 'subchannels' && base + count > LAST_BASE + 1) throw new Fault('convert/after-last', { name });
+    if (kind === 'iso') return pool.share('raw', [reader], {}, { ...how, base, units: [size] }, take);
+    for (let first = 0; first < count; first += SECTORS_AT_ONCE) {
+        if (signal && signal.aborted) throw cancelled();
+        const end = Math.min(first + SECTORS_AT_ONCE, count);
+        const bytes = await readBytes(reader, first * size, (end - first) * size);
+        await take(kind === 'headerless' ? withHeaders(calls, bytes, base + first) : withoutSubchannels(bytes));
+        if (progress) progress(end, count);
     }
+    return undefined;
+}
+
+/**
+ * Sectors without the subchannels that follow each.
+ * @param {Uint8Array} bytes of whole sectors with subchannels
+ */
+function withoutSubchannels(bytes) {
+    const count = bytes.length / SUBCHANNEL_SIZE;
+    const sectors = newBytes(count * SECTOR_SIZE);
+    for (let i = 0; i < count; i++) {
+        const at = i * SUBCHANNEL_SIZE;
+        sectors.set(bytes.subarray(at, at + SECTOR_SIZE), i * SECTOR_SIZE);
+    }
+    return sectors;
 }

@@ -4,7 +4,7 @@ export { applyInMemory, applyScript } from './apply.js';
 export { checkLists } from './check_lists.js';
 export { commonPart, isSameRange } from './common_part.js';
 export { FIELD_COUNT, SECOND_STATE, compareTrack, diffRange, differRange, findDifferences, isToMode2 } from './compare.js';
-export { extractFile, passUser, passWithoutSubchannels, userRange } from './convert.js';
+export { CONVERTIBLE, convertToRaw, extractFile, isConvertible, passUser, userRange } from './convert.js';
 export { examineDisc, examineFile } from './examine.js';
 export { NO_IMAGE, otherSummary, summaryByDat, summaryOf } from './file_summary.js';
 export { findText, findTextAt } from './find.js';

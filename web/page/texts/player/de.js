@@ -15,6 +15,7 @@ export const DE = {
         'disc/other-file/wave': '{name} ist Audio in einer RIFF/WAVE-Datei. Wählen Sie die Datenspur der Disc.',
         'disc/other-file/scrambled': '{name} ist ein verwürfeltes Image (scrambled), mit den Sektoren, wie sie auf der Disc sind. Machen ' +
             'Sie das zuerst mit dem Programm rückgängig, das die Disc gelesen hat.',
+        'disc/other-file/headerless': '{name} ist ein Image mit 2336 Byte pro Sektor: Mode 2 ohne Sync-Felder und Header.',
         'disc/other-file/unaligned': '{name} ist ein BIN-Image, dessen erster Sektor abgeschnitten ist. Lesen Sie die Disc noch einmal.',
         'disc/other-file/nrg': '{name} ist ein Image von Nero (NRG). Wandeln Sie es in ein BIN-Image mit CUE-Datei um.',
         'disc/other-file/mds': '{name} ist die Beschreibung eines MDF-Images (MDS). Wählen Sie die MDF-Datei: Mit 2352 Byte pro Sektor ' +

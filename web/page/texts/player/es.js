@@ -14,6 +14,7 @@ export const ES = {
         'disc/other-file/wave': '{name} es audio en un archivo RIFF/WAVE. Elige la pista de datos del disco.',
         'disc/other-file/scrambled': '{name} es una imagen aleatorizada (scrambled), con los sectores tal como están en el disco. Deshaz ' +
             'eso antes con el programa que leyó el disco.',
+        'disc/other-file/headerless': '{name} es una imagen de 2336 bytes por sector: Mode 2 sin sincronía ni cabeceras.',
         'disc/other-file/unaligned': '{name} es una imagen BIN cuyo primer sector está cortado. Lee el disco otra vez.',
         'disc/other-file/nrg': '{name} es una imagen de Nero (NRG). Conviértela en una imagen BIN con su archivo CUE.',
         'disc/other-file/mds': '{name} es la descripción de una imagen MDF (MDS). Elige el archivo MDF: si tiene 2352 bytes por sector, ' +

@@ -14,6 +14,7 @@ export const FR = {
         'disc/other-file/wave': '{name} est de l’audio dans un fichier RIFF/WAVE. Choisissez la piste de données du disque.',
         'disc/other-file/scrambled': '{name} est une image embrouillée (scrambled), avec les secteurs tels qu’ils sont sur le disque. ' +
             'Désembrouillez-la d’abord avec le programme qui a lu le disque.',
+        'disc/other-file/headerless': '{name} est une image de 2336 octets par secteur\u00a0: Mode 2 sans synchro ni en-têtes.',
         'disc/other-file/unaligned': '{name} est une image BIN dont le premier secteur est tronqué. Relisez le disque.',
         'disc/other-file/nrg': '{name} est une image de Nero (NRG). Convertissez-la en image BIN avec son fichier CUE.',
         'disc/other-file/mds': '{name} est la description d’une image MDF (MDS). Choisissez le fichier MDF\u00a0: s’il a 2352 octets par ' +

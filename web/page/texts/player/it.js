@@ -14,6 +14,7 @@ export const IT = {
         'disc/other-file/wave': '{name} è audio in un file RIFF/WAVE. Scegli la traccia dati del disco.',
         'disc/other-file/scrambled': '{name} è un’immagine rimescolata (scrambled), con i settori così come sono sul disco. Prima ' +
             'ripristinala con il programma che ha letto il disco.',
+        'disc/other-file/headerless': '{name} è un’immagine di 2336 byte per settore: Mode 2 senza sincronismo né intestazioni.',
         'disc/other-file/unaligned': '{name} è un’immagine BIN il cui primo settore è tagliato. Leggi di nuovo il disco.',
         'disc/other-file/nrg': '{name} è un’immagine di Nero (NRG). Convertila in un’immagine BIN con il suo file CUE.',
         'disc/other-file/mds': '{name} è la descrizione di un’immagine MDF (MDS). Scegli il file MDF: se ha 2352 byte per settore, è ' +

@@ -14,6 +14,7 @@ export const PT_BR = {
         'disc/other-file/wave': '{name} é áudio em um arquivo RIFF/WAVE. Escolha a faixa de dados do disco.',
         'disc/other-file/scrambled': '{name} é uma imagem embaralhada, com os setores como estão no disco. Desembaralhe-a antes com o ' +
             'programa que leu o disco.',
+        'disc/other-file/headerless': '{name} é uma imagem de 2336 bytes por setor: Mode 2 sem sincronismo nem cabeçalhos.',
         'disc/other-file/unaligned': '{name} é uma imagem BIN cujo primeiro setor está cortado. Leia o disco de novo.',
         'disc/other-file/nrg': '{name} é uma imagem do Nero (NRG). Converta-a em uma imagem BIN com seu arquivo CUE.',
         'disc/other-file/mds': '{name} é a descrição de uma imagem MDF (MDS). Escolha o arquivo MDF: se tiver 2352 bytes por setor, é ' +
