@@ -33,6 +33,15 @@ export function takeModule(module) {
     compiled = module;
 }
 
+/** @type {Calls | null} */
+let calls = null;
+
+/** The calls of this thread. All jobs use one instance of the module, since nothing is awaited while it holds bytes. */
+function callsOfThread() {
+    calls = calls || new Calls(compiledModule());
+    return calls;
+}
+
 /** The arguments of a job, and the objects with which it works. */
 export class Job {
     /**
@@ -49,7 +58,7 @@ export class Job {
         /** @type {Set<string>} */
         this.saidOnce = new Set();
         this.output = new Output(streams.output, () => messages.hideProgress());
-        this.calls = new Calls(compiledModule());
+        this.calls = callsOfThread();
         /** Shows the progress of a task that does not share its work. */
         this.watch = { progress: (/** @type {number} */ done, /** @type {number} */ all) => messages.progress(done, all) };
         this.pool = new Threads(compiledModule(), this.calls, this.watch.progress);
