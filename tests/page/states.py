@@ -103,6 +103,13 @@ class States(PageTest):
         self.open_files(path)
         self.browser.wait('#start-message', 'A compressed image (CHD)')
 
+    def to_start_converted(self) -> None:
+        """A file that the page can convert to a raw image."""
+        path = common.folder('iso') / 'Hoshizora Tantei.iso'
+        path.write_bytes(bytes(0x8001) + b'CD001'.ljust(2047 + 2048 * 9))
+        self.open_files(path)
+        self.browser.wait('#start-message', 'an ISO image')
+
     def to_start_list(self) -> None:
         """A list of known dumps is open."""
         self.open_files(self.dumps())

@@ -42,7 +42,16 @@ class Browsers(unittest.TestCase):
         self.press(browser, 'Save with the other 5 patches')
         self.assertEqual(browser.downloaded('game (patched).bin').read_bytes(), out)
         self.assertEqual(decoders.differing(browser.run), [])
+        self.convert(browser)
         self.play(browser)
+
+    def convert(self, browser: Browser) -> None:
+        """Converts an ISO image to a raw image."""
+        game, path = discs.game(), common.folder('iso') / 'game.iso'
+        path.write_bytes(b''.join(game[at + 16:at + 2064] for at in range(0, len(game), common.SECTOR_SIZE)))
+        browser.give('#files', [path])
+        self.press(browser, 'Convert and save')
+        self.assertEqual(browser.downloaded('game (raw).bin').read_bytes(), game)
 
     def play(self, browser: Browser) -> None:
         files = discs.written(game=discs.game(), english=discs.script())

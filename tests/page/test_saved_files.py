@@ -29,7 +29,7 @@ NAMES = '''const place = await navigator.storage.getDirectory(), names = [];
     for await (const name of place.keys()) names.push(name);'''
 
 
-class SavedFiles(PageTest):
+class PrivateFilesTest(PageTest):
     stub = PICKER
     server: common.Server
 
@@ -46,9 +46,6 @@ class SavedFiles(PageTest):
         self.browser.open(f'{self.server.url}/{common.PAGE.name}')
         self.browser.wait('#start h1')
         self.run_here('for (const name of names) await place.removeEntry(name)')
-        self.files = discs.written(long=discs.long_disc(), script=discs.script() + 'set 9000 0 41\nset 12000 5 42\nset 18500 0 43\n')
-        self.open_image(self.files['long'])
-        self.open_script(self.files['script'])
 
     def run_here(self, script: str) -> Any:
         """Runs a script that can access the origin's private files."""
@@ -56,6 +53,14 @@ class SavedFiles(PageTest):
 
     def kept(self) -> list[str]:
         return list(self.run_here('return names'))
+
+
+class SavedFiles(PrivateFilesTest):
+    def setUp(self) -> None:
+        super().setUp()
+        self.files = discs.written(long=discs.long_disc(), script=discs.script() + 'set 9000 0 41\nset 12000 5 42\nset 18500 0 43\n')
+        self.open_image(self.files['long'])
+        self.open_script(self.files['script'])
 
     def test_a_file_of_the_browser_has_what_the_program_writes(self) -> None:
         self.press('Apply and save')
@@ -73,3 +78,69 @@ class SavedFiles(PageTest):
         self.browser.wait('#panel-script .say.bad', 'This file cannot be read any more: long.bin. Was it moved or changed')
         self.assertIn(common.text('saveNoImageKept'), self.browser.text('#panel-script .side'))
         self.assertEqual(self.kept(), [])
+
+
+def cut(image: bytes, first: int, end: int, after: bytes = b'') -> bytes:
+    """Some bytes of each sector of an image, and bytes after them."""
+    return b''.join(image[at + first:at + end] + after for at in range(0, len(image), common.SECTOR_SIZE))
+
+
+CONVERT = 'Convert and save'
+SHA1 = '''const file = await (await place.getFileHandle('out.bin')).getFile();
+    const digest = new Uint8Array(await crypto.subtle.digest('SHA-1', await file.arrayBuffer()));
+    return [...digest].map(byte => byte.toString(16).padStart(2, '0')).join('')'''
+
+
+class Conversions(PrivateFilesTest):
+    def offered(self, name: str, data: bytes, what: str) -> None:
+        """Opens a file that is not a raw image."""
+        path = common.folder('other') / name
+        path.write_bytes(data)
+        self.open_files(path)
+        self.browser.wait('#start-message .say.bad', f'{name} is {what}.')
+
+    def test_each_kind_is_converted_to_the_raw_image_that_it_was_made_from(self) -> None:
+        game, mode2 = discs.game(), discs.mode2(700)
+        cases = {'game.iso': (cut(game, 16, 2064), game, 'an ISO image, 2048 bytes a sector'),
+                 'game.img': (cut(game, 0, 2352, bytes(96)), game, 'an image of 2448 bytes a sector, with subchannels'),
+                 'video.bin': (cut(mode2, 16, 2352), mode2, 'an image of 2336 bytes a sector, Mode 2 without sync fields and headers')}
+        for name, (data, due, what) in cases.items():
+            with self.subTest(name):
+                self.setUp()
+                self.offered(name, data, what)
+                self.press(CONVERT)
+                self.browser.wait('#start-message .say.good', 'Saved: out.bin')
+                self.assertEqual(self.run_here(SHA1), common.sha1(due))
+                self.press('Open the new image')
+                self.browser.wait('#disc-line .name', 'out.bin')
+                self.browser.wait('#disc-line .lead', 'are sound')
+
+    def test_a_cancelled_conversion_leaves_no_file(self) -> None:
+        self.offered('long.iso', cut(discs.long_disc(), 16, 2064), 'an ISO image, 2048 bytes a sector')
+        self.browser.run('chosen.hold()')
+        self.press(CONVERT)
+        common.waited(lambda: self.browser.run('return chosen.writes > 1'), 'one write at most')
+        self.press('Cancel')
+        self.browser.run('chosen.release()')
+        self.browser.wait('#start-message', common.text('saveNoImageKept'))
+        self.assertEqual(self.kept(), [])
+
+    def test_a_file_that_is_cut_is_not_converted(self) -> None:
+        self.offered('cut.iso', cut(discs.game(), 16, 2064) + b'x', 'an ISO image, 2048 bytes a sector')
+        self.press(CONVERT)
+        self.browser.wait('#start-message', 'which is not a multiple of 2048')
+        self.assertEqual(self.kept(), [])
+
+
+class Downloads(PageTest):
+    def test_a_browser_without_a_dialog_for_files_downloads_the_raw_image(self) -> None:
+        path = common.folder('other') / 'game.iso'
+        path.write_bytes(cut(discs.game(), 16, 2064))
+        self.open_files(path)
+        self.press(CONVERT)
+        self.assertEqual(self.browser.downloaded('game (raw).bin').read_bytes(), discs.game())
+        self.browser.wait('#start-message .say.good', 'Your browser is saving game (raw).bin')
+        self.assertTrue(self.browser.asks_before_leaving())
+        self.press(common.text('saveIsComplete'))
+        self.browser.wait('#start-message .say.good', 'Saved: game (raw).bin')
+        self.assertFalse(self.browser.asks_before_leaving())

@@ -7,6 +7,7 @@ import { mountList } from './list/index.js';
 import { mountOpening } from './open/index.js';
 import { mountPatchers } from './player/index.js';
 import { mountPublish } from './publish/index.js';
+import { mountConversion } from './save/index.js';
 import { mountScript } from './script/index.js';
 import { mountDiscLine, mountFrame, mountHelp } from './shell/index.js';
 import { mountText } from './text/index.js';
@@ -31,6 +32,7 @@ export async function startPage(awaited) {
     mountFrame(app);
     mountHelp(app);
     mountOpening(app);
+    mountConversion(app);
     mountDiscLine(app);
     mountDisc(app, byId('panel-disc'));
     mountList(app);

@@ -3,10 +3,12 @@
 import { Store } from './store.js';
 
 /** @typedef {import('../../core/disc/disc.js').Disc} Disc */
+/** @typedef {import('../../core/disc/disc.js').DiscFile} DiscFile */
 /** @typedef {import('../../core/disc/disc.js').DiscImage} DiscImage */
 /** @typedef {import('../../core/disc/volume_end.js').Lack} Lack */
 /** @typedef {import('../../core/sectors/survey.js').RangeSurvey} RangeSurvey */
 /** @typedef {import('../../core/tasks/verdict.js').Verdict} Verdict */
+/** @typedef {import('../../core/tasks/convert.js').ConvertibleKind} ConvertibleKind */
 /** @typedef {import('../../core/tasks/opened.js').OpenedTrack} OpenedTrack */
 /** @typedef {import('./marks.js').SurveyMarks} SurveyMarks */
 /** @typedef {import('./store.js').RunningJob} RunningJob */
@@ -53,9 +55,11 @@ import { Store } from './store.js';
 /**
  * Services of parts of the page for all others: `open` opens files, as if they were dropped; `choose` lets the user choose them;
  * `dropSays` returns the text on what happens to files that are dropped; `takeBackBytes` undoes the bytes typed last in a sector, if
- * possible; `saveScript` saves the script in a file; `list` lists what is found in files with different names.
+ * possible; `saveScript` saves the script in a file; `list` lists what is found in files with different names; `convert` offers to convert
+ * a file to a raw image.
  * @typedef {{ open: (files: File[], aim: Aim) => Promise<void>, choose: (aim: Aim) => void, dropSays: () => Child[],
- *     takeBackBytes: () => boolean, saveScript: () => void, list: (files: File[]) => void }} Services
+ *     takeBackBytes: () => boolean, saveScript: () => void, list: (files: File[]) => void,
+ *     convert: (file: DiscFile, kind: ConvertibleKind) => void }} Services
  */
 
 /**

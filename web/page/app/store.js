@@ -72,7 +72,7 @@ export class Store {
         this.pairing = new AbortController();
         /** @type {Services} */
         this.services = { open: async () => {}, choose: () => {}, dropSays: () => [], takeBackBytes: () => false, saveScript: () => {},
-            list: () => {} };
+            list: () => {}, convert: () => {} };
         this.takers = /** @type {Taker[]} */ ([]);
         /** The time of the last `survey` event, in milliseconds. */
         this.told = 0;

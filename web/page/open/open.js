@@ -6,7 +6,7 @@ import { encodingOf, textOfFile } from '../../core/encodings/views.js';
 import { Fault, failedBy } from '../../core/faults.js';
 import { MOST_SCRIPT_BYTES, SECTOR_KIND, SECTOR_SIZE, sectorCount } from '../../core/module/index.js';
 import { isMeantAsScript, isScript, modelInParts } from '../../core/script/views.js';
-import { OpenedTrack, openTrack } from '../../core/tasks/index.js';
+import { OpenedTrack, isConvertible, openTrack } from '../../core/tasks/index.js';
 import { isLong } from '../app/index.js';
 import * as texts from '../texts/index.js';
 import { format, playerTexts, say } from '../texts/index.js';
@@ -236,16 +236,17 @@ function audioTrack({ files, tracks }) {
 }
 
 /**
- * Reports why files were not opened, with the command that converts a CHD to a raw image.
+ * Reports why files were not opened, and how to convert one of them to a raw image: here, or a CHD by a command.
  * @param {App} app
  * @param {File[]} files
  * @param {KnownFile[]} known those of them that may be images, as far as they were read
  * @param {unknown} error
  */
 function showOpeningFailure(app, files, known, error) {
-    const packed = failedBy(error, 'disc') ? known.find(({ kind }) => kind === 'chd') : undefined;
-    if (packed) {
-        const { name } = packed.file;
+    const other = failedBy(error, 'disc') ? known.find(({ kind }) => kind === 'chd' || isConvertible(kind)) : undefined;
+    if (other && isConvertible(other.kind)) return app.services.convert(other.file, other.kind);
+    if (other) {
+        const { name } = other.file;
         return showNotice('bad', say(texts.openCompressedImage, { name: nameOf(name) }), texts.openMakeRawImage, ...commandFor(name));
     }
     if (failedBy(error, 'disc/missing-files')) return showFailure(error);

@@ -76,6 +76,28 @@ export function downloadImage(blob, name) {
 }
 
 /**
+ * Starts the download of an image whose bytes are made in order. The browser keeps them, Firefox in a temporary file.
+ * @param {(take: (bytes: Uint8Array) => Promise<void>) => Promise<void>} make
+ * @param {string} name
+ */
+export async function downloadMade(make, name) {
+    const { readable, writable } = new TransformStream();
+    const kept = new Response(readable).blob();
+    kept.catch(() => {}); // the writer fails too
+    const writer = writable.getWriter();
+    try {
+        await make(bytes => writer.write(bytes));
+        await writer.close();
+    } catch (error) {
+        await writer.abort(error).catch(() => {});
+        throw error;
+    }
+    const blob = await kept;
+    downloadImage(blob, name);
+    return { name, streamed: false, file: new File([blob], name) };
+}
+
+/**
  * Starts the download of bytes in pieces.
  * @param {BlobPart[]} pieces
  * @param {string} name

@@ -1,6 +1,7 @@
 // Checks and saves patched images, and gives files to the user.
 
 export { SaveCard, failureOfSaving } from './card.js';
+export { mountConversion } from './conversion.js';
 export { otherFiles, sheetNaming } from './cue_rewrite.js';
 export { download, downloadBytes, downloadText } from './files_out.js';
 export { checkWork, isPatched, patchedWork, saveWork, tryWork } from './patch_job.js';

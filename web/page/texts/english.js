@@ -883,6 +883,13 @@ export const saveOpenSavedFile = 'Open it';
 export const saveSavedFileWrong = 'Wrong contents: {name}';
 export const saveSumDiffersSaveAgain = 'Its SHA-1 does not match. Save it again.';
 
+// a file that can be converted to a raw image
+export const saveIsOtherKind = '{name} is {what}.';
+export const saveWhyConvertIso = 'Convert it to a raw image, which can be patched, or from which a dump can be repaired.';
+export const saveWhyConvertSubchannels = 'Convert it to a raw image without subchannels. Keep the file: some copy protections need them.';
+export const saveWhyConvertHeaderless = 'Convert it to a raw image, with sync fields and headers.';
+export const saveConvert = 'Convert and save…';
+
 // the reasons why an image was not saved
 export const saveImageNotSaved = 'Not saved';
 export const saveBackFromSaving = 'Back';
