@@ -86,6 +86,7 @@ def cut(image: bytes, first: int, end: int, after: bytes = b'') -> bytes:
 
 
 CONVERT = 'Convert and save'
+SIZE = "return (await (await place.getFileHandle('out.bin')).getFile()).size"
 SHA1 = '''const file = await (await place.getFileHandle('out.bin')).getFile();
     const digest = new Uint8Array(await crypto.subtle.digest('SHA-1', await file.arrayBuffer()));
     return [...digest].map(byte => byte.toString(16).padStart(2, '0')).join('')'''
@@ -120,10 +121,15 @@ class Conversions(PrivateFilesTest):
         self.browser.run('chosen.hold()')
         self.press(CONVERT)
         common.waited(lambda: self.browser.run('return chosen.writes > 1'), 'one write at most')
+        self.open_files(discs.written(game=discs.game())['game'])
+        self.browser.wait('#start-message', common.text('imageBeingSaved'))
         self.press('Cancel')
         self.browser.run('chosen.release()')
         self.browser.wait('#start-message', common.text('saveNoImageKept'))
         self.assertEqual(self.kept(), [])
+        self.press(CONVERT)
+        self.browser.wait('#start-message .say.good', 'Saved: out.bin')
+        self.assertEqual(self.run_here(SIZE), discs.SCRATCHED_SECTORS * common.SECTOR_SIZE)
 
     def test_a_file_that_is_cut_is_not_converted(self) -> None:
         self.offered('cut.iso', cut(discs.game(), 16, 2064) + b'x', 'an ISO image, 2048 bytes a sector')

@@ -38,9 +38,19 @@ export function mountConversion(app) {
  */
 function offerConversion(app, file, kind) {
     const place = element('div', { class: 'stack' });
-    fill(place, element('div', { class: 'row' }, button('main', () => saveRaw(app, file, kind, place), texts.saveConvert)));
+    fill(place, beginRow(app, file, kind, place));
     const what = remarkText({ code: 'kind/what', facts: { kind } });
     showNotice('bad', say(texts.saveIsOtherKind, { name: nameOf(file.name), what }), REASONS[kind], place);
+}
+
+/**
+ * @param {App} app
+ * @param {DiscFile} file
+ * @param {ConvertibleKind} kind
+ * @param {HTMLElement} place of the progress bar
+ */
+function beginRow(app, file, kind, place) {
+    return element('div', { class: 'row' }, button('main', () => saveRaw(app, file, kind, place), texts.saveConvert));
 }
 
 /**
@@ -61,8 +71,12 @@ function saveRaw(app, file, kind, place) {
             };
             return saveImage([file.reader], pieces, name, app.openFiles(), { signal, progress() {} });
         },
-        done: saved => saved === null ? offerConversion(app, file, kind) : showSaved(app, saved),
-        failed: error => fill(place, failureOfSaving(error, file.reader.size / CONVERTIBLE[kind] * SECTOR_SIZE)),
+        done: saved => {
+            fill(place, beginRow(app, file, kind, place));
+            if (saved !== null) showSaved(app, saved);
+        },
+        failed: error => fill(place, failureOfSaving(error, file.reader.size / CONVERTIBLE[kind] * SECTOR_SIZE),
+            beginRow(app, file, kind, place)),
     });
 }
 

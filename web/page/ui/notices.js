@@ -37,7 +37,8 @@ export function verdictLine(tone, head, id = null) {
 }
 
 /**
- * Shows a notice above the panel or the player, or at the drop area of the start, until it is closed or replaced.
+ * Shows a notice above the panel or the player, or at the drop area of the start, until it is closed or replaced. A notice whose job runs
+ * stays beside it.
  * @param {Tone} tone
  * @param {Child | Child[]} head
  * @param {...Child} rest
@@ -56,7 +57,7 @@ function showWords(made) {
     };
     made.append(element('button', { type: 'button', class: 'btn slim bare cross away', 'aria-label': playerTexts.close, click: press },
         '×'));
-    fill(place, made);
+    fill(place, ...busyNotices(place), made);
     place.hidden = false;
     made.scrollIntoView({ block: 'nearest' });
 }
@@ -98,11 +99,20 @@ export function endSavingNotices() {
     for (const id of ['messages', 'start-message']) byId(id).hidden = byId(id).childElementCount === 0;
 }
 
-/** Removes the notice of showNotice. */
+/**
+ * The notices at a place whose jobs run. They stay until these end.
+ * @param {HTMLElement} place
+ */
+function busyNotices(place) {
+    return [...place.children].filter(it => it.querySelector('.job-end') !== null);
+}
+
+/** Removes the notice of showNotice, unless its job runs. */
 export function clearNotices() {
     for (const place of [byId('messages'), byId('start-message')]) {
-        place.hidden = true;
-        fill(place);
+        const busy = busyNotices(place);
+        place.hidden = busy.length === 0;
+        fill(place, ...busy);
     }
 }
 
