@@ -32,7 +32,7 @@ class Start(PageTest):
     def test_the_kinds_of_files_are_one_line(self) -> None:
         height = 'const it = document.querySelector(".takes"); return it.getClientRects().length && it.innerText.split("\\n").length'
         self.assertEqual(self.browser.run(height), 1)
-        for word in ('raw images (.bin, .img)', '.cue', 'patch scripts', 'patcher pages', 'not ISO or CHD'):
+        for word in ('raw images (.bin, .img)', '.cue', 'patch scripts', 'patcher pages', 'ISO files', 'not CHDs'):
             self.assertIn(word, self.browser.text('.takes'))
 
     def test_each_job_says_what_to_choose_and_opens_the_picker(self) -> None:

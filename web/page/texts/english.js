@@ -83,7 +83,7 @@ export const frameOpenFiles = 'Open files…';
 export const frameOrTryExample = 'or {example} that has some damage and the Japanese text {text}';
 export const frameTryExample = 'try it with a small example disc';
 export const frameKindsOfFiles = 'Takes raw images (.bin, .img), their .cue, patch scripts, patcher pages, lists of text, DATs; ' +
-    'not ISO or CHD.';
+    'converts ISO files, not CHDs.';
 export const frameNothingLeavesYourComputer = 'Nothing leaves your computer.';
 export const frameOneFileOffline = 'This page is a single file and makes no network connections. It works offline.';
 
