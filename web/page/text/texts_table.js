@@ -46,7 +46,7 @@ export class TextsTable {
         this.input = element('input', { type: 'file', class: 'hide', tabindex: -1, accept: '.tsv,.csv,.txt,.po',
             'aria-label': texts.textTableToImport, change: () => this.chosen() });
         /** @type {HTMLInputElement} */
-        this.end = element('input', { type: 'text', class: 'mono', id: 'texts-end', maxlength: 2, size: 2, autocomplete: 'off',
+        this.end = element('input', { type: 'text', class: 'mono slim', id: 'texts-end', maxlength: 2, size: 2, autocomplete: 'off',
             spellcheck: 'false', pattern: '[0-9A-Fa-f]{2}' });
         this.job = element('div', { class: 'stack' });
         this.message = element('div', { role: 'status' });
@@ -56,7 +56,7 @@ export class TextsTable {
             button('slim', () => void this.save('csv'), texts.textExportTexts),
             button('slim', () => void this.save('po'), texts.textExportPo),
             button('slim', () => this.input.click(), texts.textImportTable),
-            element('label', { class: 'small quiet', for: 'texts-end' }, texts.textEndByte), this.end),
+            element('label', { class: 'row small quiet' }, texts.textEndByte, this.end)),
         element('p', { class: 'small quiet hint' }, texts.textHowRecognised), this.job, this.message, this.input);
         app.on('image', () => this.forget());
         app.addTaker(file => this.isTable(file));
