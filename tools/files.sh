@@ -81,8 +81,8 @@ remove_compiled() {
 
 # remove_directories: removes the directories that only cdpatch has. Others may belong to someone else, even if empty.
 remove_directories() {
-    for directory in "$docdir/docs" "$docdir/examples" "$docdir" "$pythondir/cdpatch" "$pagedir/python/__pycache__" "$pagedir/python" \
-        "$pagedir" "$cmakedir"; do
+    for directory in "$docdir/docs/design" "$docdir/docs" "$docdir/examples" "$docdir" "$pythondir/cdpatch" \
+        "$pagedir/python/__pycache__" "$pagedir/python" "$pagedir" "$cmakedir"; do
         rmdir "$DESTDIR$directory" 2> /dev/null || true
     done
 }

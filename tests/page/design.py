@@ -1,26 +1,24 @@
-"""Draws the pictures of docs/gallery.md and the README from the page at PAGE, with Chromium. Run by `make design`."""
+"""Draws the pictures of the README and docs/ from the page at PAGE, with Chromium. Run by `make design`."""
 
 import sys
 
 import common
 from states import States, all_states
 
-PAGES = common.TOP / 'docs'
-# The state, window width, colour scheme, scale, and height in pixels of each picture.
-PICTURES = {'design/start.png': ('start', 1280, 'light', 0.5, 800), 'design/script-fits.png': ('script_fits', 1280, 'light', 0.5, 800),
-            'design/text-hits.png': ('text_hits', 1280, 'light', 0.5, 800), 'design/second-asked.png': ('second_asked', 1280, 'dark', 0.5, 800),
-            'design/disc-files.png': ('disc_files', 360, 'light', 0.5, 1600), 'design/player-right.png': ('player_right', 360, 'dark', 0.75, 900),
-            'page.png': ('disc_damaged', 1280, 'light', 0.5, 1000)}
+# The state of each picture in docs/design, and its height in pixels, which ends below a card. All are 1280 pixels wide.
+WIDTH = 1280
+PICTURES = {'start': 800, 'text_hits': 748, 'texts_left': 797, 'script_fits': 620, 'publish': 748, 'player_right': 812, 'second_repair': 812,
+            'list': 508}
 
 
 def main() -> int:
     States.setUpClass()
     page = States()
-    for name, (state, width, scheme, scale, most) in PICTURES.items():
+    for state, height in PICTURES.items():
         page.setUp()
         all_states()[state](page)
-        page.browser.picture(PAGES / name, width, scheme, most, most, scale)
-        page.browser.size(1280)
+        page.browser.picture(common.TOP / 'docs/design' / f'{state.replace("_", "-")}.png', WIDTH, most=height)
+        page.browser.size(WIDTH)
     return 0
 
 

@@ -255,9 +255,9 @@ class States(PageTest):
 
     def to_script_fits(self) -> None:
         """An image and its script were dropped together: all changes fit, and the button that saves."""
-        files = self.place(game=discs.game(), english=discs.script())
+        files = self.place(game=discs.game(), english=discs.named())
         self.open_files(files['game'], files['english'])
-        self.browser.wait('#panel-script .say.good', 'patches match')
+        self.browser.wait('#panel-script .say.good', 'which all match')
         self.wait_for_hash()
 
     def to_script_refused(self) -> None:
@@ -384,7 +384,8 @@ class States(PageTest):
 
     def to_texts_left(self) -> None:
         """A table with rows that do not fit: each with its place and the reason."""
-        self.table({2: 'The game starts.', 3: 'much too long ' * 9, 4: 'also too long ' * 9})
+        self.table({2: 'Start a new game.', 3: 'Do you want to save first, or go on playing?', 4: 'The door is locked. Is there anybody inside?',
+                    5: 'Enter the detective. The case goes on.'})
         self.browser.wait('#panel-text h2', '2 rows do not fit')
         self.press('3')
         self.browser.wait('#panel-text .hex.around')
@@ -400,12 +401,15 @@ class States(PageTest):
 
     def to_publish(self) -> None:
         """The conditions for saving a patcher: those that are met, and those that are not."""
-        self.begin(discs.game(), discs.script())
+        files = self.place(game=discs.game(), english=discs.named())
+        self.open_files(self.sheet(files), files['game'], files['english'])
+        self.browser.wait('#panel-script .say.good', 'which all match')
+        self.wait_for_hash()
         self.browser.click('#tab-publish')
         self.browser.type('#patcher-title', 'Starlit Detective in English')
         self.browser.type('#patcher-author', 'Team Comet, version 1.2')
         self.browser.type('#patcher-note', 'All menus and chapters 1 to 3 are in English.\nWorks with the Japanese first print (two rings on the label).')
-        self.browser.wait('#panel-publish', 'patches match')
+        self.browser.wait('#panel-publish', 'which all match')
 
     def play(self, image: bytes | None, verdict: str = '', script: str = '', with_sheet: bool = True) -> None:
         """Opens a patcher for the game, gives it an image, with or without its cue sheet, and waits for the text of this key."""

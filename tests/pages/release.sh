@@ -54,7 +54,7 @@ listed() { (cd "$1" && find . -type f -o -type l) | LC_ALL=C sort; }
 debian_names() {
     listed root | sed -E "s,lib/(libcdpatch|glibc|pkgconfig|cmake),lib/x86_64-linux-gnu/\1,; s,zsh/site-functions,zsh/vendor-completions,
         s,share/cdpatch/python/cdpatch,lib/python3/dist-packages/cdpatch,; s,share/man/.*,&.gz,; s,share/doc/cdpatch/,share/doc/*/,
-        \,cdpatch/python/|/NOTICES|/CHANGELOG.md|docs/INSTALL.md|docs/page.png,d" | LC_ALL=C sort
+        \,cdpatch/python/|/NOTICES|/CHANGELOG.md|docs/INSTALL.md,d" | LC_ALL=C sort
 }
 # The files unpacked in a root, without those that every package of Debian has.
 unpacked_names() {
