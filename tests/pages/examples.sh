@@ -26,17 +26,18 @@ transcript() {
 }
 
 # blocks_of PAGE: writes the fenced blocks of a page to NUMBER.sh, and the expected output of each to NUMBER.wanted: the block of text after
-# it, or nothing. The commands that a block needs, as in '```sh pv', go to NUMBER.needs. Prints the number of blocks.
+# it, or nothing. The commands that a block needs, as in '```sh pv', go to NUMBER.needs. The block '```sh first', which makes the files that
+# the others use, gets the number 000, wherever it is on the page. Prints the number of blocks.
 blocks_of() {
     awk '
-        /^```sh/ { number++; file = sprintf("%03d.sh", number); printf "" > file
+        /^```sh/ { blocks++; number = sub(/^```sh first/, "```sh") ? 0 : blocks; file = sprintf("%03d.sh", number); printf "" > file
             printf "" > sprintf("%03d.wanted", number)
             if (sub(/^```sh /, "")) print > sprintf("%03d.needs", number)
             next }
         /^```text/ { file = sprintf("%03d.wanted", number); next }
         /^```/ { file = ""; next }
         file != "" { print > file }
-        END { print number + 0 }' "$1"
+        END { print blocks + 0 }' "$1"
 }
 
 # packaged COMMAND: prints the Debian package of a command.
@@ -120,7 +121,7 @@ manual() {
 pages() {
     local name
     page "$1-readme" "$2/README.md"
-    for name in SCRIPTS TRANSLATE REPAIR FAQ; do
+    for name in SCRIPTS TRANSLATE-CLI REPAIR FAQ; do
         page "$1-$name" "$2/docs/$name.md"
     done
     manual "$1-manual" "$3"
@@ -163,7 +164,7 @@ judge 'the program is the installed one' test "$(command -v cdpatch)" = "$instal
 pages tarball "$installed/share/doc/cdpatch" "$installed/share/man/man1/cdpatch.1"
 # The README's patch fits any disc with ISO 9660, and no others.
 cd "$scratch/tarball-readme" || exit 1
-made='../sources-TRANSLATE/Game (Track 1).bin'
+made='../sources-TRANSLATE-CLI/Game (Track 1).bin'
 [ ! -e "$made" ] || judge 'the patch of the README is right for a disc of genisoimage' cdpatch check "$made" changes > log
 cdpatch check "$top/crates/cd_low_tests/data/cdrkit-8.bin" changes > log
 judge 'and refused on a short image' test "$(head -n 1 log)" = 'line 2: refused: no block 16'
@@ -172,7 +173,8 @@ judge 'and where it was applied' test "$(head -n 1 log)" = 'line 2: refused: old
 PATH=$path
 # The installed pages name no command and no file that only the sources have.
 cd "$installed/share/doc/cdpatch" || exit 1
-grep -nE 'crates/cd_low_tests/data|make (check|test|dist|quick)|^ *make( |$)|sources -->' README.md docs/{SCRIPTS,TRANSLATE,REPAIR,FAQ,INSTALL}.md > only
+grep -nE 'crates/cd_low_tests/data|make (check|test|dist|quick)|^ *make( |$)|sources -->' README.md \
+    docs/{SCRIPTS,TRANSLATE,TRANSLATE-CLI,REPAIR,FAQ,INSTALL}.md > only
 judge "the installed pages have only what works there: $(head -n 1 only)" test ! -s only
 rm only
 while IFS=: read -r page link <&3; do
