@@ -1,9 +1,11 @@
-# Runs the examples of the README, the man page, and the pages in docs/ as a reader pastes them: here, and from an unpacked tarball.
+# Runs the examples of the README, two man pages, and the pages in docs/ as a reader pastes them: here, and from an unpacked tarball.
 
-# transcript_step NAME COMMAND: runs one command of a transcript, and compares its output with that in the transcript.
+# transcript_step NAME COMMAND: runs one command of a transcript, and compares its output with that in the transcript. Any SHA-1 matches, since
+# an image has the dates of its files.
 transcript_step() {
     local name=$1 command=$2
     PATH=$scratch/plain:$PATH $plain -c "$command" > got 2>&1 < /dev/null
+    sed -i -E 's/\b[0-9a-f]{40}\b/SHA-1/' wanted got
     same "$name: $command" wanted got
 }
 
@@ -44,6 +46,7 @@ blocks_of() {
 packaged() {
     case $1 in
         chdman) echo mame-tools ;;
+        node) echo nodejs ;;
         *) echo "$1" ;;
     esac
 }
@@ -61,6 +64,22 @@ data_disc() {
         echo 'set 16 0 01434430303101'
     } > format
     cdpatch apply blank format disc.bin > /dev/null
+    rm blank format
+}
+
+# game_disc: creates what the examples of cdscript(1) use: the image of a disc with English text, two dumps with a damaged sector, and a DAT.
+game_disc() {
+    mkdir -p files/DATA
+    printf '%s\0' 'Press start' 'New game' 'Continue' 'Options' > files/DATA/TEXT.DAT
+    printf '%-12s   \1' Potion Antidote Shield Lantern Key | tr ' ' '\0' > files/DATA/ITEMS.DAT
+    genisoimage -quiet -no-pad -V GAME -o game.iso files
+    cdscript raw game.iso game.bin
+    for copy in bad other; do cp game.bin "$copy.bin"; done
+    printf '\377' | dd of=bad.bin bs=1 seek=$((2352 * 24 + 16 + 80)) conv=notrunc status=none
+    printf '\377' | dd of=other.bin bs=1 seek=$((2352 * 3 + 16 + 80)) conv=notrunc status=none
+    printf "<datafile><game name='Game'><rom name='Game.bin' size='%s' sha1='%s'/></game></datafile>\n" \
+        "$(wc -c < game.bin)" "$(sha1sum game.bin | cut -d ' ' -f 1)" > known.dat
+    rm -r files
 }
 
 # page NAME PAGE: runs the blocks of a page in one shell, in a new directory, and compares the output of each. A reader of the sources'
@@ -107,27 +126,30 @@ page() {
     done
 }
 
-# manual NAME PAGE: runs the examples of the man page in a new directory with a disc.
+# manual NAME PAGE MAKER: runs the examples of a man page in a new directory, where MAKER creates the images.
 manual() {
     mkdir "$scratch/$1"
     cd "$scratch/$1" || exit 1
-    data_disc
-    rm blank format
+    "$3"
     sed -n '/^\.Bd -literal/,/^\.Ed/{/^\./!p}' "$2" | sed 's/\\e/\\/g' > example
     transcript "the man page of $1" < example
 }
 
-# pages NAME DIRECTORY MANUAL: runs all user pages of a directory, and the man page.
+# pages NAME DIRECTORY MANUALS: runs all user pages of a directory, and the man pages of another.
 pages() {
     local name
     page "$1-readme" "$2/README.md"
     for name in SCRIPTS TRANSLATE-CLI REPAIR FAQ; do
         page "$1-$name" "$2/docs/$name.md"
     done
-    manual "$1-manual" "$3"
+    manual "$1-cdpatch" "$3/cdpatch.1" data_disc
+    for name in node genisoimage jq; do
+        ! missing "$name" "$(packaged "$name")" 'the examples of cdscript(1)' || return 0
+    done
+    manual "$1-cdscript" "$3/cdscript.1" game_disc
 }
 
-pages sources "$top" "$top/man/cdpatch.1"
+pages sources "$top" "$top/man"
 judge 'make try can be run again' eval "$scratch/plain/make -s -C $scratch/sources-readme try > again" && rm -f "$scratch/plain/make"
 
 # The image and the scripts of bench/SPEED.md at a hundredth of their length, and the commands in its table.
@@ -156,12 +178,12 @@ path=$PATH
 # The tools that the pages need, those that every system has, and the shell.
 mkdir "$scratch/named"
 for name in awk base64 bash cat cmp cp cut dash date dd diff dirname find grep gunzip gzip head iconv ls ln mkdir mktemp mv od rm sed sh \
-    seq sha256sum sort tail test touch tr uniq wc yes genisoimage node git perl; do
+    seq sha1sum sha256sum sort tail test touch tr uniq wc yes genisoimage jq node git perl; do
     ! command -v "$name" > /dev/null || ln -s "$(command -v "$name")" "$scratch/named/$name"
 done
 PATH=$installed/bin:$scratch/named
 judge 'the program is the installed one' test "$(command -v cdpatch)" = "$installed/bin/cdpatch"
-pages tarball "$installed/share/doc/cdpatch" "$installed/share/man/man1/cdpatch.1"
+pages tarball "$installed/share/doc/cdpatch" "$installed/share/man/man1"
 # The README's patch fits any disc with ISO 9660, and no others.
 cd "$scratch/tarball-readme" || exit 1
 made='../sources-TRANSLATE-CLI/Game (Track 1).bin'
