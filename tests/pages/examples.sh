@@ -139,7 +139,7 @@ manual() {
 pages() {
     local name
     page "$1-readme" "$2/README.md"
-    for name in SCRIPTS TRANSLATE-CLI REPAIR FAQ; do
+    for name in SCRIPTS TRANSLATE-CLI REPAIR COLLECTION FAQ; do
         page "$1-$name" "$2/docs/$name.md"
     done
     manual "$1-cdpatch" "$3/cdpatch.1" data_disc
@@ -196,7 +196,7 @@ PATH=$path
 # The installed pages name no command and no file that only the sources have.
 cd "$installed/share/doc/cdpatch" || exit 1
 grep -nE 'crates/cd_low_tests/data|make (check|test|dist|quick)|^ *make( |$)|sources -->' README.md \
-    docs/{SCRIPTS,TRANSLATE,TRANSLATE-CLI,REPAIR,FAQ,INSTALL}.md > only
+    docs/{SCRIPTS,TRANSLATE,TRANSLATE-CLI,REPAIR,COLLECTION,FAQ,INSTALL}.md > only
 judge "the installed pages have only what works there: $(head -n 1 only)" test ! -s only
 rm only
 while IFS=: read -r page link <&3; do
