@@ -26,7 +26,7 @@
  *
  * A sector is 2352 bytes. An address is three: minute, second, and frame in BCD. Memory may hold any bytes, and a number may have any
  * value. Each pointer must be valid for the size given here, and may be null only if the size is 0. What a call writes must not overlap its
- * other arguments. Text is written to the first bytes of its buffer; the others stay.
+ * other arguments. Text is written to the first bytes of its buffer; the other bytes do not change.
  *
  * Nothing is kept between calls, so threads may make calls at the same time. No other thread may access memory that a call writes. No call
  * allocates memory, and each may be made in a signal handler.
@@ -50,7 +50,7 @@
 #define CDPATCH_AT_LEAST
 #endif
 
-/** Precedes a call whose result says whether it did anything: a compiler may warn if a program does not use that. Compile with
+/** Precedes a call whose result says whether it did anything: a compiler may warn if a program ignores the result. Compile with
  * `-DCDPATCH_NODISCARD=` to turn this off. */
 #ifndef CDPATCH_NODISCARD
 #if defined __cplusplus && __cplusplus >= 201703L
@@ -80,7 +80,7 @@ enum { CDPATCH_SECTOR_SIZE = 2352, CDPATCH_USER_SIZE = 2048, CDPATCH_ADDRESS_SIZ
        CDPATCH_LAST_BLOCK = 999999999, CDPATCH_LAST_BASE = 449849 };
 
 /** Results of changes and of patches. A change tests them in this order. CDPATCH_RESULT_NO_PATCH: a field that the verb reads has a value
- * that no line of a script gives it. */
+ * that no line of a script can produce. */
 enum cdpatch_result { CDPATCH_RESULT_OK, CDPATCH_RESULT_NOT_MODE1, CDPATCH_RESULT_DAMAGED, CDPATCH_RESULT_OUT_OF_RANGE,
                       CDPATCH_RESULT_NO_BLOCK, CDPATCH_RESULT_DIFFERS, CDPATCH_RESULT_NO_PATCH };
 /** Exit statuses of commands: 0, 1, and 2. */
@@ -98,8 +98,8 @@ enum cdpatch_content { CDPATCH_CONTENT_NOTHING, CDPATCH_CONTENT_VERSION_1, CDPAT
 
 /** What is wrong: a byte of the Intermediate field is not 00; the EDC; how many of 86 P columns and of 52 Q diagonals. */
 struct cdpatch_defect { bool zeros; bool edc; uint8_t p; uint8_t q; };
-/** A sector's kind, an `enum cdpatch_sector_kind`; whether its address is not that of its block, which is false above block 449849; and the
- * defect. All but the kind are 0 if it is not a Mode 1 sector. */
+/** A sector's kind, an `enum cdpatch_sector_kind`; whether its address is wrong, which is always false above block 449849; and the defect.
+ * All but the kind are 0 if it is not a Mode 1 sector. */
 struct cdpatch_record { uint8_t kind; bool address; bool zeros; bool edc; uint8_t p; uint8_t q; };
 /** The bytes of a line without its end (LF, or CR LF), and with it. */
 struct cdpatch_line { size_t size; size_t taken; };
@@ -152,14 +152,14 @@ size_t cdpatch_result_text(uint32_t result, uint8_t text[CDPATCH_AT_LEAST 96]);
 /** @name Codes, and whole sectors
  * @{ */
 
-/** Returns the EDC of `length` bytes. A sector has that of its bytes 0 to 2063 at 2064, least significant byte first. */
+/** Returns the EDC of `length` bytes. A sector stores the EDC of its bytes 0 to 2063 at byte 2064, least significant byte first. */
 uint32_t cdpatch_edc(const uint8_t *bytes, size_t length);
 /** Returns the kind of a sector. */
 enum cdpatch_sector_kind cdpatch_kind(const uint8_t sector[CDPATCH_AT_LEAST 2352]);
 /** Writes the address of a block, 0 to 449849 (block 0 is 00:02:00), and returns true. For any other block returns false and writes
  * nothing. */
 bool cdpatch_address(uint32_t block, uint8_t address[CDPATCH_AT_LEAST 3]);
-/** Makes the one consistent Mode 1 sector with an address, any three bytes, and user data. */
+/** Makes the one consistent Mode 1 sector with this address and user data. The address may be any three bytes. */
 void cdpatch_encode(const uint8_t address[CDPATCH_AT_LEAST 3], const uint8_t user[CDPATCH_AT_LEAST 2048],
                     uint8_t sector[CDPATCH_AT_LEAST 2352]);
 /** Recalculates P and Q parity, bytes 2076 to 2351, in a sector of any kind. */
@@ -168,19 +168,19 @@ void cdpatch_fill_parity(uint8_t sector[CDPATCH_AT_LEAST 2352]);
 bool cdpatch_is_consistent(const uint8_t sector[CDPATCH_AT_LEAST 2352]);
 /** Writes what is wrong with a sector of any kind, read as a Mode 1 sector. */
 void cdpatch_find_defect(const uint8_t sector[CDPATCH_AT_LEAST 2352], struct cdpatch_defect defect[CDPATCH_AT_LEAST 1]);
-/** Writes, for a sector of any kind, 1 for each of 86 P columns and 52 Q diagonals that is not a code word, else 0. Column C has the bytes
- * 12 + C + 86 * I for I from 0 to 25. Diagonal D, with N = D / 2, has the bytes 12 + (86 * N + 88 * I) % 2236 + D % 2 for I from 0 to 42,
- * and 2248 + D and 2300 + D. A single wrong byte of 12 to 2247 is where the broken column and diagonal cross. */
+/** For a sector of any kind, writes 1 for each of the 86 P columns and 52 Q diagonals that is not a code word, and 0 for the others. Column
+ * C has the bytes 12 + C + 86 * I for I from 0 to 25. Diagonal D, with N = D / 2, has the bytes 12 + (86 * N + 88 * I) % 2236 + D % 2 for I
+ * from 0 to 42, and 2248 + D and 2300 + D. If one byte of 12 to 2247 is wrong, it is where the broken column and diagonal cross. */
 void cdpatch_find_broken(const uint8_t sector[CDPATCH_AT_LEAST 2352], uint8_t columns[CDPATCH_AT_LEAST 86],
                          uint8_t diagonals[CDPATCH_AT_LEAST 52]);
-/** Writes a record of each of `count` sectors from `block` on, and returns true. If `room`, the number of records, is not `count`, or a
- * block is above 4294967294, returns false and writes nothing. */
+/** Writes a record for each of `count` sectors, the first of which is block `block`, and returns true. If `room`, the number of records, is
+ * not `count`, or a block is above 4294967294, returns false and writes nothing. */
 CDPATCH_NODISCARD
 bool cdpatch_survey(const uint8_t *sectors, size_t count, uint32_t block, struct cdpatch_record *records, size_t room);
 
 /** @}
  * @name Changes of a Mode 1 sector
- * EDC and parity are updated. If the result is not CDPATCH_RESULT_OK, the sector stays as it was. The change calls refuse a damaged sector;
+ * EDC and parity are updated. If the result is not CDPATCH_RESULT_OK, the sector does not change. The change calls refuse a damaged sector;
  * the carry calls keep its damage, and add none.
  * @{ */
 
@@ -190,23 +190,23 @@ enum cdpatch_result cdpatch_rebuild(uint8_t sector[CDPATCH_AT_LEAST 2352]);
 /** Writes `length` bytes into the user data at `offset`. To replace all user data of a sound sector, cdpatch_encode is faster. */
 CDPATCH_NODISCARD
 enum cdpatch_result cdpatch_change_user(uint8_t sector[CDPATCH_AT_LEAST 2352], size_t offset, const uint8_t *bytes, size_t length);
-/** The same, carrying damage. */
+/** Like cdpatch_change_user, but keeps the damage of a damaged sector. */
 CDPATCH_NODISCARD
 enum cdpatch_result cdpatch_carry_user(uint8_t sector[CDPATCH_AT_LEAST 2352], size_t offset, const uint8_t *bytes, size_t length);
 /** Writes an address into the header. */
 CDPATCH_NODISCARD
 enum cdpatch_result cdpatch_change_address(uint8_t sector[CDPATCH_AT_LEAST 2352], const uint8_t address[CDPATCH_AT_LEAST 3]);
-/** The same, carrying damage. */
+/** Like cdpatch_change_address, but keeps the damage of a damaged sector. */
 CDPATCH_NODISCARD
 enum cdpatch_result cdpatch_carry_address(uint8_t sector[CDPATCH_AT_LEAST 2352], const uint8_t address[CDPATCH_AT_LEAST 3]);
 
 /** @}
  * @name A script line by line
- * Most programs want a run of patches, below.
+ * Most programs should use a run of patches instead (below).
  *
  * Cut the text with cdpatch_first_line, and read each line with cdpatch_read_line. `version` is 0 until a head line is read, and then the
- * content of that line; `earlier` counts the patches. The first error makes the script invalid. A text without a head line has
- * CDPATCH_CONTENT_NO_HEAD in the line after its last one.
+ * content of that line; `earlier` counts the patches. The first error makes the script invalid. If there is no head line, the error is
+ * CDPATCH_CONTENT_NO_HEAD, in the line after the last one.
  *
  * Then sort the patches by `block`; those of equal blocks keep their order. Give each to cdpatch_apply_patch, with the sectors from its
  * block on as the earlier patches left them: three, or as many as the image has there. Block B is sector B - base; a block below the base
@@ -214,26 +214,26 @@ enum cdpatch_result cdpatch_carry_address(uint8_t sector[CDPATCH_AT_LEAST 2352],
  *
  * The program prints the line of a patch before it writes a sector of that block or of a later one. The last line follows the whole image.
  *
- * No call below makes the lines of cdpatch(1) for a script of more than 67108864 bytes and for an image of more than 1000000 sectors. The
- * second follows the lines of the patches within these sectors.
+ * There is no call for two lines of cdpatch(1): those for a script of more than 67108864 bytes and for an image of more than 1000000
+ * sectors. The second follows the lines of the patches within these sectors.
  * @{ */
 
 /** Finds the first line of a text, and returns true; the next line begins after `taken` bytes. For an empty text returns false and writes
  * nothing. */
 CDPATCH_NODISCARD
 bool cdpatch_first_line(const uint8_t *text, size_t size, struct cdpatch_line line[CDPATCH_AT_LEAST 1]);
-/** Reads a line, without its end, and returns its content, never CDPATCH_CONTENT_NO_MEMORY, or CDPATCH_CONTENT_NO_VERSION if `version` is
- * not 0, 1, or 2. For CDPATCH_CONTENT_PATCH writes the patch and its new and old bytes, otherwise nothing. `earlier` decides only whether
- * a patch is CDPATCH_CONTENT_TOO_MANY, so 0 serves for a line that is read again. */
+/** Reads a line (given without its end), and returns its content, which is never CDPATCH_CONTENT_NO_MEMORY. Returns
+ * CDPATCH_CONTENT_NO_VERSION if `version` is not 0, 1, or 2. For CDPATCH_CONTENT_PATCH writes the patch and its new and old bytes,
+ * otherwise nothing. `earlier` decides only whether a patch is CDPATCH_CONTENT_TOO_MANY, so pass 0 to read a line a second time. */
 CDPATCH_NODISCARD
 enum cdpatch_content cdpatch_read_line(uint32_t version, size_t earlier, const uint8_t *line, size_t size,
                                        struct cdpatch_patch patch[CDPATCH_AT_LEAST 1], uint8_t new_bytes[CDPATCH_AT_LEAST 4096],
                                        uint8_t old_bytes[CDPATCH_AT_LEAST 4096]);
 /** Applies a patch with its new and old bytes to `count` sectors from its block on; no more than three are looked at. Its blocks are tested
  * in turn, each for CDPATCH_RESULT_NO_BLOCK, CDPATCH_RESULT_NOT_MODE1, and CDPATCH_RESULT_DAMAGED, and then the old bytes for
- * CDPATCH_RESULT_DIFFERS. `place` becomes the place that refuses the patch; otherwise it stays. The sectors stay unless the result is
- * CDPATCH_RESULT_OK. With CDPATCH_FLAG_CARRY damage is not a reason to refuse a patch, and stays; CDPATCH_VERB_REBUILD always removes it.
- * Other flags have no effect: old bytes are not compared if `has_old` is 0. */
+ * CDPATCH_RESULT_DIFFERS. `place` becomes the place that refuses the patch; otherwise it does not change. The sectors change only if the
+ * result is CDPATCH_RESULT_OK. With CDPATCH_FLAG_CARRY damage is not a reason to refuse a patch, and is kept; CDPATCH_VERB_REBUILD always
+ * removes it. Other flags have no effect: old bytes are not compared if `has_old` is 0. */
 CDPATCH_NODISCARD
 enum cdpatch_result cdpatch_apply_patch(const struct cdpatch_patch patch[CDPATCH_AT_LEAST 1],
                                         const uint8_t new_bytes[CDPATCH_AT_LEAST 4096], const uint8_t old_bytes[CDPATCH_AT_LEAST 4096],
@@ -242,7 +242,8 @@ enum cdpatch_result cdpatch_apply_patch(const struct cdpatch_patch patch[CDPATCH
 
 /** @}
  * @name A run of patches
- * A script on an image whose bytes the caller moves, from a pipe, a file, or a part of one. This is a whole client:
+ * Applies a script to an image whose bytes the caller reads and writes: a file, a pipe, or a part of a file. These two functions are a
+ * whole client:
  *
  *     static size_t pass_on(FILE *in, FILE *out, size_t size) {
  *         static char piece[65536];
@@ -275,14 +276,14 @@ enum cdpatch_result cdpatch_apply_patch(const struct cdpatch_patch patch[CDPATCH
  *     }
  *
  * Image, log, and status are then those of cdpatch_apply. READ and COPY go forward once over the image, and a sector is read only if a
- * patch looks at it. A client that needs only the log drops the image.
+ * patch looks at it. A client that needs only the log can discard the output.
  *
  * An image of more than 2352000000 bytes ends the run with a line that says so, and CDPATCH_STATUS_FAILED. So does an invalid or too long
  * script, before any byte is requested. Create the output at the first READ, COPY, or WRITE, or at an END that is not
  * CDPATCH_STATUS_FAILED: such a script then leaves none.
  *
- * If a read or a write failed, pass CDPATCH_MOVE_FAILED: the run ends with CDPATCH_STATUS_FAILED, without a line. A failed read that is
- * taken for the end of the image leaves an incomplete image with the status of a whole one.
+ * If a read or a write failed, pass CDPATCH_MOVE_FAILED: the run ends with CDPATCH_STATUS_FAILED, without a line. If you mistake a failed
+ * read for the end of the image, the new image is incomplete, but the status is that of a complete one.
  * @{ */
 
 /** Begins a run over an image of `image_size` bytes, or CDPATCH_UNKNOWN_SIZE, whose first sector is block `base`. `flags` is 0 or a sum of
@@ -292,15 +293,15 @@ enum cdpatch_result cdpatch_apply_patch(const struct cdpatch_patch patch[CDPATCH
  * returns CDPATCH_REFUSED and writes no entry. */
 size_t cdpatch_run_begin(struct cdpatch_run run[CDPATCH_AT_LEAST 1], const uint8_t *script, size_t script_size, uint32_t base,
                          uint64_t image_size, uint32_t flags, struct cdpatch_entry *entries, size_t room);
-/** Notes that `done` bytes of the last step were moved, at first 0, and writes the next one, which moves `size` bytes: READ from the image
- * to `place` in the hand, COPY from the image to the output, WRITE from `place` in the hand to the output, or LOG from `text`. The last
- * step is END with a status. Fewer bytes may be read or copied only if the image ends there. If its size is known, that ends the run with
- * CDPATCH_STATUS_FAILED and the line `cdpatch: reading the image failed`.
+/** Tells the run that `done` bytes of the last step were moved (0 at first), and writes the next step, which moves `size` bytes: READ from
+ * the image to `place` in the hand, COPY from the image to the output, WRITE from `place` in the hand to the output, or LOG from `text`.
+ * The last step is END with a status. Fewer bytes may be read or copied only if the image ends there. If its size is known, that ends the
+ * run with CDPATCH_STATUS_FAILED and the line `cdpatch: reading the image failed`.
  *
- * The script and the entries are those of cdpatch_run_begin. The hand, of at least three `sectors`, keeps its bytes between calls; the
- * rooms need not. More than three are not used today. Whatever bytes these have, the call returns. It writes END with CDPATCH_STATUS_FAILED
- * if there are fewer than three sectors, if more bytes were moved than requested, or if fewer were written or logged. A state of zeros may
- * be that of a finished run: call cdpatch_run_begin first. */
+ * The script and the entries are those of cdpatch_run_begin. `hand` is a buffer of at least three `sectors`, of which only three are used
+ * today. Its bytes must be kept between calls; those of `rooms` need not be. The call returns whatever bytes these buffers contain. It
+ * writes END with CDPATCH_STATUS_FAILED if there are fewer than three sectors, if more bytes were moved than requested, or if fewer were
+ * written or logged. A state of zeros may be that of a finished run: call cdpatch_run_begin first. */
 void cdpatch_run_next(struct cdpatch_run run[CDPATCH_AT_LEAST 1], size_t done, const uint8_t *script, size_t script_size,
                       const struct cdpatch_entry *entries, size_t room, uint8_t *hand, size_t sectors,
                       struct cdpatch_rooms rooms[CDPATCH_AT_LEAST 1], struct cdpatch_step step[CDPATCH_AT_LEAST 1]);
@@ -341,12 +342,14 @@ void cdpatch_sha1_end(const struct cdpatch_sha1 state[CDPATCH_AT_LEAST 1], uint8
  * An image is `size` bytes, such as a mapped file, whose first sector is block `base`. Each call does the same as the command of that name
  * (cdpatch(1)), and returns its exit status. The text that the command prints has `*length` bytes.
  *
- * With CDPATCH_STATUS_FAILED the last line says why, also if `out` is too small. Or the room is too small, and the beginning of the text
- * fills it. Or the base is above 449849: then nothing is written, and `*length` becomes 0. cdpatch_check and cdpatch_apply also do this if
- * the flags are not a sum of flags, or if `most`, the number of entries, is less than that of the script's patches. An entry for each line
- * of the script is enough, and so are CDPATCH_MOST_PATCHES. What entries and buffers hold before does not matter.
+ * CDPATCH_STATUS_FAILED has three causes. After an error the last line says why, also if `out` is too small. If the text is longer than
+ * `room`, its beginning fills the room. If the base is above 449849, nothing is written, and `*length` becomes 0; in cdpatch_check and
+ * cdpatch_apply also if the flags are not a sum of flags, or if `most`, the number of entries, is less than the number of the script's
+ * patches. An entry for each line of the script is enough, and so are CDPATCH_MOST_PATCHES. What entries and buffers hold before does not
+ * matter.
  *
- * This is enough room: 100 bytes and 40 for each sector; for a log 200 bytes and 80 for each line of the script, or 5243080 for any script.
+ * Enough room for cdpatch_list and cdpatch_audit is 100 bytes and 40 for each sector. For a log it is 200 bytes and 80 for each line of the
+ * script, or 5243080 for any script.
  * @{ */
 
 /** Prints the runs of sectors of one kind. */
@@ -364,7 +367,7 @@ enum cdpatch_status cdpatch_check(const uint8_t *image, size_t size, const uint8
                                   struct cdpatch_buffers buffers[CDPATCH_AT_LEAST 1], uint8_t *log, size_t room,
                                   size_t length[CDPATCH_AT_LEAST 1]);
 /** Writes the patched image to the first `size` bytes of `out`, and prints what was done with each patch. After CDPATCH_STATUS_FAILED `out`
- * begins with a prefix of the patched image, perhaps an empty one. Its other bytes stay. */
+ * begins with a prefix of the patched image, perhaps an empty one. Its other bytes do not change. */
 CDPATCH_NODISCARD
 enum cdpatch_status cdpatch_apply(const uint8_t *image, size_t size, const uint8_t *script, size_t script_size, uint32_t base,
                                   uint32_t flags, struct cdpatch_entry *entries, size_t most,

@@ -16,7 +16,7 @@ test_printed_program() {
 }
 
 # printed_client HEADER: prints the complete client that the header contains.
-printed_client() { sed -n '/This is a whole client:$/,/^ \* Image, log, and status/s/^ \* \{5\}//p' "$1"; }
+printed_client() { sed -n '/whole client:$/,/^ \* Image, log, and status/s/^ \* \{5\}//p' "$1"; }
 
 # compiled_client: compiles header_client with client.inc.
 compiled_client() { gcc -std=c99 -O2 "${strict[@]}" -I . "$tests/library/header_client.c" library/libcdpatch.a -o header_client 2> errors; }
