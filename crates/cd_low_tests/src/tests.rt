@@ -6,6 +6,7 @@ mod changes;
 mod codes;
 mod examples;
 mod laws;
+mod repairs;
 mod scripts;
 mod sectors;
 

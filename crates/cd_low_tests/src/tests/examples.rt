@@ -1,4 +1,4 @@
-//! The examples of the rustdoc of cd_address, cd_code, cd_lanes, cd_sector, cd_delta, cd_patch and cd_script.
+//! The examples of the rustdoc of cd_address, cd_code, cd_lanes, cd_sector, cd_repair, cd_delta, cd_patch and cd_script.
 
 use cd_address::{MAX_BLOCK, address_of};
 use cd_code::{
@@ -9,6 +9,7 @@ use cd_code::{
 use cd_delta::{carry_header, carry_user, change_byte, change_header, change_user, parity_changes};
 use cd_lanes::{all_column_sums, all_diagonal_sums, fill_columns, fill_diagonals};
 use cd_patch::{Outcome, apply_lent, apply_patch, blocks_met, blocks_met_spelled};
+use cd_repair::{Choice, Fit, correct_sector, merge_sector};
 use cd_script::{
     Edit, LentBytes, LineContent, Patch, ScriptFault, Version, first_line, is_patch, lend, parse,
     read_line, without_old,
@@ -183,6 +184,54 @@ fn a_rebuilt_sector(rt: HostRuntime) {
     assert_eq!(rt; kind(&sector), SectorKind::Mode1);
     rebuild(&mut sector);
     assert!(rt; sector == sound);
+}
+
+#[test]
+fn repairs(rt: HostRuntime) {
+    let sound = encode([0x00, 0x02, 0x00], &[0x41; USER_SIZE]);
+    let mut damaged = sound;
+    damaged.put(16, 0xFF);
+    let choice = merge_sector([0x00, 0x02, 0x00], &damaged, &[damaged, sound]);
+    assert_eq!(rt;
+        choice,
+        Some(Choice {
+            place: 1,
+            fit: Fit::Edc
+        })
+    );
+    assert!(rt; correct_sector(&mut damaged));
+    assert!(rt; damaged == sound);
+}
+
+#[test]
+fn a_choice(rt: HostRuntime) {
+    let sound = encode([0x00, 0x02, 0x00], &[0x41; USER_SIZE]);
+    let other = encode([0x00, 0x02, 0x00], &[0x42; USER_SIZE]);
+    let mut damaged = sound;
+    damaged.put(16, 0xFF);
+    let choice = merge_sector([0x00, 0x02, 0x00], &damaged, &[other, sound]);
+    assert_eq!(rt;
+        choice,
+        Some(Choice {
+            place: 1,
+            fit: Fit::Edc
+        })
+    );
+    assert_eq!(rt;
+        merge_sector([0x00, 0x02, 0x01], &damaged, &[other, sound]),
+        None
+    );
+}
+
+#[test]
+fn a_correction(rt: HostRuntime) {
+    let sound = encode([0x00, 0x02, 0x00], &[0x41; USER_SIZE]);
+    let mut sector = sound;
+    sector.put(16, 0xFF);
+    assert!(rt; correct_sector(&mut sector));
+    assert!(rt; sector == sound);
+    sector.put(2064, 0x00); // a byte of the EDC
+    assert!(rt; !correct_sector(&mut sector));
 }
 
 #[test]
