@@ -123,6 +123,71 @@ test('of sound sectors that differ that one is taken whose EDC stands in the dam
     assert.deepEqual((await merged([old, image])).doubtful, []);
 });
 
+/** The result of a repair that may correct sectors by their own parity, or not. */
+const parityOf = (images, parity) => merged(images, { parity });
+
+test('with parity, a damaged sector that no dump repairs is corrected if its own EDC confirms it, and only if it is asked for', async () => {
+    const image = soundImage(diceOf(90), 8, BASE);
+    const old = image.slice();
+    for (const place of [20, 800, 2080, 2300]) old[RAW + place] ^= 0x41; // block 1: user data, P, and Q
+    old.fill(0x41, RAW * 2 + 500, RAW * 2 + 800);
+    old[RAW * 3 + 2064] ^= 1;
+    old[RAW * 4 + 14] ^= 1;
+    for (const i of [5, 6]) old[RAW * i + 100] ^= 1;
+    old[RAW * 7 + 3] ^= 1;
+    const other = old.slice();
+    other.set(sectorAt(image, 5), RAW * 5);
+    const [runOf, due] = [(first, last = first) => ({ first: BASE + first, last: BASE + last }), old.slice()];
+    for (const i of [1, 5, 6]) due.set(sectorAt(image, i), RAW * i);
+    const { pieces, taken, corrected, damaged, alike } = await parityOf([old, other], true);
+    assert.deepEqual([taken, corrected], [[{ ...runOf(5), other: 0 }], [runOf(1), runOf(6)]]);
+    assert.deepEqual([damaged, alike], [[{ ...runOf(2, 4), elsewhere: false }], [runOf(2, 4)]]);
+    sameBytes(joinedPieces(old, pieces), due, 'the repaired image');
+    const unasked = await parityOf([old, other], false);
+    assert.deepEqual([unasked.corrected, blocksIn(unasked.damaged)], [[], 5]);
+    due.set(sectorAt(old, 5), RAW * 5);
+    due[RAW * 5 + 100] ^= 1;
+    sameBytes(joinedPieces(old, (await parityOf([old], true)).pieces), due, 'without another dump');
+});
+
+test('a sector that parity corrects keeps its address, which is named if it is that of a different block', async () => {
+    const image = soundImage(diceOf(91), 400, BASE);
+    const swapped = image.slice();
+    [[200, 201], [201, 200]].forEach(([to, from]) => swapped.set(sectorAt(image, from), RAW * to));
+    const old = swapped.slice();
+    old[RAW * 200 + 16] ^= 1;
+    const { pieces, corrected, wrongAddress } = await parityOf([old], true);
+    assert.deepEqual([blocksOf(corrected), blocksIn(wrongAddress)], [[{ block: BASE + 200 }], 2]);
+    sameBytes(joinedPieces(old, pieces), swapped, 'the corrected image');
+});
+
+test('parity changes nothing of a merge but damaged Mode 1 sectors, which become sound with the header and the EDC that they had', async () => {
+    let [count, doubtful] = [0, 0];
+    for (let seed = 0; seed < CASES / 2; seed++) {
+        const dice = diceOf(seed + 9000);
+        const dumps = someDumps(dice, 1 + dice(3), 24, BASE, dice(2) === 0).map(bytesOf);
+        for (let left = dice(9); left > 0; left--) dumps[0][RAW * dice(24) + dice(RAW)] ^= 1 + dice(255);
+        const [one, two] = [await parityOf(dumps, true), await parityOf(dumps, false)];
+        const corrected = new Set(blocksOf(one.corrected).map(({ block }) => block));
+        const others = name => [one, two].map(it => blocksOf(it[name]).filter(({ block }) => !corrected.has(block)));
+        for (const name of ['taken', 'doubtful', 'damaged', 'disputed', 'wrongAddress']) assert.deepEqual(...others(name), `seed ${seed} ${name}`);
+        const left = new Set(blocksOf([...two.damaged, ...two.doubtful]).map(({ block }) => block));
+        assert.deepEqual([two.corrected, [...corrected].filter(block => !left.has(block))], [[], []], `seed ${seed}`);
+        const made = joinedPieces(dumps[0], one.pieces);
+        const due = joinedPieces(dumps[0], two.pieces);
+        for (const block of corrected) {
+            const [sector, old] = [made, dumps[0]].map(bytes => sectorAt(bytes, block - BASE));
+            assert.ok(calls.isConsistent(sector) && !calls.isConsistent(old), `seed ${seed}`);
+            for (const [from, to] of [[0, 16], [2064, 2068]]) sameBytes(sector.subarray(from, to), old.subarray(from, to), `seed ${seed}`);
+            due.set(sector, RAW * (block - BASE));
+        }
+        sameBytes(made, due, `seed ${seed}`);
+        count += corrected.size;
+        doubtful += blocksOf(two.doubtful).filter(({ block }) => corrected.has(block)).length;
+    }
+    assert.ok(count > CASES / 4 && doubtful > 0, `${count} ${doubtful}`);
+});
+
 test('sound sectors that differ are named by their blocks, of each image', async () => {
     const image = soundImage(diceOf(63), 1200, BASE);
     const [one, two] = [[3, 4, 700], [4, 5]].map(places => {

@@ -61,6 +61,9 @@ static struct cdpatch_place place;
 static struct cdpatch_record records[SECTORS];
 static struct cdpatch_sha1 hashed;
 static uint8_t new_bytes[CDPATCH_PATCH_SIZE], old_bytes[CDPATCH_PATCH_SIZE], columns[86], diagonals[52];
+static uint8_t damaged[CDPATCH_SECTOR_SIZE];
+static volatile enum cdpatch_fit last_fit;
+static volatile bool is_corrected;
 static char comment[] = "# 0 a comment", rebuilding[] = "rebuild 0", setting[] = "set 0 5 41", asking[] = "set 0 5 41 was 42";
 static char longest[8 + 2 * CDPATCH_PATCH_SIZE + 1], spaces[sizeof longest];
 
@@ -106,6 +109,18 @@ static void audit_line(uint8_t n) {
 static void audit_end(uint8_t n) { cdpatch_audit_end(UINT32_MAX, UINT32_MAX, UINT32_MAX, n, text); }
 static void survey_16(uint8_t n) { cdpatch_survey(image, SECTORS, n, records, SECTORS); }
 static void find_broken(uint8_t n) { sector[20] = n; cdpatch_find_broken(sector, columns, diagonals); }
+static void merge_sector(uint8_t n) {
+    size_t chosen;
+    memcpy(damaged, image, sizeof damaged);
+    damaged[20] ^= n | 1;
+    last_fit = cdpatch_merge_sector(address, damaged, image, SECTORS, &chosen);
+}
+static void correct_sector(uint8_t n) {
+    memcpy(damaged, image, sizeof damaged);
+    damaged[20] ^= n | 1;
+    damaged[900] ^= n | 1;
+    is_corrected = cdpatch_correct_sector(damaged);
+}
 static void sha1_begin(uint8_t n) { hashed.count = n; cdpatch_sha1_begin(&hashed); }
 static void sha1_2352(uint8_t n) { sector[20] = n; cdpatch_sha1_add(&hashed, sector, sizeof sector); }
 static void sha1_end(uint8_t n) { hashed.count = n; cdpatch_sha1_end(&hashed, text); }
@@ -156,7 +171,8 @@ static const struct row { const char *name; void (*round)(uint8_t n); const char
     {"version", version, "version"}, {"result_text", result_text, "result_text"}, {"edc", edc, "edc"}, {"kind", kind, "kind"},
     {"address", address_of, "address"}, {"encode", encode, "encode"}, {"fill_parity", fill_parity, "fill_parity"},
     {"is_consistent", is_consistent, "is_consistent"}, {"find_defect", find_defect, "find_defect"},
-    {"find_broken", find_broken, "find_broken"}, {"survey_16", survey_16, "survey"}, {"rebuild", rebuild, "rebuild"},
+    {"find_broken", find_broken, "find_broken"}, {"merge_sector", merge_sector, "merge_sector"},
+    {"correct_sector", correct_sector, "correct_sector"}, {"survey_16", survey_16, "survey"}, {"rebuild", rebuild, "rebuild"},
     {"change_user_1", change_user_1, "change_user"}, {"change_user_2048", change_user_2048, "change_user"},
     {"carry_user_1", carry_user_1, "carry_user"}, {"carry_user_8", carry_user_8, "carry_user"},
     {"carry_user_2048", carry_user_2048, "carry_user"},

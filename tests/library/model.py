@@ -13,6 +13,7 @@ from sector import NO_DEFECT, SYNC, address_of, consistent, damage, defect, edc_
 
 KINDS = ['nosync', 'mode0', 'mode1', 'mode2', 'other']
 OK, NOT_MODE1, DAMAGED, OUT_OF_RANGE = range(4)
+UNTOUCHED = 99  # a place that is not written
 
 
 class Defect(ctypes.Structure):
@@ -80,6 +81,61 @@ def digest_by(library, random, data):
     return digest.raw
 
 
+def harms_of(random):
+    """The places of wrong bytes, and whether parity surely corrects them: a burst of at most 24, not in the sync field, the header, or the EDC."""
+    first, size = random.randrange(2352), random.choice([1, 1, 24, 200])
+    spread = random.sample(range(2352), random.choice([4, 16, 40, 80]))
+    places = random.choice([spread, range(first, min(first + size, 2352))])
+    fixed = [place for place in places if place < 16 or 2064 <= place < 2068]
+    return places, places is not spread and size < 200 and not fixed
+
+
+def wrongly_corrected(library, random):
+    """What is wrong with the correction of a random damage: it makes a sector that is not the sound one, or does not correct enough."""
+    sound = sector_with(SYNC + address_of(random.randrange(449850)) + b'\1' + random.randbytes(2048), NO_DEFECT)
+    harmed = bytearray(sound)
+    places, is_sure = harms_of(random)
+    for place in places:
+        harmed[place] ^= random.randrange(1, 256)
+    made = ctypes.create_string_buffer(bytes(harmed), 2352)
+    is_corrected = library.cdpatch_correct_sector(made)
+    if made.raw != (sound if is_corrected else harmed):
+        return ['correct_sector makes another sector']
+    return ['correct_sector corrects too little'] if is_sure and not is_corrected else []
+
+
+def fit(sector, copy):
+    return 3 if sector[2064:2068] == copy[2064:2068] else 2 if sector[12:2064] == copy[12:2064] else 1
+
+
+def choice(address, sector, copies):
+    """The number of the fit and the place of the copy that replaces a sector; 0 if there is none."""
+    able = [place for place, copy in enumerate(copies) if consistent(copy) and copy[12:15] == address]
+    if consistent(sector) or not able:
+        return 0, UNTOUCHED
+    place = max(able, key=lambda place: fit(sector, copies[place]))  # the first of the best
+    return fit(sector, copies[place]), place
+
+
+def choice_by(library, address, sector, copies):
+    place = ctypes.c_size_t(UNTOUCHED)
+    number = library.cdpatch_merge_sector(address, sector, b''.join(copies), ctypes.c_size_t(len(copies)), ctypes.byref(place))
+    return number, place.value
+
+
+def some_copies(random, sector):
+    """Copies of a sector: sound ones with its address or another one and with its data or others, and damaged ones."""
+    copies = []
+    for _ in range(random.randrange(5)):
+        address = random.choice([sector[12:15], sector[12:15], b'\0\2\0'])
+        user = random.choice([sector[16:2064], bytes(2048), bytes([65]) * 2048])
+        copy = bytearray(sector_with(SYNC + address + b'\1' + user, NO_DEFECT))
+        if random.random() < 0.3:
+            copy[random.randrange(2352)] ^= 1
+        copies.append(bytes(copy))
+    return copies
+
+
 def differences(library, random):
     """The names of the calls that differ from the model on a random sector."""
     sector = some_sector(random)
@@ -102,6 +158,7 @@ def differences(library, random):
     range_words = ctypes.c_size_t(offset), new, ctypes.c_size_t(len(new))
     rebuilt = (OK, sector_with(sector[:2064], NO_DEFECT)) if kind(sector) == 'mode1' else (NOT_MODE1, sector)
     readdressed = content_with(sector, 12, address)
+    copies = some_copies(random, sector)
     pairs = {
         'edc': (library.cdpatch_edc(new, ctypes.c_size_t(len(new))), int.from_bytes(edc_bytes(new, 0), 'little')),
         'kind': (KINDS[library.cdpatch_kind(sector)], kind(sector)),
@@ -109,6 +166,7 @@ def differences(library, random):
         'is_consistent': (library.cdpatch_is_consistent(sector), consistent(sector)),
         'find_defect': (found.report(), damage(sector)),
         'find_broken': (broken_by(library, sector), broken(sector)),
+        'merge_sector': (choice_by(library, sector[12:15], sector, copies), choice(sector[12:15], sector, copies)),
         'sha1': (digest_by(library, random, sector + new), hashlib.sha1(sector + new).digest()),
         'fill_parity': (call('cdpatch_fill_parity')[1], parity_of(sector)),
         'rebuild': (call('cdpatch_rebuild'), rebuilt),
@@ -117,7 +175,7 @@ def differences(library, random):
         'change_address': (call('cdpatch_change_address', address), changed(sector, readdressed, True)),
         'carry_address': (call('cdpatch_carry_address', address), changed(sector, readdressed, False)),
     }
-    return [name for name, (got, wanted) in pairs.items() if got != wanted]
+    return [*(name for name, (got, wanted) in pairs.items() if got != wanted), *wrongly_corrected(library, random)]
 
 
 @lru_cache
@@ -126,6 +184,7 @@ def open_library(path):
     library.cdpatch_is_consistent.restype = ctypes.c_bool
     library.cdpatch_address.restype = ctypes.c_bool
     library.cdpatch_edc.restype = ctypes.c_uint32
+    library.cdpatch_correct_sector.restype = ctypes.c_bool
     return library
 
 

@@ -38,6 +38,7 @@ function begun() {
 const rows = [
     ['edc', none => [none, new Size(0)]],
     ['survey', none => [none, new Size(0), 0, none, new Size(0)]],
+    ['merge_sector', none => [new Uint8Array([0, 2, 0]), new Uint8Array(2352), none, new Size(0), new Room(8)]],
     ['change_user', none => [new Room(sector()), new Size(7), none, new Size(0)]],
     ['carry_user', none => [new Room(sector()), new Size(2049), none, new Size(0)]],
     ['first_line', none => [none, new Size(0), new Room(LINE)]],

@@ -19,7 +19,7 @@ BYTES = {'u8': 1, 'u16': 2, 'u32': 4, 'u64': 8, 'usize': 8}
 FLAGS = {('FoundDefect', 'zeros'), ('FoundDefect', 'edc'), ('SectorRecord', 'address'), ('SectorRecord', 'zeros'),
          ('SectorRecord', 'edc')}
 # The enum of the number that a call returns.
-ENUMS = {'cdpatch_kind': 'cdpatch_sector_kind', 'cdpatch_read_line': 'cdpatch_content',
+ENUMS = {'cdpatch_kind': 'cdpatch_sector_kind', 'cdpatch_read_line': 'cdpatch_content', 'cdpatch_merge_sector': 'cdpatch_fit',
          **dict.fromkeys(['cdpatch_rebuild', 'cdpatch_change_user', 'cdpatch_carry_user', 'cdpatch_change_address',
                           'cdpatch_carry_address', 'cdpatch_apply_patch'], 'cdpatch_result'),
          **dict.fromkeys(['cdpatch_list', 'cdpatch_audit', 'cdpatch_check', 'cdpatch_apply'], 'cdpatch_status')}
@@ -128,7 +128,9 @@ def exports(source):
     contents += [('NOTHING', number) for number in re.findall(r'LineContent::PassedOver\) => (\d+),', source)]
     contents += [(f'VERSION_{place}', number) for place, number in enumerate(re.findall(r'Version::\w+ => (\d+),', source), 1)]
     contents += [pair for pair in constants if pair[0] in ('PATCH', 'NO_VERSION')]
-    numbers = {'result': results, 'content': contents}
+    fits = [(name, number) for name, number in re.findall(r'Fit::(\w+) => (\d+),', source)]
+    fits += [pair for pair in constants if pair[0] == 'NO_COPY']
+    numbers = {'result': results, 'content': contents, 'fit': fits}
     for name, found in (('status', ('DONE', 'FOUND', 'FAILED')), ('verb', ('SET', 'FILL', 'REBUILD', 'ADDRESS')), ('sector_kind', KINDS),
                         ('step_kind', ('END', 'READ', 'COPY', 'WRITE', 'LOG')), ('run_flag', ('CARRY', 'NO_COPY', 'WITHOUT_OLD'))):
         numbers[name] = [pair for pair in constants if pair[0] in found]

@@ -10,7 +10,7 @@
 #include <stdlib.h>
 #include <string.h>
 
-enum { SECTOR = CDPATCH_SECTOR_SIZE, MOST_SECTORS = 6, MOST_BYTES = MOST_SECTORS * SECTOR + 5000, MOST_ARGUMENTS = 16, MOST_ENTRIES = 12, CALLS = 33 };
+enum { SECTOR = CDPATCH_SECTOR_SIZE, MOST_SECTORS = 6, MOST_BYTES = MOST_SECTORS * SECTOR + 5000, MOST_ARGUMENTS = 16, MOST_ENTRIES = 12, CALLS = 35 };
 
 static uint64_t state;
 static uint8_t sectors[MOST_BYTES], bytes[MOST_BYTES], old_bytes[MOST_BYTES], out[MOST_BYTES], address[3], address_room[3];
@@ -311,6 +311,32 @@ static void on_codes(uint64_t which) {
     }
 }
 
+/* The copies are the damaged sector as it was before, or have other damage or other data. */
+static void on_merge(void) {
+    size_t count = some(MOST_SECTORS + 1), chosen = some_size();
+    uint8_t *from = (uint8_t *)lent(sectors, count * SECTOR);
+    memcpy(out, sectors, SECTOR);
+    for (size_t i = 0; i < count; i++) {
+        memcpy(sectors + i * SECTOR, out, SECTOR);
+        if (once_in(2))
+            cdpatch_encode(once_in(3) ? address : out + 12, out + 16, sectors + i * SECTOR);
+        if (once_in(3))
+            sectors[i * SECTOR + some(SECTOR)] = (uint8_t)some(256);
+    }
+    begin("merge_sector");
+    input(address, 3), input(out, SECTOR), input(from, count * SECTOR), size(count), room(&chosen, sizeof chosen);
+    end(cdpatch_merge_sector(address, out, from, count, &chosen));
+}
+static void on_correction(void) {
+    if (cdpatch_kind(sectors) == CDPATCH_KIND_MODE1 && once_in(2))
+        cdpatch_encode(address, sectors + 16, sectors);
+    for (uint64_t left = some(once_in(3) ? 60 : 12); left > 0; left--)
+        sectors[some(SECTOR)] = (uint8_t)some(256);
+    begin("correct_sector");
+    room(sectors, SECTOR);
+    end(cdpatch_correct_sector(sectors));
+}
+
 static void make_call(uint64_t which) {
     make_sector(sectors);
     switch (which) {
@@ -333,7 +359,9 @@ static void make_call(uint64_t which) {
     case 16: begin("version"), end(cdpatch_version()); break;
     case 17: case 18: case 19: case 20: on_lines(which - 17); break;
     case 21: case 22: case 23: case 24: on_report_lines(which - 21); break;
-    default: on_codes(which - 25);
+    case 25: on_merge(); break;
+    case 26: on_correction(); break;
+    default: on_codes(which - 27);
     }
 }
 

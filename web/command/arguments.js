@@ -97,7 +97,7 @@ function checkNames(job, names, options) {
     const takes = takenBy(job, options);
     const together = takes.filter(name => name.startsWith('[')).flatMap(name => name.split(' ').slice(1)).length;
     const least = takes.filter(name => !/^\[|\?$/.test(name)).length;
-    const most = takes.some(name => name.endsWith('..')) ? Infinity : takes.length + together;
+    const most = takes.some(name => /\.\.\??$/.test(name)) ? Infinity : takes.length + together;
     if (names.length >= least && names.length <= most && (names.length - least) % (together + 1) === 0) return;
     throw ownFault(`${job} needs ${usageOf(takes) || 'no other arguments'}; see cdscript ${job} --help`);
 }

@@ -148,7 +148,8 @@ export const FORMS = {
         example: 'cdscript diff game.bin english.bin -o english.txt',
     },
     'merge': {
-        job: mergeJob, takes: ['OLD', 'OTHER..', 'OUT'], options: ['dat', 'json', 'track', 'base'],
+        job: mergeJob, takes: ['OLD', 'OTHER..', 'OUT'], instead: { parity: ['OLD', 'OTHER..?', 'OUT'] },
+        options: ['parity', 'dat', 'json', 'track', 'base'],
         says: 'Repair an image from other dumps of the same disc',
         does: 'OUT is OLD with its damaged and lost sectors replaced by sound ones from the OTHERs. `repair` is another name for ' +
             'this job.',

@@ -30,13 +30,14 @@ const MOST_ALIKE = 10;
  * @param {Repair} repair
  * @param {DiscImage[]} others
  */
-function repairLines({ taken, damaged, alike, disputed, wrongAddress, differing, different, lost, unlike }, others) {
+function repairLines({ taken, corrected, damaged, alike, disputed, wrongAddress, differing, different, lost, unlike }, others) {
     const numbers = [taken, damaged, disputed].map(blocksIn).concat(different.reduce((sum, count) => sum + count, 0));
     const inBoth = differing.flatMap((runs, other) => runs.map(run => ({ ...run, other })));
     const sameDamage = `alike ${blocksIn(alike)}, damaged with the same bytes in all dumps:`;
     const notTaken = { true: 'sound only with the address of a different block', false: 'damaged, without a sound copy' };
     return [
         ...linesOfRuns(taken, ({ first, last, other }) => `${first}-${last} from ${others[other].name}`),
+        ...linesOfRuns(corrected, ({ first, last }) => `${first}-${last} from its own parity`),
         ...linesOfRuns(damaged, ({ first, last, elsewhere }) => `${first}-${last} ${notTaken[`${elsewhere}`]}`),
         ...linesOfRuns(lost, ({ first, last }) => `${first}-${last} lost, without a sound copy`),
         ...unlikeLines(unlike),
@@ -140,7 +141,8 @@ export async function mergeJob(job) {
     for (const other of more) dumps.push(await openTrackOf(job, other, true));
     const [image, ...others] = [opened, ...dumps].map(it => it.image);
     const seen = (/** @type {Uint8Array} */ bytes) => void (hash && hash.update(bytes));
-    const repair = await repairTrack(job, opened, dumps, piece => out.writePiece(image.reader, piece, seen), job.watch);
+    const repair = await repairTrack(job, opened, dumps, piece => out.writePiece(image.reader, piece, seen),
+        { ...job.watch, parity: job.options.parity });
     const { refused, doubtful, untested } = repair;
     if (refused) throw ownFault(refusedText(refused, [name, ...more]));
     sayOtherFiles(job, opened);

@@ -1,5 +1,5 @@
-//! The calls of C that use no script (`cdpatch_*` of `cdpatch.h`): on one sector or many, on lines
-//! and texts, incremental SHA-1, and `list` and `audit` of an image in memory. Each call passes its
+//! The calls of C that use no script (`cdpatch_*` of `cdpatch.h`): on one sector or many, repairs of
+//! a sector, lines and texts, incremental SHA-1, and `list` and `audit` of an image in memory. Each call passes its
 //! arguments on to the crates below, and repeats their clauses. None allocates memory. A call
 //! checks its arguments, but not that pointers are valid and not null, and that its outputs overlap
 //! nothing else that is passed: the C program must ensure this.
@@ -10,6 +10,7 @@ mod changes;
 mod hashing;
 mod kinds;
 mod log_lines;
+mod repairing;
 mod report_lines;
 mod reports;
 mod results;

@@ -7,7 +7,7 @@ import { RangeSurvey, SurveyArgs } from '../sectors/survey.js';
 import { How, Lines } from '../script/sector_lines.js';
 import { Differing } from '../tasks/compare.js';
 import { UserRange } from '../tasks/convert.js';
-import { Merged } from '../tasks/merge.js';
+import { MergeArgs, Merged } from '../tasks/merge.js';
 
 declare module '../pool/jobs.js' {
     interface Jobs {
@@ -17,7 +17,7 @@ declare module '../pool/jobs.js' {
         diff: { args: {}; answer: Lines };
         lines: { args: { blocks: number[]; how: How }; answer: Lines };
         differ: { args: {}; answer: Differing };
-        merge: { args: { shift: number }; answer: Merged };
+        merge: { args: MergeArgs; answer: Merged };
         replace: { args: { end: number }; answer: Lines };
         user: { args: {}; answer: UserRange };
         raw: { args: {}; answer: Uint8Array };

@@ -3,5 +3,5 @@
 export { Calls } from './calls.js';
 export { hasVectors } from './engine.js';
 export { DIAGONALS, LAST_BASE, LAST_BLOCK, MOST_SECTORS, SECTOR_SIZE, USER_SIZE } from './numbers.js';
-export { CONTENT, MOST_PATCHES, MOST_SCRIPT_BYTES, PATCH_SIZE, RECORD, RECORD_SIZE, RESULT, RUN_FLAG, SECTOR_KIND } from './records.js';
-export { STATUS, STEP, VERB, isFault, kindName, sectorCount } from './records.js';
+export { CONTENT, FIT, MOST_PATCHES, MOST_SCRIPT_BYTES, PATCH_SIZE, RECORD, RECORD_SIZE, RESULT, RUN_FLAG } from './records.js';
+export { SECTOR_KIND, STATUS, STEP, VERB, isFault, kindName, sectorCount } from './records.js';

@@ -2,7 +2,7 @@
 
 import { CONTENT, RECORD_STRUCT, SECTOR_KIND, SECTOR_SIZE, STEP_KIND } from './numbers.js';
 
-export { CONTENT, RESULT, RUN_FLAG, SECTOR_KIND, STATUS, VERB } from './numbers.js';
+export { CONTENT, FIT, RESULT, RUN_FLAG, SECTOR_KIND, STATUS, VERB } from './numbers.js';
 export { MOST_PATCHES, MOST_SCRIPT_BYTES, PATCH_SIZE, SECTORS_IN_HAND } from './numbers.js';
 
 /** The kinds of steps of a run. */

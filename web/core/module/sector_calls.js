@@ -1,7 +1,7 @@
 // The calls of libcdpatch on sectors and images, with JavaScript bytes and numbers. cdpatch.h documents each call.
 
 import { Arena } from './arena.js';
-import { ADDRESS_SIZE, COLUMNS, DIAGONALS, DIGEST_SIZE, SECTOR_SIZE, SHA1_STRUCT, USER_SIZE } from './numbers.js';
+import { ADDRESS_SIZE, COLUMNS, DIAGONALS, DIGEST_SIZE, FIT, SECTOR_SIZE, SHA1_STRUCT, USER_SIZE } from './numbers.js';
 import { RECORD_SIZE, sectorCount } from './records.js';
 
 /** The place of the header in a sector, and its size. */
@@ -126,6 +126,30 @@ export class SectorCalls extends Arena {
         const [at, columns, diagonals] = this.put(sized(sector, SECTOR_SIZE), COLUMNS, DIAGONALS);
         this.exports.cdpatch_find_broken(at, columns, diagonals);
         return { columns: this.copied(columns, COLUMNS), diagonals: this.copied(diagonals, DIAGONALS) };
+    }
+
+    /**
+     * The place of the copy that replaces a damaged sector, and its FIT. Null if none of the copies is a consistent Mode 1 sector with this
+     * address, or if the sector is consistent itself.
+     * @param {Uint8Array} address
+     * @param {Uint8Array} sector
+     * @param {Uint8Array[]} copies
+     */
+    mergeSector(address, sector, copies) {
+        const sectors = [...copies, sector].map(bytes => sized(bytes, SECTOR_SIZE));
+        const places = this.put(...sectors, sized(address, ADDRESS_SIZE));
+        const [own, from] = places.slice(copies.length);
+        const fit = this.exports.cdpatch_merge_sector(from, own, places[0], BigInt(copies.length), this.answer);
+        return fit === FIT.NO_COPY ? null : { place: this.view.getUint32(this.answer, true), fit };
+    }
+
+    /**
+     * A damaged Mode 1 sector as its own P and Q parity corrects it, confirmed by the EDC that it has. Null if that is not possible.
+     * @param {Uint8Array} sector
+     */
+    correctedSector(sector) {
+        const [at] = this.put(sized(sector, SECTOR_SIZE));
+        return this.exports.cdpatch_correct_sector(at) ? this.copied(at, SECTOR_SIZE) : null;
     }
 
     /**

@@ -10,14 +10,20 @@ import { STATE, hasSameContents, replacementOf } from './merge_sector.js';
 /** @typedef {import('../disc/lost.js').OtherSectors} OtherSectors */
 /** @typedef {import('../sectors/runs.js').Run} Run */
 /** @typedef {Run & { other: number }} RunOf blocks of another image */
+/**
+ * How many blocks later the sectors are by their addresses, and whether a sector without a copy, or with a doubtful one, is corrected by
+ * its own parity.
+ * @typedef {{ shift: number, parity: boolean }} MergeArgs
+ */
 /** @typedef {Run & { elsewhere: boolean }} DamagedRun `elsewhere` if an image has a sound sector with the address of a different block */
 /**
  * The findings of a repair, as runs of blocks. `taken`: blocks copied from one other image for each run. `doubtful`: those of them whose
- * copy nothing in the replaced sector confirms, unless the sector was lost and one byte fills it, and nothing disputes the copy. `damaged`:
- * blocks that no image repairs. `alike`: those of them with the same bytes in all images that have the block. `disputed`: taken blocks in
- * which other images are also sound, but different. `wrongAddress`: blocks that keep a sound sector with the address of a different block.
- * `others`: blocks that were not repaired, are neither sound nor Mode 1 in any image, and are not tested Mode 2, with their kinds in the
- * repaired image. `filled`: those of them that one byte fills there. `unlike`: those of them that are different in some image.
+ * copy nothing in the replaced sector confirms, unless the sector was lost and one byte fills it, and nothing disputes the copy.
+ * `corrected`: blocks that their own parity corrected. `damaged`: blocks that nothing repaired. `alike`: those of them with the same bytes
+ * in all images that have the block. `disputed`: taken blocks in which other images are also sound, but different. `wrongAddress`: sound
+ * blocks that keep the address of a different block. `others`: blocks that were not repaired, are neither sound nor Mode 1 in any image,
+ * and are not tested Mode 2, with their kinds in the repaired image. `filled`: those of them that one byte fills there. `unlike`: those of
+ * them that are different in some image.
  *
  * For each other image, `same` is the number of blocks with the same bytes, `differing` lists the blocks in which both are sound, but
  * different, and `differingUntested` the Mode 2 blocks that were not tested in the repaired image, and are different in the other one,
@@ -26,11 +32,11 @@ import { STATE, hasSameContents, replacementOf } from './merge_sector.js';
  * `mode2`: blocks that are Mode 2 after the repair. `tested`: how many blocks of the repaired image have codes, which are those of Mode 1
  * and of sound Mode 2. `sound`: how many blocks are sound Mode 2 in any image. If there are any, then `unsound`, some of `others`, are
  * damaged. If there are none, no Mode 2 sector was tested, and `unclear`, some of `others`, are also `unlike`.
- * @typedef {{ taken: RunOf[], doubtful: RunOf[], damaged: DamagedRun[], alike: Run[], disputed: Run[], wrongAddress: Run[], unlike: Run[],
- *     unsound: DamagedRun[], unclear: Run[] } & OtherSectors} FoundRuns
+ * @typedef {{ taken: RunOf[], corrected: Run[], doubtful: RunOf[], damaged: DamagedRun[], alike: Run[], disputed: Run[],
+ *     wrongAddress: Run[], unlike: Run[], unsound: DamagedRun[], unclear: Run[] } & OtherSectors} FoundRuns
  * @typedef {FoundRuns & { differing: Run[][], differingUntested: Run[][], same: number[], tested: number, sound: number }} Found
  */
-/** @typedef {Found & { sectors: Uint8Array, end: number }} Merged with the copied sectors, and the block after the range */
+/** @typedef {Found & { sectors: Uint8Array, end: number }} Merged with the copied and corrected sectors, and the block after the range */
 /** @typedef {{ records: Uint8Array, mode2: Uint8Array }} Tested the records of sectors, and the findings in those of Mode 2 */
 /** @typedef {import('./merge_sector.js').Copy & { image: number, kind: number }} Copy a sector of one of the images, and its SECTOR_KIND */
 
@@ -39,11 +45,11 @@ import { STATE, hasSameContents, replacementOf } from './merge_sector.js';
  * @param {Calls} calls
  * @param {Uint8Array[]} pieces the range of the image, and of each other image
  * @param {number} first
- * @param {{ shift: number }} args how many blocks later the sectors are by their addresses
+ * @param {MergeArgs} args
  * @returns {Merged}
  */
-export function mergeRange(calls, pieces, first, { shift }) {
-    const range = new RangeMerge(calls, pieces, first, shift);
+export function mergeRange(calls, pieces, first, args) {
+    const range = new RangeMerge(calls, pieces, first, args);
     const count = sectorCount(pieces[0].length);
     for (let i = 0; i < count; i++) range.merge(i);
     return { ...range.found, sectors: joinedBytes(range.sectors), end: first + count };
@@ -55,22 +61,22 @@ class RangeMerge {
      * @param {Calls} calls
      * @param {Uint8Array[]} images
      * @param {number} first
-     * @param {number} shift
+     * @param {MergeArgs} args
      */
-    constructor(calls, images, first, shift) {
+    constructor(calls, images, first, args) {
         const [old, ...others] = images;
         const count = sectorCount(old.length);
         const places = others.map(other => differingSectors(old, other));
         this.calls = calls;
         this.images = images;
         this.first = first;
-        this.shift = shift;
+        this.args = args;
         this.words = asWords(old);
         this.tested = [testedSectors(calls, old), ...others.map((other, i) => testedAt(calls, other, places[i]))];
         this.unlike = new Uint8Array(count); // 1 where some image has different bytes
         places.forEach(some => some.forEach(i => { this.unlike[i] = 1; }));
         this.found = { ...nothingFound(others.length), same: places.map(({ length }) => count - length) };
-        /** @type {Uint8Array[]} the copied sectors */
+        /** @type {Uint8Array[]} the sectors that were copied or corrected */
         this.sectors = [];
     }
 
@@ -78,20 +84,24 @@ class RangeMerge {
     merge(i) {
         const { found } = this;
         const block = this.first + i;
-        const address = addressOf(this.calls, block + this.shift);
+        const address = addressOf(this.calls, block + this.args.shift);
         const copies = this.images.map((_, image) => this.copyIn(image, i, address));
         const [own, ...others] = copies;
         const isSoundIn = (/** @type {Copy} */ { state }) => state === STATE.SOUND;
         found.tested += Number(own.kind === SECTOR_KIND.MODE1 || isSoundIn(own));
         found.sound += Number(copies.some(it => it.kind === SECTOR_KIND.MODE2 && isSoundIn(it)));
-        const replacement = replacementOf(own, others);
+        const replacement = replacementOf(this.calls, address, own, others);
+        if ((replacement === null || replacement.isDoubtful) && this.correct(block, own)) {
+            this.noteAddress(block, address, own);
+            return;
+        }
         const { kind } = replacement === null ? own : replacement.copy;
         if (kind === SECTOR_KIND.MODE2) addToRuns(found.mode2, runOf(block));
         if (replacement !== null) this.take(block, replacement);
         else if (own.state === STATE.UNTESTED) this.keepUntested(block, own, others);
         else if (!isSoundIn(own)) this.leave(i, copies);
         else {
-            if (address !== null && !own.isHome) addToRuns(found.wrongAddress, runOf(block));
+            this.noteAddress(block, address, own);
             const differing = others.filter(it => isSoundIn(it) && !hasSameContents(own, it));
             for (const { image } of differing) addToRuns(found.differing[image - 1], runOf(block));
         }
@@ -120,6 +130,30 @@ class RangeMerge {
         addToRuns(found.taken, run);
         if (isDisputed) addToRuns(found.disputed, runOf(block));
         if (isDoubtful) addToRuns(found.doubtful, run);
+    }
+
+    /**
+     * Corrects a damaged Mode 1 sector by its own parity, if this is allowed. Returns whether it was possible.
+     * @param {number} block
+     * @param {Copy} own
+     */
+    correct(block, { bytes, kind, state }) {
+        if (!this.args.parity || kind !== SECTOR_KIND.MODE1 || state !== STATE.DAMAGED) return false;
+        const corrected = this.calls.correctedSector(bytes);
+        if (corrected === null) return false;
+        this.sectors.push(corrected);
+        addToRuns(this.found.corrected, runOf(block));
+        return true;
+    }
+
+    /**
+     * Notes a sound sector with the address of a different block.
+     * @param {number} block
+     * @param {Uint8Array | null} address of the block, null if it has none
+     * @param {Copy} own
+     */
+    noteAddress(block, address, { isHome }) {
+        if (address !== null && !isHome) addToRuns(this.found.wrongAddress, runOf(block));
     }
 
     /**
@@ -179,9 +213,10 @@ function stateAt({ records, mode2 }, i) {
  */
 export function nothingFound(others) {
     const [differing, differingUntested] = [0, 1].map(() => Array.from({ length: others }, () => []));
-    const runs = { taken: [], doubtful: [], damaged: [], alike: [], disputed: [], wrongAddress: [], others: [], filled: [], unlike: [] };
+    const runs = { taken: [], corrected: [], doubtful: [], damaged: [], alike: [], disputed: [], wrongAddress: [] };
     const same = new Array(others).fill(0);
-    return { ...runs, mode2: [], unsound: [], unclear: [], differing, differingUntested, same, tested: 0, sound: 0 };
+    const notTested = { others: [], filled: [], unlike: [], unsound: [], unclear: [] };
+    return { ...runs, ...notTested, mode2: [], differing, differingUntested, same, tested: 0, sound: 0 };
 }
 
 /**

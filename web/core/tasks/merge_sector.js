@@ -1,6 +1,8 @@
-// Decides one sector by its copies in other images: whether it is replaced, and by which of them.
+// Decides one sector by its copies in other images: whether it is replaced, and by which of them. The module chooses among copies of
+// Mode 1, by a proved call. The rules of Mode 2 are here.
 
 import { sameBytes } from '../bytes.js';
+import { FIT } from '../module/index.js';
 import { FIELDS, edcOfMode2 } from '../sectors/index.js';
 
 /**
@@ -9,6 +11,7 @@ import { FIELDS, edcOfMode2 } from '../sectors/index.js';
  */
 export const STATE = Object.freeze({ LOST: 0, DAMAGED: 1, UNTESTED: 2, SOUND: 3 });
 
+/** @typedef {import('../module/calls.js').Calls} Calls */
 /** @typedef {{ bytes: Uint8Array, state: number, isHome: boolean }} Copy a sector of an image; `isHome`: it has the address of its block */
 /**
  * The copy that replaces a sector. `isDisputed`: other copies would replace it too, but are different. `isDoubtful`: nothing in the sector
@@ -22,26 +25,24 @@ const MODE_OFFSET = 15;
 const EDC_SIZE = 4;
 const END_OF_CONTENTS = 2348;
 
-/** How well a copy fits the sector that it replaces: it has the same EDC, or else the same data that the EDC includes, or neither. */
-const FIT = { EDC: 2, DATA: 1, NONE: 0 };
-
 /**
  * Selects the copy that replaces a sector: of the sound ones with the address of the block, the first of those that fit best. Null if the
  * sector is kept.
  * @template {Copy} C
+ * @param {Calls} calls
+ * @param {Uint8Array | null} address of the block, null if it has none
  * @param {Copy} own
  * @param {C[]} copies
  * @returns {Replacement<C> | null}
  */
-export function replacementOf(own, copies) {
+export function replacementOf(calls, address, own, copies) {
     const possible = copies.filter(copy => copy.state === STATE.SOUND && copy.isHome && canReplace(own, copy));
-    if (possible.length === 0) return null;
-    const fits = possible.map(({ bytes }) => fitOf(own.bytes, bytes));
-    const best = Math.max(...fits);
-    const copy = possible[fits.indexOf(best)];
+    const fitting = address === null ? [] : fittingCopies(calls, address, own, possible);
+    if (fitting.length === 0) return null;
+    const { copy, fit } = fitting.reduce((best, it) => it.fit > best.fit ? it : best);
     const isDisputed = possible.some(({ bytes }) => !sameBytes(copy.bytes, bytes));
     const isLost = own.state !== STATE.UNTESTED && isFilledAfterHeader(own.bytes);
-    return { copy, isDisputed, isDoubtful: best === FIT.NONE && (isDisputed || !isLost) };
+    return { copy, isDisputed, isDoubtful: fit === FIT.NEITHER && (isDisputed || !isLost) };
 }
 
 /**
@@ -67,14 +68,37 @@ export function hasSameContents(own, copy) {
 }
 
 /**
- * @param {Uint8Array} sector
- * @param {Uint8Array} copy a sound sector
+ * The copies that may be the best one, with how well they fit: those of Mode 2, and of those of Mode 1 the one that the module chooses.
+ * @template {Copy} C
+ * @param {Calls} calls
+ * @param {Uint8Array} address
+ * @param {Copy} own
+ * @param {C[]} copies sound ones with this address
  */
-function fitOf(sector, copy) {
-    const isMode2 = copy[MODE_OFFSET] === 2;
-    const [from, edc] = isMode2 ? [FIELDS.user, edcOfMode2(copy)] : [FIELDS.header, FIELDS.edc];
+function fittingCopies(calls, address, own, copies) {
+    const mode1 = copies.filter(({ bytes }) => !isMode2(bytes));
+    const choice = mode1.length > 0 ? calls.mergeSector(address, own.bytes, mode1.map(({ bytes }) => bytes)) : null;
+    const chosen = choice && mode1[choice.place];
+    return copies.flatMap(copy => {
+        if (isMode2(copy.bytes)) return [{ copy, fit: fitOfMode2(own.bytes, copy.bytes) }];
+        return choice && copy === chosen ? [{ copy, fit: choice.fit }] : [];
+    });
+}
+
+/** @param {Uint8Array} sector a sound one */
+function isMode2(sector) {
+    return sector[MODE_OFFSET] === 2;
+}
+
+/**
+ * The FIT of a sound Mode 2 sector. Its EDC follows the subheader and the data.
+ * @param {Uint8Array} sector
+ * @param {Uint8Array} copy
+ */
+function fitOfMode2(sector, copy) {
+    const edc = edcOfMode2(copy);
     if (hasSame(sector, copy, edc, edc + EDC_SIZE)) return FIT.EDC;
-    return hasSame(sector, copy, from, edc) ? FIT.DATA : FIT.NONE;
+    return hasSame(sector, copy, FIELDS.user, edc) ? FIT.DATA : FIT.NEITHER;
 }
 
 /**

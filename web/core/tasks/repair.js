@@ -25,6 +25,7 @@ import { trackBeside } from './opened.js';
 /** @typedef {import('./merge.js').Found} Found */
 /** @typedef {import('./merge.js').Merged} Merged */
 /** @typedef {import('./opened.js').OpenedTrack} OpenedTrack */
+/** @typedef {Sharing & { parity?: boolean }} RepairOptions `parity`: whether sectors are also corrected by their own parity */
 /**
  * The reason why a repair is refused. `untested`: the image has no sector with codes, so that nothing shows damage. The others have the
  * index of a dump. `apart`: it has no block in common with the image, and `first` lists the first blocks of both. `different`: more
@@ -46,27 +47,28 @@ import { trackBeside } from './opened.js';
 const MOST_DIFFERENT = 100;
 
 /** The findings that are runs of blocks of the image alone. */
-const RUNS = /** @type {const} */ (['damaged', 'unsound', 'alike', 'disputed', 'wrongAddress', 'others', 'filled', 'unlike', 'unclear',
-    'mode2']);
+const RUNS = /** @type {const} */ (['corrected', 'damaged', 'unsound', 'alike', 'disputed', 'wrongAddress', 'others', 'filled', 'unlike',
+    'unclear', 'mode2']);
 
 /**
  * Repairs the image of a track with other dumps, in the blocks that both have. A damaged or lost sector is copied whole from a dump in
- * which it is sound and has the address of its block. The tail is not changed. The pieces of the repaired image are passed to `take` at
- * once, before it is known whether the repair is refused. Throws what the readers throw, and a Fault, `cancelled`.
+ * which it is sound and has the address of its block. With `parity`, a damaged Mode 1 sector without such a copy, or with a doubtful one,
+ * is corrected by its own P and Q, if the EDC that it has confirms the result. The tail is not changed. The pieces of the repaired image
+ * are passed to `take` at once, before it is known whether the repair is refused. Throws what the readers throw, and a Fault, `cancelled`.
  * @param {Engine} engine
  * @param {OpenedTrack} opened
  * @param {OpenedTrack[]} dumps
  * @param {(piece: Piece) => void | Promise<void>} take
- * @param {Sharing} [watch]
+ * @param {RepairOptions} [options]
  * @returns {Promise<Repair>}
  */
-export async function repairTrack({ calls, pool }, opened, dumps, take, watch = {}) {
+export async function repairTrack({ calls, pool }, opened, dumps, take, options = {}) {
     const { image } = opened;
     const tracks = dumps.map(dump => trackBeside(opened, dump));
     const others = tracks.map(track => track.image);
     const parts = others.map(other => commonPart(image, other));
     const isApart = parts.some(({ from, to }) => from === to);
-    const all = isApart ? nothingFound(others.length) : await mergeImages(pool, image, others, parts, take, watch);
+    const all = isApart ? nothingFound(others.length) : await mergeImages(pool, image, others, parts, take, options);
     const { others: notTested, filled, ...found } = settled(all);
     const refused = await refusalOf(calls, image, others, parts, all);
     const ranges = others.map(other => rangesOf(image, other));
@@ -101,9 +103,9 @@ function settled({ unsound, unclear, sound, ...found }) {
  * @param {DiscImage[]} others
  * @param {CommonPart[]} parts of the image that each dump has
  * @param {(piece: Piece) => void | Promise<void>} take
- * @param {Sharing} how
+ * @param {RepairOptions} options
  */
-async function mergeImages(pool, old, others, parts, take, how) {
+async function mergeImages(pool, old, others, parts, take, { parity = false, ...how }) {
     const found = nothingFound(others.length);
     const sectors = sectorCount(old.reader.size);
     const pieces = new PieceCutter(take);
@@ -114,7 +116,7 @@ async function mergeImages(pool, old, others, parts, take, how) {
         const progress = how.progress && ((/** @type {number} */ done) => how.progress?.(from + done, sectors));
         const readers = [partReader(old, from, stops[i + 1], 0),
             ...present.map(other => partReader(others[other], from, stops[i + 1], parts[other].later))];
-        await pool.share('merge', readers, { shift }, { ...how, progress, base: old.base + from }, async answer => {
+        await pool.share('merge', readers, { shift, parity }, { ...how, progress, base: old.base + from }, async answer => {
             addAnswer(found, answer, present);
             await cutAnswer(pieces, answer, old.base);
         });
@@ -194,9 +196,9 @@ function addAnswer(found, { taken, doubtful, ...answer }, present) {
  * @param {Merged} answer
  * @param {number} base
  */
-async function cutAnswer(pieces, { taken, sectors, end }, base) {
+async function cutAnswer(pieces, { taken, corrected, sectors, end }, base) {
     let done = 0;
-    for (const { first, last } of taken) {
+    for (const { first, last } of [...taken, ...corrected].sort((a, b) => a.first - b.first)) {
         const size = (last - first + 1) * SECTOR_SIZE;
         await pieces.put((first - base) * SECTOR_SIZE, sectors.subarray(done, done + size));
         done += size;
