@@ -1,15 +1,15 @@
 -- The effects of a client that copies the bytes of a step, also if that fails: as those of `apply`
 -- of cd_image.
-use Rattle.std.proofs.Common.{◌≡◌, ℕ, ◌+◌, ◌*◌, ◌<◌, ◌≤◌, inl, inr, Bool, false, List, [], ◌∷◌, ◌++◌, length, take, drop, None, Some, Ok, Err, refl, sym, ap, ◌∙◌, arith, append-nil, length-append, take-append-drop}
+use Rattle.std.proofs.Common.{◌≡◌, ℕ, ◌+◌, ◌*◌, ◌<◌, ◌≤◌, inl, inr, Bool, false, true, List, [], ◌∷◌, ◌++◌, length, take, drop, None, Some, Err, refl, sym, ap, ◌∙◌, arith, append-nil, length-append, take-append-drop}
 use Rattle.std.specs.Prelude.{All}
-use Rattle.std.proofs.KnownBytes.{Consumes-nil}
+use Rattle.std.specs.Io.KnownBytes.{IsAtEnd}
 use Rattle.std.proofs.lemmas.Bool.{cases_lt}
 use Rattle.cd_script.specs.PatchForm.{Patch}
-use Rattle.cd_sector.specs.Image.{bytes_of, sector_limit, sectors, tail}
+use Rattle.cd_sector.specs.Image.{bytes_of, sector_limit}
 use Rattle.cd_sector.specs.declared.sector.TheConstants.{SECTOR_SIZE}
 use Rattle.cd_stream.specs.Stream.{Incoming, Outgoing}
-use Rattle.cd_stream.specs.Transfer.{Gives, Takes}
-use Rattle.cd_stream.proofs.TransferLemmas.{Gives-trans, Takes-nil, Takes-trans}
+use Rattle.cd_stream.specs.Transfer.{Gives}
+use Rattle.cd_stream.proofs.TransferLemmas.{Gives-trans, Takes-trans}
 use Rattle.cd_read.specs.declared.fault.Fault.{Fault}
 use Rattle.cd_read.specs.declared.fault.Fault.TheVariants as fault
 use Rattle.cd_read.specs.declared.fault.Fault.TheVariants.{Log, Read, TooLong, Write}
@@ -33,41 +33,9 @@ use Rattle.cd_c_scripts.proofs.GoingLemmas.{Cut, Going-read, cut_bytes, none_of 
 use Rattle.cd_c_scripts.proofs.MovedLemmas.{Found, asks_copy}
 use Rattle.cd_c_scripts.proofs.TellingLemmas.{not_logged}
 use Rattle.cd_c_scripts.proofs.RequestLemmas.{to_copy}
-use Rattle.cd_c_scripts.proofs.ClientMoves.{going, pass}
-
--- the bytes that were copied
-pub record HasPassed (done : ℕ) (image image' : Incoming) (out out' : Outgoing) : Type 0 where
-  pub bytes : List ℕ
-  pub size : length bytes ≡ done
-  pub gives : Gives image image' bytes
-  pub sends : Takes out out' bytes
-  pub reads : image'.failures ≡ image.failures
-  pub writes : out'.failures ≡ out.failures
-  pub flushes : out'.flushes ≡ out.flushes
-
-pub passed_none : (image : Incoming) (out : Outgoing) → HasPassed 0 image image out out
-passed_none image out = record {
-  bytes = [];
-  size = refl;
-  gives = record { consumes = Consumes-nil image.rest; counted = omega arith };
-  sends = Takes-nil out;
-  reads = refl;
-  writes = refl;
-  flushes = refl;
-}
-
-pub passed_more : {asked done came : ℕ} {first image image' : Incoming} {start out out' : Outgoing}
-    → HasPassed done first image start out → Passes asked image image' out out' (Ok came)
-    → HasPassed (done + came) first image' start out'
-passed_more p m = record {
-  bytes = p.bytes ++ m.0;
-  size = omega (arith, length-append p.bytes m.0, p.size, m.1);
-  gives = Gives-trans _ _ _ _ _ p.gives m.3;
-  sends = Takes-trans _ _ _ _ _ p.sends m.4.taken;
-  reads = m.5 ∙ p.reads;
-  writes = m.4.count ∙ p.writes;
-  flushes = m.4.flushes ∙ p.flushes;
-}
+use Rattle.cd_c_scripts.proofs.ClientMoves.{going, pass, write_at_end}
+use Rattle.cd_c_scripts.proofs.SizeLemmas.{all_given, all_to_come}
+use Rattle.cd_c_scripts.proofs.PassedLemmas.{HasPassed}
 
 module _ {carry : Bool} {text : List ℕ} {es : List Entry} {patches : List Patch} {base : ℕ}
     {start now : Streams} {run : ScriptRun} {hand : List (List ℕ)} {step : RunStep}
@@ -95,16 +63,13 @@ module _ {carry : Bool} {text : List ℕ} {es : List Entry} {patches : List Patc
     came_before : length l.read ≡ SECTOR_SIZE * run.machine.sectors
     came_before = Going-read u free.1
 
-    pub copies_whole : step.size ≡ SECTOR_SIZE * run.most
-    copies_whole = elim (asks_copy q.asks copying.0).2 [
-      | inl whole ↦ copying.2 ∙ whole
-      | inr rest ↦ absurd (omega (arith, rest.1, l.unknown, few_asked, free.3))
-    ]
+    pub copies_few : step.size ≤ SECTOR_SIZE * run.most
+    copies_few = omega (arith, few_asked, copying.2)
 
     front : PassInvariant carry (take run.machine.decided patches) (drop run.machine.decided patches)
         base start now [] run.machine.block run.machine.sectors run.machine.applied None false
     front =
-        pass u l.moved (λ some. l.ended (inr some)) (ap (λ n. take n hand) free.0)
+        pass u l.moved (λ some. absurd (omega (arith, some, free.1))) (ap (λ n. take n hand) free.0)
         (tail_none run.machine.stage u.tail free.1) (ap closed_at free.1)
 
     module _ {done : ℕ} {image : Incoming} {out : Outgoing} (p : HasPassed done now.image image now.out out)
@@ -214,66 +179,95 @@ module _ {carry : Bool} {text : List ℕ} {es : List Entry} {patches : List Patc
           state = Reached-end at_ahead middle.state bytes short (omega arith) (omega (arith, short, less, free.3));
         }
 
-      pub copy_write_fails : {asked : ℕ} {image' : Incoming} {out' : Outgoing} → asked ≡ SECTOR_SIZE
+      -- a part that is shorter than a sector is the rest of an image whose size is known
+      rest_given : {asked : ℕ} {image' : Incoming} {bytes : List ℕ} → done + asked ≡ step.size
+          → asked < SECTOR_SIZE → Gives image image' bytes → length bytes ≡ asked → IsAtEnd image'.rest
+      rest_given {bytes = bytes} last short gives all = elim (asks_copy q.asks copying.0).2 [
+        | inl full ↦ absurd (omega (arith, last, copying.2, full, sectors_done, less, short))
+        | inr rest ↦
+            let read = Gives-trans _ _ _ _ _ l.moved.gives (Gives-trans _ _ _ _ _ p.gives gives) in
+            let count = length-append l.read (p.bytes ++ bytes) in
+            all_given l.sized read
+            (omega (arith, count, length-append p.bytes bytes, p.size, all, last, copying.2, few_asked, came_before, free.3))
+            (omega (arith, count, length-append p.bytes bytes, p.size, all, last, copying.2, came_before, rest.1))
+      ]
+
+      pub copy_write_fails : {asked : ℕ} {image' : Incoming} {out' : Outgoing} → asked ≤ SECTOR_SIZE
+          → (asked < SECTOR_SIZE → done + asked ≡ step.size)
           → Passes asked image image' out out' (Err fault.Write)
           → Applies carry patches base start (record now { image = image'; out = out' }) (Err fault.Write)
-      copy_write_fails is m = elim (cases_lt (length m.0) SECTOR_SIZE) [
+      copy_write_fails {asked = asked} {image' = image'} few last m = elim (cases_lt (length m.0) SECTOR_SIZE) [
         | inl short ↦
-            rw take-append-drop at
-            (Closes-tail (with_tail m.2 m.4 short (m.5 (omega (arith, short, is)))) m.3)
+            let end : IsAtEnd image'.rest = elim (cases_lt (length m.0) asked) [
+              | inl fewer ↦ (m.5 fewer).0
+              | inr all ↦
+                  rest_given (last (omega (arith, short, all))) (omega (arith, short, all)) m.2 (omega (arith, all, m.1))
+            ] in
+            write_at_end
+            (rw take-append-drop at
+            (Closes-tail
+            (with_tail {image' = record image' { ended = true }}
+            (record { consumes = m.2.consumes; counted = m.2.counted }) m.4 short (end, refl)) m.3))
         | inr full ↦
-            let size : length m.0 ≡ SECTOR_SIZE = omega (arith, full, m.1, is) in
+            let size : length m.0 ≡ SECTOR_SIZE = omega (arith, full, m.1, few) in
             rw take-append-drop at (Applies-write (with_sector m.2 m.4 size) m.3 size ahead)
       ]
 
-      pub copy_fails : (f : Fault) {asked : ℕ} {image' : Incoming} {out' : Outgoing} → asked ≡ SECTOR_SIZE
-          → Passes asked image image' out out' (Err f)
+      pub copy_fails : (f : Fault) {asked : ℕ} {image' : Incoming} {out' : Outgoing} → asked ≤ SECTOR_SIZE
+          → (asked < SECTOR_SIZE → done + asked ≡ step.size) → Passes asked image image' out out' (Err f)
           → Applies carry patches base start (record now { image = image'; out = out' }) (Err f)
-      copy_fails Read is m = copy_read_fails (omega (arith, is)) m
-      copy_fails Write is m = copy_write_fails is m
-      copy_fails Log is m = elim m [ ]
-      copy_fails TooLong is m = elim m [ ]
+      copy_fails Read few last m = copy_read_fails few m
+      copy_fails Write few last m = copy_write_fails few last m
+      copy_fails Log few last m = elim m [ ]
+      copy_fails TooLong few last m = elim m [ ]
 
     pub copies : {done : ℕ} {image : Incoming} {out : Outgoing} (hand' : List (List ℕ))
         → HasPassed done now.image image now.out out → done ≤ step.size
         → (done < step.size → HasEnded image)
         → HasTaken carry text es patches base start (record now { image = image; out = out }) run hand
         hand' done
-    copies {done = done} hand' p few ends = record {
-      read = l.read;
-      sent = l.sent;
-      read' = l.read ++ p.bytes;
-      sent' = l.sent ++ p.bytes;
-      log_bytes = l.log_bytes ++ logged_by step;
-      moved = record {
-        gives = Gives-trans _ _ _ _ _ l.moved.gives p.gives;
-        sends = Takes-trans _ _ _ _ _ l.moved.sends p.sends;
-        logs = rw (not_logged step step.kind refl (omega (arith, kind)), append-nil l.log_bytes) l.moved.logs;
-        unfailed = record {
-          reads = p.reads ∙ l.moved.unfailed.reads;
-          writes = p.writes ∙ l.moved.unfailed.writes;
-          logs = l.moved.unfailed.logs;
-        };
-        unflushed = record {
-          outs = p.flushes ∙ l.moved.unflushed.outs;
-          logs = l.moved.unflushed.logs;
-        };
-      };
-      running = l.goes.running;
-      took =
-          Moved.copied copying.0 p.bytes p.size (omega (arith, few, copying.2)) (inr l.unknown) refl refl;
-      same = record {
-        window = ap (λ n. take n hand') free.0 ∙ sym (ap (λ n. take n hand) free.0);
-        tail = λ one. absurd (omega (arith, one, free.1));
-      };
-      within =
-          omega (arith, length-append l.read p.bytes, p.size, few, came_before, copying.2, few_asked, free.3);
-      ended = λ is. absurd (elim is [
-        | inl over ↦ omega (arith, over, copying.0)
-        | inr some ↦ omega (arith, some, free.1)
-      ]);
-      short = λ asks less. ends (omega (arith, less, copying.2));
-      little = λ asks. omega (arith, few, copying.2, few_asked, free.3);
-      carried = l.carried;
-      unknown = l.unknown;
-    }
+    copies {done = done} hand' p few ends =
+        let gives = Gives-trans _ _ _ _ _ l.moved.gives p.gives in
+        let count : length (l.read ++ p.bytes) ≡ length l.read + done =
+        omega (arith, length-append l.read p.bytes, p.size) in
+        record {
+          read = l.read;
+          sent = l.sent;
+          read' = l.read ++ p.bytes;
+          sent' = l.sent ++ p.bytes;
+          log_bytes = l.log_bytes ++ logged_by step;
+          moved = record {
+            gives = gives;
+            sends = Takes-trans _ _ _ _ _ l.moved.sends p.sends;
+            logs = rw (not_logged step step.kind refl (omega (arith, kind)), append-nil l.log_bytes) l.moved.logs;
+            unfailed = record {
+              reads = p.reads ∙ l.moved.unfailed.reads;
+              writes = p.writes ∙ l.moved.unfailed.writes;
+              logs = l.moved.unfailed.logs;
+            };
+            unflushed = record {
+              outs = p.flushes ∙ l.moved.unflushed.outs;
+              logs = l.moved.unflushed.logs;
+            };
+          };
+          running = l.goes.running;
+          took =
+              Moved.copied copying.0 p.bytes p.size (omega (arith, few, copying.2))
+              (all_to_come run (length l.read) l.sized gives count
+              (omega (arith, l.known (inr kind), copying.1, copying.2)) (omega (arith, few, copying.2))
+              (λ less. ends (omega (arith, less, copying.2)))) refl refl;
+          same = record {
+            window = ap (λ n. take n hand') free.0 ∙ sym (ap (λ n. take n hand) free.0);
+            tail = λ one. absurd (omega (arith, one, free.1));
+          };
+          within =
+              omega (arith, length-append l.read p.bytes, p.size, few, came_before, copying.2, few_asked, free.3);
+          ended = λ is. absurd (elim is [
+            | inl over ↦ omega (arith, over, copying.0)
+            | inr some ↦ omega (arith, some, free.1)
+          ]);
+          short = λ asks less. ends (omega (arith, less, copying.2));
+          came = λ asks. omega (arith, count, came_before);
+          carried = l.carried;
+          sized = l.sized;
+        }

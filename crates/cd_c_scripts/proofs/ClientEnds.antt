@@ -1,16 +1,14 @@
--- A client after a step, and at its end: its effects are those of `apply` of cd_image.
-use Rattle.std.proofs.Common.{◌≡◌, ℕ, ◌+◌, ◌<◌, ◌≤◌, ◌⊎◌, inl, inr, Bool, true, false, List, [], length, Result, Ok, Err, refl, sym, ap, ◌∙◌, arith, append-nil, length-append}
+-- A client at its end: its effects are those of `apply` of cd_image.
+use Rattle.std.proofs.Common.{◌≡◌, ℕ, ◌+◌, ◌≤◌, inl, Bool, List, [], length, Result, Ok, Err, refl, sym, ap, ◌∙◌, arith, append-nil, length-append}
 use Rattle.std.specs.Prelude.{All, ◌-◌}
-use Rattle.std.proofs.KnownBytes.{Consumes-nil}
-use Rattle.std.proofs.lemmas.Bool.{cases_lt, true≢false}
+use Rattle.std.proofs.lemmas.Bool.{true≢false}
 use Rattle.cd_script.specs.Patch.{IsPatch}
 use Rattle.cd_script.specs.PatchForm.{Patch}
-use Rattle.cd_sector.specs.Image.{sector_limit, sectors, tail}
 use Rattle.cd_patch.specs.declared.outcome.Outcome.{Outcome}
 use Rattle.cd_patch.proofs.SequenceLemmas.{PatchSequence-lengths}
 use Rattle.cd_stream.specs.Stream.{Incoming, IsBeginning, Outgoing}
 use Rattle.cd_stream.specs.Transfer.{Flushes}
-use Rattle.cd_stream.proofs.TransferLemmas.{Takes-flushed, Takes-nil}
+use Rattle.cd_stream.proofs.TransferLemmas.{Takes-flushed}
 use Rattle.cd_read.specs.Ends.{MayBeImageAtEnd}
 use Rattle.cd_read.specs.declared.fault.Fault.{Fault}
 use Rattle.cd_read.specs.declared.fault.Fault.TheVariants as fault
@@ -23,9 +21,8 @@ use Rattle.cd_run.proofs.PatchedLemmas.{IsPatched-determined}
 use Rattle.cd_image.specs.Applying.{Applies, Streams, patch_tally, streams}
 use Rattle.cd_image.proofs.ApplyReportLemmas.{Applies-carried, Applies-ending, Applies-ends_log, Applies-ends_out, Applies-few, Applies-few_counted, Applies-log_bytes, Applies-output}
 use Rattle.cd_image.proofs.KnownLemmas.{applies}
-use Rattle.cd_c_scripts.specs.Client.{AppliesAs, HasEnded, HasTaken, IsLed, ReportsAs}
-use Rattle.cd_c_scripts.specs.Flags.{carries}
-use Rattle.cd_c_scripts.specs.Runs.{Goes, IsBegun, IsDone, IsRunning, MayEnd, Moved, Tells, unknown_size}
+use Rattle.cd_c_scripts.specs.Client.{AppliesAs, HasAllGiven, IsLed, ReportsAs, as_ended}
+use Rattle.cd_c_scripts.specs.Runs.{IsDone, IsRunning, Tells, unknown_size}
 use Rattle.cd_c_scripts.specs.StepKinds.{end_kind}
 use Rattle.cd_c_scripts.specs.declared.entries.Entry.{Entry}
 use Rattle.cd_c_scripts.specs.declared.run_state.RunStep.{RunStep}
@@ -34,90 +31,6 @@ use Rattle.cd_c_scripts.specs.declared.run_state.TheConstants.{OVER}
 use Rattle.cd_c_scripts.proofs.MovedLemmas.{asks_few}
 use Rattle.cd_c_scripts.proofs.TellingLemmas.{not_logged, status_few}
 use Rattle.cd_c_scripts.proofs.ClientLogs.{patched_size}
-
--- ---- the next step
-
-pub led_next : {carry : Bool} {text : List ℕ} {es : List Entry} {patches : List Patch} {base : ℕ}
-    {start now : Streams} {run : ScriptRun} {hand before : List (List ℕ)} {done : ℕ}
-    (t : HasTaken carry text es patches base start now run before hand done)
-    (run' : ScriptRun) (hand' : List (List ℕ)) (step : RunStep)
-    → Goes text es patches base t.read' t.sent' t.log_bytes run' hand' step
-    → run'.flags ≡ run.flags → run'.image_size ≡ run.image_size
-    → (run.machine.stage ≡ 0 → 0 < run'.machine.stage → MayEnd run run' done)
-    → (run'.asked ≡ OVER → (run.asked ≡ OVER)
-    ⊎ ((run'.machine.stage ≡ 2) × (run'.machine.sectors ≤ sector_limit)))
-    → IsLed carry text es patches base start now run' hand' step
-led_next {text = text} {es = es} {patches = patches} {base = base} {now = now} {run = run} {done = done} t run' hand' step goes flags size ends over = record {
-  read = t.read';
-  sent = t.sent';
-  log_bytes = t.log_bytes;
-  moved = t.moved;
-  goes = goes;
-  within = t.within;
-  ended = by_running goes.running;
-  carried = ap carries flags ∙ t.carried;
-  unknown = size ∙ t.unknown;
-}
-  where
-    by_end : run'.machine.sectors ≤ sector_limit → MayEnd run run' done → HasEnded now.image
-    by_end few (MayEnd.fewer asks less unknown) = t.short asks less
-    by_end few (MayEnd.whole asks all) = absurd (omega (arith, all, t.little asks, t.unknown))
-    by_end few (MayEnd.known all) = absurd (omega (arith, all, t.unknown, few))
-
-    by_stage : run'.machine.sectors ≤ sector_limit → 0 < run'.machine.stage → HasEnded now.image
-    by_stage few some = elim (cases_lt 0 run.machine.stage) [
-      | inl was ↦ t.ended (inr was)
-      | inr none ↦ by_end few (ends (omega (arith, none)) some)
-    ]
-
-    by_running : {log_bytes : List ℕ}
-        → IsRunning text es patches base t.read' t.sent' log_bytes run' hand'
-        → (run'.asked ≡ OVER) ⊎ (0 < run'.machine.stage) → HasEnded now.image
-    by_running (IsRunning.going about state asks) is = elim is [
-      | inl last ↦ absurd (omega (arith, asks_few asks, last))
-      | inr some ↦ by_stage state.sound.sectors some
-    ]
-    by_running (IsRunning.over last done) is = elim (over last) [
-      | inl was ↦ t.ended (inl was)
-      | inr two ↦ by_stage two.1 (omega (arith, two.0))
-    ]
-    by_running (IsRunning.long stopped long) is =
-        absurd (omega (arith, long.goes_beyond.beyond, t.within))
-
--- the first step: nothing was requested before
-pub led_first : {carry : Bool} {text : List ℕ} {es : List Entry} {patches : List Patch} {base : ℕ}
-    {run : ScriptRun} {hand : List (List ℕ)} (start : Streams) → IsBegun text es patches base run
-    → carries run.flags ≡ carry → run.image_size ≡ unknown_size
-    → HasTaken carry text es patches base start start run hand hand 0
-led_first start begun carried unknown = record {
-  read = [];
-  sent = [];
-  read' = [];
-  sent' = [];
-  log_bytes = [];
-  moved = record {
-    gives = record { consumes = Consumes-nil start.image.rest; counted = omega arith };
-    sends = Takes-nil start.out;
-    logs = Takes-nil start.log;
-    unfailed = omega arith;
-    unflushed = omega arith;
-  };
-  running = begun.3 _;
-  took = Moved.told (inl begun.1) (sym begun.0) refl refl;
-  same = record { window = refl; tail = λ one. refl };
-  within = omega arith;
-  ended = λ is. absurd (elim is [
-    | inl over ↦ omega (arith, over, begun.1)
-    | inr some ↦ omega (arith, some, begun.2)
-  ]);
-  short = λ asks less. absurd (omega (arith, less, begun.0));
-  little = λ asks. absurd (elim asks [
-    | inl reading ↦ omega (arith, reading, begun.1)
-    | inr copying ↦ omega (arith, copying, begun.1)
-  ]);
-  carried = carried;
-  unknown = unknown;
-}
 
 -- ---- the end
 
@@ -167,8 +80,15 @@ module _ {carry : Bool} {text : List ℕ} {es : List Entry} {patches : List Patc
   size : length l.sent ≡ length l.read
   size = patched_size l.read l.sent d.patched
 
-  ended : HasEnded now.image
+  ended : HasAllGiven run.image_size now.image
   ended = l.ended (inl over.0)
+
+  -- if the size of the image is unknown, its source has reported its end
+  pub unknown_as_ended : run.image_size ≡ unknown_size → (result : Result ℕ Fault)
+      → as_ended now.image result ≡ now.image
+  unknown_as_ended unknown (Ok status) =
+      ap (λ b. record now.image { ended = b }) (sym (ended.1 unknown))
+  unknown_as_ended unknown (Err fault) = refl
 
   -- a property of this run holds for each way of patching each image that matches it
   by_run : (Holds : List ℕ → List Outcome → List ℕ → Type 0) → Holds l.read d.outcomes l.sent
@@ -236,11 +156,14 @@ module _ {carry : Bool} {text : List ℕ} {es : List Entry} {patches : List Patc
 
     pub end_ok : {F : Type 0} {y : Unit {0}} {log : Outgoing} (status : ℕ) → status ≡ step.status
         → Flushes {E = F} now.log log (Ok y)
-        → ReportsAs carry patches base start (record now { out = out; log = log }) (Ok status)
+        → ReportsAs carry patches base start (streams (as_ended now.image (Ok status)) out log)
+        (Ok status)
     end_ok status is logged = (
       Ok (patch_tally l.read d.outcomes),
       is ∙ over.1 ∙ d.status_right,
-      applies l.moved.gives (Takes-flushed _ _ _ _ _ l.moved.sends flushed)
+      applies
+          (record { consumes = l.moved.gives.consumes; counted = l.moved.gives.counted })
+          (Takes-flushed _ _ _ _ _ l.moved.sends flushed)
           (Takes-flushed _ _ _ _ _ l.moved.logs logged) (omega (arith, size)) (record {
             failed = record {
               reads = l.moved.unfailed.reads;
@@ -254,7 +177,7 @@ module _ {carry : Bool} {text : List ℕ} {es : List Entry} {patches : List Patc
             out_finished = flushed.finished;
             log_finished = logged.finished;
             at_end = ended.0;
-            ended = ended.1;
+            ended = refl;
             within = l.within;
             outcomes = d.outcomes;
             patched = d.patched;

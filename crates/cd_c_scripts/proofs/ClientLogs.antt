@@ -1,6 +1,6 @@
 -- The effects of a client that logs the line of a step, also if that fails: as those of `apply` of
 -- cd_image.
-use Rattle.std.proofs.Common.{◌≡◌, ℕ, ◌+◌, ◌*◌, ◌<◌, ◌≤◌, ◌⊎◌, inl, inr, Bool, List, [], ◌∷◌, ◌++◌, length, take, drop, Option, None, Some, Ok, Err, refl, sym, ap, ◌∙◌, subst, arith, append_assoc, append-nil, length-append, take_all}
+use Rattle.std.proofs.Common.{◌≡◌, ℕ, ◌+◌, ◌*◌, ◌<◌, ◌≤◌, ◌⊎◌, Bool, List, [], ◌∷◌, ◌++◌, length, take, drop, Option, None, Some, Ok, Err, refl, sym, ap, ◌∙◌, subst, arith, append_assoc, append-nil, length-append, take_all}
 use Rattle.std.specs.Io.KnownBytes.{IsAtEnd}
 use Rattle.std.proofs.Math.ListN.{length-take}
 use Rattle.std.proofs.lemmas.List.{length-drop, length-take-le}
@@ -25,7 +25,7 @@ use Rattle.cd_image.specs.Applying.{Applies, Streams}
 use Rattle.cd_image.proofs.KnownLemmas.{StopsAtLog-within, applies, cut_at}
 use Rattle.cd_c_scripts.specs.Client.{HasTaken, IsLed}
 use Rattle.cd_c_scripts.specs.InOrder.{MayCome, logged_by}
-use Rattle.cd_c_scripts.specs.Runs.{AsksForImage, IsRunning, Moved}
+use Rattle.cd_c_scripts.specs.Runs.{IsRunning, Moved}
 use Rattle.cd_c_scripts.specs.StepKinds.{log_kind}
 use Rattle.cd_c_scripts.specs.declared.entries.Entry.{Entry}
 use Rattle.cd_c_scripts.specs.declared.run_state.RunStep.{RunStep}
@@ -33,7 +33,7 @@ use Rattle.cd_c_scripts.specs.declared.run_state.ScriptRun.{ScriptRun}
 use Rattle.cd_c_scripts.specs.declared.run_state.TheConstants.{OVER}
 use Rattle.cd_c_scripts.proofs.InOrderLemmas.{whole_log-within}
 use Rattle.cd_c_scripts.proofs.TellingLemmas.{is_logged}
-use Rattle.cd_c_scripts.proofs.RequestLemmas.{to_log}
+use Rattle.cd_c_scripts.proofs.RequestLemmas.{asks_nothing, to_log}
 use Rattle.cd_c_scripts.proofs.ClientMoves.{going_few}
 
 cut_line : (front : List ℕ) (n : ℕ) (line rest : List ℕ)
@@ -146,18 +146,6 @@ module _ {carry : Bool} {text : List ℕ} {es : List Entry} {patches : List Patc
       (record { outs = l.moved.unflushed.outs; logs = fails.flushes ∙ l.moved.unflushed.logs })
       l.within)
 
-  asks_nothing : AsksForImage run → ⊥
-  asks_nothing asks = elim asks [
-    | inl reading ↦ elim (to_log l.goes.tells kind).0 [
-      | inl none ↦ omega (arith, none, reading)
-      | inr last ↦ omega (arith, last, reading)
-    ]
-    | inr copying ↦ elim (to_log l.goes.tells kind).0 [
-      | inl none ↦ omega (arith, none, copying)
-      | inr last ↦ omega (arith, last, copying)
-    ]
-  ]
-
   pub logs : {X E : Type 0} {x : X} {log : Outgoing}
       → Sends {E = E} now.log log (take step.size step.text) (Ok x)
       → HasTaken carry text es patches base start (record now { log = log }) run hand hand step.size
@@ -188,8 +176,8 @@ module _ {carry : Bool} {text : List ℕ} {es : List Entry} {patches : List Patc
         same = record { window = refl; tail = λ one. refl };
         within = l.within;
         ended = l.ended;
-        short = λ asks less. absurd (asks_nothing asks);
-        little = λ asks. absurd (asks_nothing asks);
+        short = λ asks less. absurd (asks_nothing run asked.0 asks);
+        came = λ asks. absurd (asks_nothing run asked.0 asks);
         carried = l.carried;
-        unknown = l.unknown;
+        sized = l.sized;
       }

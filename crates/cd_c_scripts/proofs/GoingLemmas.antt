@@ -305,6 +305,17 @@ module _ {carry : Bool} {patches : List Patch} {base : ℕ} {read sent log_bytes
         h.state.counts.count,
       )
 
+  -- the bytes of all sectors that are counted were read
+  pub Going-least : SECTOR_SIZE * machine.sectors ≤ length read
+  Going-least =
+      omega (
+        arith,
+        ap length h.came,
+        length-append (bytes_of h.seen) (tail_bytes (tail_at machine.stage h.tail)),
+        length-bytes_of h.seen h.state.seen_sizes,
+        h.state.counts.count,
+      )
+
   -- the number of bytes that were written, before the tail is
   pub Going-sent-size : machine.stage ≤ 1 → machine.held ≤ length hand
       → length sent ≡ SECTOR_SIZE * (machine.sectors - machine.held)

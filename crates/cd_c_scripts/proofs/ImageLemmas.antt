@@ -3,7 +3,6 @@ use Rattle.std.proofs.Common.{◌≡◌, ◌≢◌, ℕ, ◌<◌, ◌≤◌, Boo
 use Rattle.std.proofs.lemmas.Bool.{cases_lt}
 use Rattle.cd_read.specs.Status.{failed_status}
 use Rattle.cd_image.specs.Applying.{Applies, Streams, null_outgoing, streams}
-use Rattle.cd_image.specs.declared.patch_log.Tally.{Tally}
 use Rattle.cd_stream.specs.Rooms.{fresh_incoming}
 use Rattle.cd_read.proofs.PrintingLemmas.{Ends-lent}
 use Rattle.cd_read.specs.Printing.{PrintsFaultLine}
@@ -24,7 +23,7 @@ use Rattle.cd_c_scripts.specs.Client.{AppliesAs, Refuses}
 use Rattle.cd_c_scripts.specs.Flags.{all_as_asked, carries}
 use Rattle.cd_c_scripts.specs.Images.{AppliesInMemory, ChecksInMemory, HasNoScript, IsAccepted}
 
--- the clauses of `run_script`, for one result
+-- the clauses of `run_script` for an image of unknown size, for one result
 abbrev pub Ran : ℕ → List ℕ → ℕ → ℕ → Incoming → Incoming → Outgoing → Outgoing → Outgoing
     → Outgoing → Result ℕ Fault → Type 0
 Ran flags text room base image image' out out' log log' result = record {

@@ -3,6 +3,9 @@ mod ClientCopies
 mod ClientEnds
 mod ClientLogs
 mod ClientMoves
+mod ClientNext
+mod ClientReads
+mod ClientWrites
 mod EntryLemmas
 mod GoingLemmas
 mod ImageLemmas
@@ -10,8 +13,10 @@ mod InOrderLemmas
 mod IndexLemmas
 mod MovedLemmas
 mod OrderedLemmas
+mod PassedLemmas
 mod PlainLemmas
 mod RefusalLemmas
 mod RequestLemmas
+mod SizeLemmas
 mod StopLemmas
 mod TellingLemmas

@@ -1,5 +1,5 @@
 -- The bytes that a client may have moved, by its request.
-use Rattle.std.proofs.Common.{◌≡◌, ℕ, ◌+◌, ◌-◌, ◌*◌, ◌<◌, ◌≤◌, ◌⊎◌, ◌++◌, Bool, List, [], length, take, drop, inl, inr, arith, ap, sym, ◌∙◌}
+use Rattle.std.proofs.Common.{◌≡◌, ℕ, ◌+◌, ◌-◌, ◌*◌, ◌<◌, ◌≤◌, ◌⊎◌, ◌++◌, Bool, List, [], length, take, drop, inl, inr, arith, ap, sym, ◌∙◌, length-append}
 use Rattle.std.specs.List.{slice_index_or}
 use Rattle.std.proofs.lemmas.Bool.{cases_lt}
 use Rattle.std.proofs.lemmas.List.{drop-drop}
@@ -104,6 +104,19 @@ module _ {run : ScriptRun} {hand : List (List ℕ)} {done : ℕ} {read sent read
   was_told (Moved.copied asked bytes size few all is_read is_sent) is = absurd (omega (arith, asked, is))
   was_told (Moved.given asked few all is_read is_sent) is = absurd (omega (arith, asked, is))
   was_told (Moved.written asked size is_read is_sent) is = absurd (omega (arith, asked, is))
+
+  -- a client has not taken back bytes of the image
+  pub moved_least : Moved run hand done read sent read' sent' → length read ≤ length read'
+  moved_least (Moved.told asked size is_read is_sent) = omega (arith, ap length is_read)
+  moved_least (Moved.copied asked bytes size few all is_read is_sent) =
+      omega (arith, ap length is_read, length-append read bytes)
+  moved_least (Moved.given asked few all is_read is_sent) =
+      omega (
+        arith,
+        ap length is_read,
+        length-append read (take done (slice_index_or hand run.machine.held [])),
+      )
+  moved_least (Moved.written asked size is_read is_sent) = omega (arith, ap length is_read)
 
 module _ {patches : List Patch} {run : ScriptRun} where
   pub asks_copy : Asks patches run → run.asked ≡ COPYING
@@ -230,7 +243,9 @@ pub ends_as : {before now later : ScriptRun} {done : ℕ}
     → MayEnd before later done
 ends_as same (MayEnd.fewer asked few unknown) = MayEnd.fewer asked few unknown
 ends_as same (MayEnd.whole asked all) = MayEnd.whole asked all
-ends_as same (MayEnd.known none) = MayEnd.known (omega (arith, same, none))
+ends_as same (MayEnd.known none moved) =
+    MayEnd.known (omega (arith, same, none))
+    (omega (arith, same, moved.0), λ reads copies. same ∙ moved.1 reads copies)
 
 -- ---- the part of the hand after all that a run holds
 

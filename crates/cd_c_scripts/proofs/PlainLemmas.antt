@@ -7,7 +7,6 @@ use Rattle.cd_sector.specs.Image.{image_limit}
 use Rattle.cd_stream.proofs.RoomLemmas.{holds-text, same-text}
 use Rattle.cd_stream.specs.Rooms.{FillsCounted, FillsRoom, Holds, fresh_over}
 use Rattle.cd_stream.specs.Stream.{Outgoing}
-use Rattle.cd_c_scripts.specs.Flags.{carries}
 use Rattle.cd_c_scripts.specs.Images.{AppliesInMemory, ChecksInMemory}
 use Rattle.cd_c_scripts.specs.Plain.{ApplyFails, CheckFails, HasShortLog, TakesPatches, WritesLines}
 use Rattle.cd_c_scripts.proofs.StopLemmas.{apply-fails, why-stopped}

@@ -2,11 +2,35 @@
 use Rattle.std.proofs.Common.{◌≡◌, ℕ, ◌*◌, ◌<◌, ◌≤◌, ◌⊎◌, inl, inr, List, length, arith}
 use Rattle.cd_script.specs.PatchForm.{Patch}
 use Rattle.cd_sector.specs.declared.sector.TheConstants.{SECTOR_SIZE}
-use Rattle.cd_c_scripts.specs.Runs.{Tells}
+use Rattle.cd_c_scripts.specs.Runs.{AsksForImage, Tells}
 use Rattle.cd_c_scripts.specs.StepKinds.{copy_kind, log_kind, read_kind, write_kind}
 use Rattle.cd_c_scripts.specs.declared.run_state.RunStep.{RunStep}
 use Rattle.cd_c_scripts.specs.declared.run_state.ScriptRun.{ScriptRun}
 use Rattle.cd_c_scripts.specs.declared.run_state.TheConstants.{COPYING, NOTHING, OVER, READING, WRITING, WRITING_TAIL}
+
+-- ---- a run that requests no bytes of the image
+
+among : (run : ScriptRun) → AsksForImage run → (COPYING ≤ run.asked) × (run.asked ≤ READING)
+among run asks = elim asks [
+  | inl reading ↦ omega (arith, reading)
+  | inr copying ↦ omega (arith, copying)
+]
+
+pub asks_nothing : (run : ScriptRun) → (run.asked ≡ NOTHING) ⊎ (OVER ≤ run.asked)
+    → AsksForImage run → ⊥
+asks_nothing run asked asks = elim asked [
+  | inl none ↦ omega (arith, none, among run asks)
+  | inr last ↦ omega (arith, last, among run asks)
+]
+
+pub asks_to_write : (run : ScriptRun) → (run.asked ≡ WRITING) ⊎ (run.asked ≡ WRITING_TAIL)
+    → AsksForImage run → ⊥
+asks_to_write run asked asks = elim asked [
+  | inl one ↦ omega (arith, one, among run asks)
+  | inr last ↦ omega (arith, last, among run asks)
+]
+
+-- ---- by the kind of the step
 
 pub record ToRead (read : List ℕ) (run : ScriptRun) (step : RunStep) : Type 0 where
   pub asked : run.asked ≡ READING

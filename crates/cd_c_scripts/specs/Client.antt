@@ -1,6 +1,6 @@
 -- A client of the two calls of a run, over a source and two sinks: its state between two calls, and
 -- its effects when it ends.
-use Rattle.std.specs.Prelude.{◌≡◌, ◌↔◌, ℕ, ◌+◌, ◌*◌, ◌<◌, ◌≤◌, ◌⊎◌, Bool, false, true, List, Result, Ok, Err, OnOk, IfOk, length, take}
+use Rattle.std.specs.Prelude.{◌≡◌, ◌↔◌, ℕ, ◌+◌, ◌*◌, ◌<◌, ◌≤◌, ◌⊎◌, Bool, false, true, List, Some, Result, Ok, Err, OnOk, IfOk, length, take}
 use Rattle.std.specs.Io.KnownBytes.{IsAtEnd}
 use Rattle.cd_script.specs.PatchForm.{Patch}
 use Rattle.cd_sector.specs.Image.{image_limit}
@@ -14,7 +14,7 @@ use Rattle.cd_sector.specs.declared.sector.TheConstants.{SECTOR_SIZE}
 use Rattle.cd_image.specs.Applying.{Applies, Failed, Flushed, HoldsFew, HoldsFewCounted, Streams, WritesCarried, WritesLog, WritesPatched, streams}
 use Rattle.cd_image.specs.declared.patch_log.Tally.{Tally}
 use Rattle.cd_c_scripts.specs.Flags.{carries}
-use Rattle.cd_c_scripts.specs.Runs.{AsksForImage, Goes, IsRunning, Moved, SameInHand, status_of, unknown_size}
+use Rattle.cd_c_scripts.specs.Runs.{AsksForImage, Goes, IsRunning, KeepsToSize, Moved, SameInHand, status_of, unknown_size}
 use Rattle.cd_c_scripts.specs.StepKinds.{end_kind, log_kind}
 use Rattle.cd_c_scripts.specs.declared.entries.Entry.{Entry}
 use Rattle.cd_c_scripts.specs.declared.run_state.RunStep.{RunStep}
@@ -63,6 +63,20 @@ abbrev pub ReportsAs : Bool → List Patch → ℕ → Streams → Streams → R
 ReportsAs carry patches base start now result =
     (told : Result Tally Fault) × EndsAs result told × Applies carry patches base start now told
 
+-- the size of an image, as a run is told it: unknown, or the number of the bytes of its source,
+-- which are known
+abbrev pub IsSizeOf : ℕ → Incoming → Type 0
+IsSizeOf size image =
+    (size ≡ unknown_size)
+    ⊎ ((bytes : List ℕ) × (image.rest ≡ Some bytes) × (length bytes ≡ size))
+
+-- a run that knows the size of its image does not read once more to see the end. So at `Ok`, where
+-- all bytes were read, its source counts as one that has reported its end. After an error it is as
+-- it is
+abbrev pub as_ended : Incoming → Result ℕ Fault → Incoming
+as_ended image (Ok status) = record image { ended = true }
+as_ended image (Err fault) = image
+
 -- the log after the line for a text that is not a script, for each result
 abbrev pub RefusesBy : List ℕ → Outgoing → Outgoing → Result ℕ Fault → Type 0
 RefusesBy line log log' (Ok status) =
@@ -79,6 +93,10 @@ Refuses line start now result =
 -- the source has nothing left, and has reported its end
 abbrev pub HasEnded : Incoming → Type 0
 HasEnded image = IsAtEnd image.rest × (image.ended ≡ true)
+
+-- the source has nothing left; if the size of its image is unknown, it has also reported its end
+abbrev pub HasAllGiven : ℕ → Incoming → Type 0
+HasAllGiven size image = IsAtEnd image.rest × (size ≡ unknown_size → image.ended ≡ true)
 
 -- a line was written to the log, or the log has failed
 abbrev pub Says : {X : Type 0} → List ℕ → Outgoing → Outgoing → Result X Fault → Type 0
@@ -123,9 +141,10 @@ pub record IsLed (carry : Bool) (text : List ℕ) (es : List Entry) (patches : L
   pub moved : HasMoved start now read sent log_bytes
   pub goes : Goes text es patches base read sent log_bytes run hand step
   pub within : length read ≤ image_limit
-  pub ended : (run.asked ≡ OVER) ⊎ (0 < run.machine.stage) → HasEnded now.image
+  pub ended : (run.asked ≡ OVER) ⊎ (0 < run.machine.stage) → HasAllGiven run.image_size now.image
   pub carried : carries run.flags ≡ carry
-  pub unknown : run.image_size ≡ unknown_size
+  pub sized : IsSizeOf run.image_size start.image
+  pub known : KeepsToSize run step
 
 -- the client has also moved `done` bytes for this step
 pub record HasTaken (carry : Bool) (text : List ℕ) (es : List Entry) (patches : List Patch)
@@ -141,11 +160,11 @@ pub record HasTaken (carry : Bool) (text : List ℕ) (es : List Entry) (patches 
   pub took : Moved run hand' done read sent read' sent'
   pub same : SameInHand run.machine hand hand'
   pub within : length read' ≤ image_limit
-  pub ended : (run.asked ≡ OVER) ⊎ (0 < run.machine.stage) → HasEnded now.image
+  pub ended : (run.asked ≡ OVER) ⊎ (0 < run.machine.stage) → HasAllGiven run.image_size now.image
   pub short : AsksForImage run → done < run.size → HasEnded now.image
-  pub little : AsksForImage run → SECTOR_SIZE * run.machine.sectors + done ≤ image_limit
+  pub came : AsksForImage run → length read' ≡ SECTOR_SIZE * run.machine.sectors + done
   pub carried : carries run.flags ≡ carry
-  pub unknown : run.image_size ≡ unknown_size
+  pub sized : IsSizeOf run.image_size start.image
 
 -- no run has begun: the line for the error of the script is returned, and then the end
 pub data IsSaying (line : List ℕ) (start now : Streams) (run : ScriptRun) (step : RunStep)

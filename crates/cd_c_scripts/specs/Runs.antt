@@ -334,6 +334,13 @@ EndsOr run stage = (run.asked ≡ STOPPED) ⊎ (stage ≤ run.machine.stage)
 abbrev pub AsksForImage : ScriptRun → Type 0
 AsksForImage run = (run.asked ≡ READING) ⊎ (run.asked ≡ COPYING)
 
+-- no sector is counted whose bytes were not moved
+abbrev pub CountsMoved : ScriptRun → ScriptRun → ℕ → Type 0
+CountsMoved before now done =
+    (SECTOR_SIZE * now.machine.sectors ≤ SECTOR_SIZE * before.machine.sectors + done)
+    × (before.asked ≢ READING → before.asked ≢ COPYING
+    → now.machine.sectors ≡ before.machine.sectors)
+
 -- why the image may have ended: its size was unknown, and fewer bytes were moved than requested; or
 -- the rest of its size was moved; or nothing is left of its size
 pub data MayEnd (before now : ScriptRun) (done : ℕ) : Type 0 where
@@ -341,7 +348,8 @@ pub data MayEnd (before now : ScriptRun) (done : ℕ) : Type 0 where
       → MayEnd before now done
   whole : AsksForImage before → SECTOR_SIZE * before.machine.sectors + done ≡ before.image_size
       → MayEnd before now done
-  known : before.image_size ≤ SECTOR_SIZE * now.machine.sectors → MayEnd before now done
+  known : before.image_size ≤ SECTOR_SIZE * now.machine.sectors → CountsMoved before now done
+      → MayEnd before now done
 
 -- fewer bytes were moved than requested, although the size of the image is known
 abbrev pub IsShort : ScriptRun → ℕ → Type 0

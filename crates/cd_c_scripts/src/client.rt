@@ -3,7 +3,7 @@
 //! alone, so these are sufficient: every client that moves the requested bytes has done what
 //! `apply` does.
 
-ghost use Rattle.std.specs.Prelude.{◌≡◌, ◌≢◌, ℕ, ◌+◌, ◌*◌, ◌<◌, ◌≤◌, [], Bool, Err, List, Ok, OnOk, length, take, true};
+ghost use Rattle.std.specs.Prelude.{◌≡◌, ◌≢◌, ℕ, ◌+◌, ◌*◌, ◌<◌, ◌≤◌, [], Bool, Err, List, Ok, OnOk, Some, length, take, true};
 ghost use Rattle.cd_script.specs.Limits.{text_limit};
 ghost use Rattle.cd_script.specs.Order.{order};
 ghost use Rattle.cd_script.specs.PatchForm.{Patch as ThePatch};
@@ -14,8 +14,9 @@ ghost use Rattle.cd_sector.specs.Image.{base_limit};
 ghost use Rattle.cd_stream.specs.Stream.{CanCountFailure, Incoming};
 ghost use Rattle.cd_image.specs.Applying.{Streams, streams};
 ghost use Rattle.cd_run.specs.Messages.{long_script, script_fault_line};
-ghost use Rattle.cd_c_scripts.specs.Client.{AppliesAs, IsLed, IsSaying, LeadsTo, LeadsToLine, Refuses, ReportsAs, Says, TakesStep};
+ghost use Rattle.cd_c_scripts.specs.Client.{AppliesAs, IsLed, IsSaying, IsSizeOf, LeadsTo, LeadsToLine, Refuses, ReportsAs, Says, TakesStep, as_ended};
 ghost use Rattle.cd_c_scripts.specs.Flags.{all_as_asked, carries, flag_limit};
+ghost use Rattle.cd_c_scripts.specs.Runs.{unknown_size};
 ghost use Rattle.cd_c_scripts.specs.StepKinds.{end_kind, log_kind};
 ghost use Rattle.cd_c_scripts.specs.StepRooms.{KeepsToRooms};
 ghost use Rattle.cd_c_scripts.specs.declared.run_state.ScriptRun.{ScriptRun as TheRun};
@@ -26,7 +27,7 @@ use crate::client_steps::{copy_step, finish_log, finish_output, log_step, read_s
 use crate::entries::Entry;
 use crate::run_begin::cdpatch_run_begin;
 use crate::run_next::cdpatch_run_next;
-use crate::run_state::{COPY, END, READ, Rooms, RunStep, ScriptRun, UNKNOWN_SIZE, WRITE};
+use crate::run_state::{COPY, END, READ, Rooms, RunStep, ScriptRun, WRITE};
 use cd_line::LINE_SIZE;
 use cd_read::Fault;
 use cd_run::PatchRun;
@@ -99,6 +100,7 @@ fn lead<I: Source, O: Sink, L: Sink>(
         → IsSaying line start (streams (I.seen image.old) (O.seen out.old) (L.seen log.old)) run.old
         step.old
         → LeadsToLine line start (streams (I.seen image.new) (O.seen out.new) (L.seen log.new)) result }
+    ensures image_size { run.new.image_size ≡ run.old.image_size }
 {
     while step.kind != END {
         let done = take_step(step, hand, image, out, log)?;
@@ -112,6 +114,7 @@ fn begin(
     run: &mut ScriptRun,
     script: &[u8],
     base: u32,
+    image_size: u64,
     flags: u32,
     entries: &mut [Entry],
     hand: &mut [Sector],
@@ -124,7 +127,7 @@ fn begin(
     ensures hand { block_limit ≤ length hand.new }
     ensures rooms { KeepsToRooms step.new }
     ensures led { (ps : List ThePatch) → length script.now ≤ text_limit → patches_in script.now ≡ Ok ps
-        → length ps ≤ length entries.old → (start : Streams)
+        → length ps ≤ length entries.old → (start : Streams) → IsSizeOf image_size start.image
         → IsLed (carries flags) script.now entries.new (all_as_asked flags (order ps)) base start start
         run.new hand.new step.new }
     ensures too_long { text_limit < length script.now → (start : Streams)
@@ -134,8 +137,9 @@ fn begin(
     ensures no_room { (ps : List ThePatch) → length script.now ≤ text_limit
         → patches_in script.now ≡ Ok ps → length entries.old < length ps → (start : Streams)
         → IsSaying [] start start run.new step.new }
+    ensures image_size { run.new.image_size ≡ image_size }
 {
-    cdpatch_run_begin(run, script, base, UNKNOWN_SIZE, flags, entries);
+    cdpatch_run_begin(run, script, base, image_size, flags, entries);
     cdpatch_run_next(run, 0, script, entries, hand, rooms, step);
 }
 
@@ -148,7 +152,8 @@ fn close<O: Sink, L: Sink>(status: u32, out: &mut O, log: &mut L) -> Result<u32,
         (step : TheStep)
         → LeadsTo carry text es patches base start (streams image (O.seen out.old) (L.seen log.old))
         run hand step (Ok status)
-        → ReportsAs carry patches base start (streams image (O.seen out.new) (L.seen log.new)) result }
+        → ReportsAs carry patches base start
+        (streams (as_ended image result) (O.seen out.new) (L.seen log.new)) result }
     ensures refuses { (line : List ℕ) (start : Streams) (image : Incoming)
         → LeadsToLine line start (streams image (O.seen out.old) (L.seen log.old)) (Ok status)
         → Refuses line start (streams image (O.seen out.new) (L.seen log.new)) result }
@@ -196,7 +201,9 @@ fn no_step() -> RunStep {
 /// Applies a script to an image by the calls of a run, writes the patched image to `out` and the
 /// log to `log`, and returns the status: 0, or 1 if a patch was refused.
 ///
-/// `entries` has room for as many entries as the script has patches, and `hand` for three sectors.
+/// `image_size` is the number of bytes of the image, or `UNKNOWN_SIZE`: then the image is read until
+/// it ends. `entries` has room for as many entries as the script has patches, and `hand` for three
+/// sectors.
 /// For a text that is not a script, `log` gets the line for its error, nothing is read, and the
 /// status is 2. The status is also 2 if there is not enough room for all entries.
 ///
@@ -208,6 +215,7 @@ pub fn run_script<I: Source, O: Sink, L: Sink>(
     image: &mut I,
     script: &[u8],
     base: u32,
+    image_size: u64,
     flags: u32,
     entries: &mut [Entry],
     hand: &mut [Sector],
@@ -222,10 +230,18 @@ pub fn run_script<I: Source, O: Sink, L: Sink>(
     requires log_countable { CanCountFailure (L.seen log.old).failures }
     requires hand { block_limit ≤ length hand.old }
     // For a script, the clauses of `apply`, word for word, on the patches as the flags require them.
-    ensures applies { (ps : List ThePatch) → length script.now ≤ text_limit
-        → patches_in script.now ≡ Ok ps → length ps ≤ length entries.old
+    ensures applies { image_size ≡ unknown_size → (ps : List ThePatch)
+        → length script.now ≤ text_limit → patches_in script.now ≡ Ok ps
+        → length ps ≤ length entries.old
         → AppliesAs (carries flags) (all_as_asked flags (order ps)) base (I.seen image.old)
         (I.seen image.new) (O.seen out.old) (O.seen out.new) (L.seen log.old) (L.seen log.new) result }
+    // The same clauses if the size is the number of the image's bytes.
+    ensures applies_to_size { (bytes : List ℕ) → (I.seen image.old).rest ≡ Some bytes
+        → length bytes ≡ image_size → (ps : List ThePatch) → length script.now ≤ text_limit
+        → patches_in script.now ≡ Ok ps → length ps ≤ length entries.old
+        → AppliesAs (carries flags) (all_as_asked flags (order ps)) base (I.seen image.old)
+        (as_ended (I.seen image.new) result) (O.seen out.old) (O.seen out.new) (L.seen log.old)
+        (L.seen log.new) result }
     // For a text that is not a script, the line for its error.
     ensures too_long { text_limit < length script.now
         → Refuses long_script (streams (I.seen image.old) (O.seen out.old) (L.seen log.old))
@@ -242,7 +258,7 @@ pub fn run_script<I: Source, O: Sink, L: Sink>(
     let mut run = no_run();
     let mut step = no_step();
     begin(
-        &mut run, script, base, flags, entries, hand, rooms, &mut step,
+        &mut run, script, base, image_size, flags, entries, hand, rooms, &mut step,
     );
     let status = lead(
         &mut run, script, entries, hand, rooms, &mut step, image, out, log,

@@ -11,7 +11,7 @@ ghost use Rattle.cd_c_scripts.specs.Plain.{ApplyFails, CheckFails, TakesPatches,
 
 use crate::client::run_script;
 use crate::entries::Entry;
-use crate::run_state::{Buffers, FLAGS};
+use crate::run_state::{Buffers, FLAGS, UNKNOWN_SIZE};
 use cd_address::MAX_BLOCK;
 use cd_image::NullSink;
 use cd_read::{FAILED, Fault, report_fault};
@@ -44,6 +44,7 @@ fn apply_to_sinks<O: Sink>(
         &mut source,
         script,
         base,
+        UNKNOWN_SIZE,
         flags,
         entries,
         &mut buffers.hand,

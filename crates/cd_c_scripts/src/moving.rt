@@ -10,7 +10,7 @@ ghost use Rattle.cd_run.specs.declared.run.Step.TheVariants.{Copy, Read, Send, S
 ghost use Rattle.cd_c_scripts.specs.declared.entries.Entry.{Entry as TheEntry};
 ghost use Rattle.cd_c_scripts.specs.declared.moving.Noted.TheVariants.{Done, Short, TooLong, Wrong};
 ghost use Rattle.cd_c_scripts.specs.Flags.{carries};
-ghost use Rattle.cd_c_scripts.specs.Runs.{About, AsksForImage, AsksForRest, CopiesWhole, Going, IsBeyond, IsRunning, IsShort, MayEnd, Moved, ReadsWhole, SameInHand, Steps, machine_steps, unknown_size};
+ghost use Rattle.cd_c_scripts.specs.Runs.{About, AsksForImage, AsksForRest, CopiesWhole, CountsMoved, Going, IsBeyond, IsRunning, IsShort, MayEnd, Moved, ReadsWhole, SameInHand, Steps, machine_steps, unknown_size};
 
 use crate::deciding::see_place;
 use crate::run_state::{
@@ -56,6 +56,7 @@ fn note_given(machine: &mut PatchRun, hand: &[Sector], done: usize) -> Noted
     ensures ends { result ≡ Done → done < SECTOR_SIZE → machine.new.stage ≡ 1 }
     ensures ends_only { result ≡ Done → 0 < machine.new.stage → done < SECTOR_SIZE }
     ensures last { result ≡ Done → machine.old.sectors ≡ sector_limit → done ≡ 0 }
+    ensures moved { SECTOR_SIZE * machine.new.sectors ≤ SECTOR_SIZE * machine.old.sectors + done }
     ensures never_short { result ≢ Short }
     ensures tail { result ≡ Done → done < SECTOR_SIZE → machine.new.tail ≡ done }
     ensures goes_on { machine.old.stage ≤ machine.new.stage }
@@ -107,6 +108,7 @@ fn note_copied(machine: &mut PatchRun, hand: &[Sector], most: u32, done: usize) 
     ensures size { result ≡ Done → done < SECTOR_SIZE * most
         → SECTOR_SIZE * machine.new.sectors + machine.new.tail
         ≡ SECTOR_SIZE * machine.old.sectors + done }
+    ensures moved { SECTOR_SIZE * machine.new.sectors ≤ SECTOR_SIZE * machine.old.sectors + done }
     ensures goes_on { machine.old.stage ≤ machine.new.stage }
     ensures decided { machine.new.decided ≡ machine.old.decided }
     ensures falls { (count : ℕ) → result ≡ Done
@@ -161,6 +163,7 @@ fn note_sent(machine: &mut PatchRun, hand: &mut [Sector]) -> Noted
         ≡ drop (machine.old.held + machine.old.stage) hand.old }
     ensures stays { result ≢ Done → (machine.new ≡ machine.old) }
     ensures stage { machine.new.stage ≡ machine.old.stage }
+    ensures sectors { machine.new.sectors ≡ machine.old.sectors }
     ensures decided { machine.new.decided ≡ machine.old.decided }
     ensures falls { (count : ℕ) → result ≡ Done
         → machine_steps count machine.new < machine_steps count machine.old }
@@ -191,6 +194,7 @@ fn note_tail(machine: &mut PatchRun) -> Noted
     ensures never_short { result ≢ Short }
     ensures stays { result ≢ Done → machine.new ≡ machine.old }
     ensures closed { result ≡ Done → (machine.old.stage ≡ 1) × (machine.new.stage ≡ 2) }
+    ensures sectors { machine.new.sectors ≡ machine.old.sectors }
     ensures goes_on { machine.old.stage ≤ machine.new.stage }
     ensures decided { machine.new.decided ≡ machine.old.decided }
     ensures falls { (count : ℕ) → result ≡ Done
@@ -287,6 +291,7 @@ pub(crate) fn note(run: &mut ScriptRun, hand: &mut [Sector], done: usize) -> Not
         → done < SECTOR_SIZE * run.old.most → run.new.machine.stage ≡ 2 }
     ensures ends_only { result ≡ Done → run.old.machine.stage ≡ 0 → 0 < run.new.machine.stage
         → MayEnd run.old run.new done }
+    ensures moved { CountsMoved run.old run.new done }
     ensures closes { run.old.asked ≡ WRITING_TAIL → result ≡ Done → run.new.machine.stage ≡ 2 }
     ensures goes_on { run.old.machine.stage ≤ run.new.machine.stage }
     ensures stays { result ≢ Done → run.new ≡ run.old }

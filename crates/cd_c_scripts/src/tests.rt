@@ -4,7 +4,7 @@ ghost use Rattle.cd_stream.specs.Stream.{CanCountFailure};
 
 use crate::client::run_script;
 use crate::entries::Entry;
-use crate::run_state::Rooms;
+use crate::run_state::{Rooms, UNKNOWN_SIZE};
 use cd_image::apply;
 use cd_read::Fault;
 use cd_script::{MAX_BYTES, Script, parse};
@@ -50,8 +50,9 @@ fn sink_over<'a>(space: &'a mut [u8], most: usize, end: u64) -> Short<FailAfter<
     Short::new(FailAfter::new(SliceSink::new(space), end), most)
 }
 
-/// The status of `apply`, or its error.
-fn by_apply(
+/// The status of `apply`, or its error; with a size, those of the client, which gives this size.
+fn told_by(
+    size: Option<u64>,
     image: &[u8],
     script: &Script,
     most: usize,
@@ -62,21 +63,10 @@ fn by_apply(
     let mut source = source_over(image, most, ends[0]);
     let mut made = sink_over(out, most, ends[1]);
     let mut lines = sink_over(log, most, ends[2]);
-    let tally = apply(&mut source, script, 0, false, &mut made, &mut lines)?;
-    Ok(u32::from(tally.refused > 0))
-}
-
-/// The status of the client, or its error.
-fn by_client(
-    image: &[u8],
-    most: usize,
-    ends: [u64; 3],
-    out: &mut [u8],
-    log: &mut [u8],
-) -> Result<u32, Fault> {
-    let mut source = source_over(image, most, ends[0]);
-    let mut made = sink_over(out, most, ends[1]);
-    let mut lines = sink_over(log, most, ends[2]);
+    let Some(image_size) = size else {
+        let tally = apply(&mut source, script, 0, false, &mut made, &mut lines)?;
+        return Ok(u32::from(tally.refused > 0));
+    };
     let mut entries = [no_entry(); 4];
     let mut hand = [Sector::default(); 3];
     let mut rooms = no_rooms();
@@ -84,6 +74,7 @@ fn by_client(
         &mut source,
         TEXT,
         0,
+        image_size,
         0,
         &mut entries,
         &mut hand,
@@ -93,13 +84,13 @@ fn by_client(
     )
 }
 
-/// Whether both return and write the same if each read and write moves at most `most` bytes, and
-/// image, output, and log fail after `ends`.
-fn agree(image: &[u8], script: &Script, most: usize, ends: [u64; 3]) -> bool {
+/// Whether both return and write the same if the client gives this size, each read and write moves
+/// at most `most` bytes, and image, output, and log fail after `ends`.
+fn agree(size: u64, image: &[u8], script: &Script, most: usize, ends: [u64; 3]) -> bool {
     let (mut out, mut log) = ([UNTOUCHED; 10_000], [UNTOUCHED; 400]);
     let (mut out2, mut log2) = ([UNTOUCHED; 10_000], [UNTOUCHED; 400]);
-    let told = by_apply(image, script, most, ends, &mut out, &mut log);
-    let told2 = by_client(image, most, ends, &mut out2, &mut log2);
+    let told = told_by(None, image, script, most, ends, &mut out, &mut log);
+    let told2 = told_by(Some(size), image, script, most, ends, &mut out2, &mut log2);
     told == told2 && out == out2 && log == log2
 }
 
@@ -114,9 +105,12 @@ fn the_client_does_what_apply_does(rt: HostRuntime) -> Result<(), Fail> {
         0, 1, 5, 60, 100, 130, 150, 2352, 4704, 7056, 9408, 9423, 9424, ALL,
     ] {
         for most in [1, 7, 2351, 2353, 99_999] {
-            assert!(rt; agree(&image, &script, most, [end, ALL, ALL]));
-            assert!(rt; agree(&image, &script, most, [ALL, end, ALL]));
-            assert!(rt; agree(&image, &script, most, [ALL, ALL, end]));
+            for size in [UNKNOWN_SIZE, image.len() as u64] {
+                // With the size, no read shows the end, so none can fail there.
+                assert!(rt; end == size || agree(size, &image, &script, most, [end, ALL, ALL]));
+                assert!(rt; agree(size, &image, &script, most, [ALL, end, ALL]));
+                assert!(rt; agree(size, &image, &script, most, [ALL, ALL, end]));
+            }
         }
     }
     Ok(())

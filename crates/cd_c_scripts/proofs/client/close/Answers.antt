@@ -1,4 +1,4 @@
-use Rattle.std.proofs.Common.{Err, refl, arith}
+use Rattle.std.proofs.Common.{Err, refl}
 use Rattle.std.proofs.lemmas.Result.{err_from_is_err_and}
 use Rattle.cd_read.specs.declared.fault.Fault.TheVariants.{Log, Write}
 use Rattle.cd_c_scripts.proofs.ClientEnds.{end_log_fails, end_ok, end_out_fails}

@@ -1,7 +1,7 @@
 use Rattle.std.proofs.Common.{◌∙◌, arith}
 use Rattle.std.proofs.lemmas.Result.{err_from_is_err_and}
 use Rattle.cd_image.specs.Applying.{streams}
-use Rattle.cd_c_scripts.proofs.ClientEnds.{led_next}
+use Rattle.cd_c_scripts.proofs.ClientNext.{led_next}
 use Rattle.cd_c_scripts.proofs.RefusalLemmas.{said_all, said_fails, said_next}
 use Rattle.cd_c_scripts.proofs.client.lead.Goals as goal
 
@@ -28,6 +28,7 @@ loop-step-preserved g c = record {
   logs = c.in_ok-done.ensures.logs ∙ c.loop-step.invariant.logs;
   places = omega (arith, c.cdpatch_run_next.auto.hand, c.in_ok-done.ensures.hand, c.loop-step.invariant.places);
   rooms = c.cdpatch_run_next.ensures.rooms;
+  size = c.cdpatch_run_next.ensures.image_size ∙ c.loop-step.invariant.size;
   led = λ carry patches base start l.
       let t =
       c.in_ok-done.ensures.takes carry _ _ patches base start c.loop-step.run
@@ -36,7 +37,7 @@ loop-step-preserved g c = record {
       led_next t c.cdpatch_run_next.new.run c.cdpatch_run_next.new.hand c.cdpatch_run_next.new.step
       (next.goes patches base c.loop-step.hand t.read t.sent t.log_bytes t.read' t.sent'
       (omega (arith, c.loop-step.invariant.places, c.in_ok-done.ensures.hand)) t.running t.same t.took)
-      next.flags next.image_size next.ends_only next.over;
+      next.flags next.image_size next.ends_only next.over next.known;
   saying = λ line start saying.
       said_next
       (streams (g.I.Source.seen c.take_step.new.image) (g.O.Sink.seen c.take_step.new.out)

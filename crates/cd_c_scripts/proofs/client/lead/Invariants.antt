@@ -19,6 +19,7 @@ invariant-loop-step g l =
       logs : (g.L.Sink.seen l.log).failures ≡ (g.L.Sink.seen l.fn.log).failures;
       places : block_limit ≤ length l.hand;
       rooms : KeepsToRooms l.step;
+      size : l.run.image_size ≡ l.fn.run.image_size;
       led : (carry : Bool) (patches : List Patch) (base : ℕ) (start : Streams)
           → IsLed carry l.fn.script l.fn.entries patches base start first l.fn.run l.fn.hand l.fn.step
           → IsLed carry l.script l.entries patches base start now l.run l.hand l.step;

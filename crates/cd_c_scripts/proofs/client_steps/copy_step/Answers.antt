@@ -1,7 +1,8 @@
 use Rattle.std.proofs.Common.{◌≡◌, ◌+◌, ◌∙◌, inl, inr, arith}
 use Rattle.std.proofs.lemmas.Bool.{eqb-true}
 use Rattle.std.proofs.lemmas.Result.{err_from_is_err_and}
-use Rattle.cd_c_scripts.proofs.ClientCopies.{copies, copies_whole, copy_fails, passed_more}
+use Rattle.cd_c_scripts.proofs.ClientCopies.{copies, copies_few, copy_fails}
+use Rattle.cd_c_scripts.proofs.PassedLemmas.{passed_more}
 use Rattle.cd_c_scripts.proofs.ClientMoves.{less_by}
 use Rattle.cd_c_scripts.proofs.client_steps.copy_step.Goals as goal
 
@@ -9,14 +10,15 @@ pub returns-in_err-came-clause-takes : goal.returns-in_err-came-clause-takes
 returns-in_err-came-clause-takes g c =
     let failed = err_from_is_err_and c.from_residual.result c.from_residual.ensures.1 in
     rw (failed.1, failed.2) (λ carry text es patches base start run log kind l.
-    let whole = copies_whole l kind in
+    let most = copies_few l kind in
     elim (c.loop-more.invariant.whole c.loop-more-test.true) [
       | inl all ↦ absurd (omega (arith, all, c.if-done-step.true))
       | inr some ↦
           copy_fails l kind c.loop-more.invariant.passed some.0 some.1
-          (omega (arith, some.1, whole, c.if-done-step.true)) _ (elim c.next_part-asked.ensures.most [
-            | inl left ↦ omega (arith, left, c.next_part-asked.ensures.sector, some.1, whole, c.if-done-step.true)
-            | inr full ↦ full
+          (omega (arith, some.1, most, c.if-done-step.true)) _ c.next_part-asked.ensures.sector
+          (λ short. elim c.next_part-asked.ensures.most [
+            | inl left ↦ omega (arith, left, c.if-done-step.true)
+            | inr full ↦ absurd (omega (arith, full, short))
           ]) c.in_err-came.ensures.passes
     ])
 

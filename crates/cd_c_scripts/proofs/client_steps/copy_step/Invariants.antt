@@ -2,7 +2,7 @@ use Rattle.std.proofs.Common.{◌≡◌, ℕ, ◌+◌, ◌-◌, ◌*◌, ◌≤�
 use Rattle.cd_patch.specs.Blocks.{block_limit}
 use Rattle.cd_sector.specs.declared.sector.TheConstants.{SECTOR_SIZE}
 use Rattle.cd_c_scripts.specs.Client.{HasEnded}
-use Rattle.cd_c_scripts.proofs.ClientCopies.{HasPassed}
+use Rattle.cd_c_scripts.proofs.PassedLemmas.{HasPassed}
 use Rattle.cd_c_scripts.proofs.client_steps.copy_step.Given as goal
 
 abbrev pub invariant-loop-more : goal.invariant-loop-more

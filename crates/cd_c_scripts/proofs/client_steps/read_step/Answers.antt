@@ -1,6 +1,7 @@
 use Rattle.std.proofs.Common.{arith}
 use Rattle.std.proofs.lemmas.Result.{err_from_is_err_and}
-use Rattle.cd_c_scripts.proofs.ClientMoves.{few_taken, read_fails, read_place, reads, reads_beyond}
+use Rattle.cd_c_scripts.proofs.ClientMoves.{few_taken}
+use Rattle.cd_c_scripts.proofs.ClientReads.{read_fails, read_place, reads, reads_beyond}
 use Rattle.cd_c_scripts.proofs.client_steps.read_step.Goals as goal
 use Rattle.cd_c_scripts.proofs.client_steps.read_step.Goals.{else-step-eq-LARGEST-via-then-step-eq-LARGEST+else-done-gt0, else-step-eq-LARGEST-via-else-step-eq-LARGEST}
 

@@ -81,13 +81,13 @@ returns-in-Done-clause-ends_only c = λ early late.
     elim (cases_lt 0 c.note.new.run.machine.stage) [
       | inl some ↦ ends_as c.tell_next.ensures.sectors (c.in-Done.ensures.ends_only refl early some)
       | inr none ↦
-          MayEnd.known
+          ends_as {now = c.note.new.run} c.tell_next.ensures.sectors
+          (MayEnd.known
           (omega (
             arith,
             c.tell_next.ensures.ended (omega (arith, none)) late,
-            c.tell_next.ensures.sectors,
             ap (λ r. r.image_size) c.in-Done.ensures.others,
-          ))
+          )) c.in-Done.ensures.moved)
     ]
 
 pub returns-in-Done-clause-rest : goal.returns-in-Done-clause-rest
