@@ -52,6 +52,25 @@ test('info and scan give the verdict of the table', () => inDirectory(async room
     for (const name of others) assert.equal((await run(['info', name], { cwd: room })).status, 1, name);
 }));
 
+test('info of one track has the verdict on its file, whichever track that is', () => inDirectory(async room => {
+    spawnSync('python3', ['-B', join(top, 'tests/lib/verdict_images.py'), room]);
+    const tracks = [['MODE1/2352', '00:00:00'], ['MODE1/2352', '00:04:30']].map(([type, at], i) =>
+        ` TRACK 0${i + 1} ${type}\n${i > 0 ? '  PREGAP 00:02:00\n' : ''}  INDEX 01 ${at}\n`);
+    write(room, { 'both.cue': `FILE "both.bin" BINARY\n${tracks.join('')}`,
+        'both.bin': Buffer.concat(['sound.bin', 'track2.bin'].map(name => read(room, name))) });
+    const verdictOf = async (...words) => {
+        const { status, out } = await run(['info', ...words], { cwd: room });
+        return [status, ...out.split('\n').filter(line => line.startsWith('verdict'))];
+    };
+    for (const [name, numbers, due] of [['gaps.cue', [1, 3], 1], ['both.cue', [1, 2], 0]]) {
+        const whole = await verdictOf(name);
+        assert.equal(whole[0], due, name);
+        for (const track of numbers) assert.deepEqual(await verdictOf(name, '--track', String(track)), whole, `${name} ${track}`);
+    }
+    // A base that is given is that of the whole file.
+    assert.match((await verdictOf('gaps.cue', '--base', '0')).join(), SAYS.gap);
+}));
+
 test('info of a file that a DAT verifies has status 0 if nothing is wrong with it, whatever it is', () => inDirectory(async room => {
     spawnSync('python3', ['-B', join(top, 'tests/lib/verdict_images.py'), room]);
     const rom = bytes => `<rom name="a" size="${bytes.length}" sha1="${createHash('sha1').update(bytes).digest('hex')}"/>`;

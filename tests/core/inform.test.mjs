@@ -5,7 +5,7 @@ import { test } from 'node:test';
 import { calls, core, encoded, readerOf } from './common.mjs';
 import { recordOf, volumeOf } from './strangers.mjs';
 
-const { foundInSurvey, openTrack, surveyedTrack, surveyedTracks, verdictOf } = await core('tasks/index.js');
+const { foundInFile, foundInSurvey, openTrack, shiftAt, surveyedTracks, surveyedWith, verdictOf } = await core('tasks/index.js');
 const { openDisc } = await core('disc/disc.js');
 const { surveyRange } = await core('sectors/survey.js');
 
@@ -75,19 +75,63 @@ test('tracks of one file are surveyed together, and each by itself if their addr
     const sector = (block, count) => calls.encodeBlocks(block, new Uint8Array(USER * count));
     const sheet = encoded('FILE "game.bin" BINARY\n TRACK 01 MODE1/2352\n  INDEX 01 00:00:00\n TRACK 02 MODE1/2352\n  INDEX 01 00:04:00\n');
     const seen = async (...parts) => surveyedTracks(await open({ 'game.cue': sheet, 'game.bin': Buffer.concat(parts) }))
-        .map(({ number, isWhole, image: { base, sectors }, sheetTracks }) => ({ number, isWhole, base, sectors, sheetTracks }));
+        .map(({ number, before, image: { base, sectors }, sheetTracks }) => ({ number, before, base, sectors, sheetTracks }));
     const [first, second] = [{ first: 0, last: 299 }, { first: 300, last: 349 }];
     assert.deepEqual(await seen(sector(0, 300), sector(300, 50)),
-        [{ number: 1, isWhole: true, base: 0, sectors: 350, sheetTracks: { mode1: [first, second], mode2: [], audio: [] } }]);
+        [{ number: 1, before: 0, base: 0, sectors: 350, sheetTracks: { mode1: [first, second], mode2: [], audio: [] } }]);
     const own = { first: 300 + BASE, last: 349 + BASE };
     assert.deepEqual(await seen(sector(0, 300), sector(300 + BASE, 50)),
-        [{ number: 1, isWhole: false, base: 0, sectors: 300, sheetTracks: { mode1: [first, second], mode2: [], audio: [] } },
-            { number: 2, isWhole: false, base: 300 + BASE, sectors: 50, sheetTracks: { mode1: [{ first: BASE, last: 299 + BASE }, own], mode2: [], audio: [] } }]);
+        [{ number: 1, before: 0, base: 0, sectors: 300, sheetTracks: { mode1: [first, second], mode2: [], audio: [] } },
+            { number: 2, before: 300, base: 300 + BASE, sectors: 50, sheetTracks: { mode1: [{ first: BASE, last: 299 + BASE }, own], mode2: [], audio: [] } }]);
 });
 
 test('the tracks of the cue sheet are where another base puts them', async () => {
     const one = sheetOf(['game.bin', ['MODE1/2352', '00:00:00']]);
     const disc = await open({ 'one.cue': one, 'game.bin': image() });
-    const { sheetTracks, isAlone } = surveyedTrack(openTrack(disc, { base: BASE }));
+    const [{ sheetTracks, isAlone }, ...others] = surveyedWith(openTrack(disc, { base: BASE }));
+    assert.deepEqual(others, []);
     assert.deepEqual([sheetTracks, isAlone], [{ mode1: [{ first: BASE, last: BASE + SECTORS - 1 }], mode2: [], audio: [] }, true]);
+});
+
+/** A disc of two data tracks in one file: 300 sectors from block 0 on, and 200 whose addresses are BASE blocks later than their places. */
+async function twoTracks(change) {
+    const [first, second] = [[0, 300], [300 + BASE, 200]].map(([block, count]) => calls.encodeBlocks(block, new Uint8Array(USER * count).fill(7)));
+    const bytes = Buffer.concat([first, second]);
+    change(at => bytes.subarray(RAW * at, RAW * (at + 1)));
+    const sheet = 'FILE "game.bin" BINARY\n TRACK 01 MODE1/2352\n  INDEX 01 00:00:00\n TRACK 02 MODE1/2352\n  PREGAP 00:02:00\n  INDEX 01 00:04:00\n';
+    return { bytes, disc: await open({ 'game.cue': encoded(sheet), 'game.bin': bytes }) };
+}
+
+/** The findings in the tracks of a file that are surveyed with a track, by the blocks of the file as this track counts them. */
+async function foundWith({ bytes, disc }, options) {
+    const opened = openTrack(disc, options);
+    const { base } = opened.image;
+    const tracks = surveyedWith(opened);
+    const parts = tracks.map(({ before, image: { sectors } }) => surveyRange(calls, bytes.subarray(RAW * before, RAW * (before + sectors)), base + before,
+        { shift: shiftAt(tracks, base, base + before), mode2: true }));
+    const all = { block: base, ...Object.fromEntries(['filled', 'moved'].map(name => [name, parts.flatMap(it => it[name])])),
+        ...Object.fromEntries(['records', 'mode2'].map(name => [name, Buffer.concat(parts.map(it => it[name]))])) };
+    return foundInFile(tracks, all);
+}
+
+test('each track of one file is judged by the addresses of its own, whichever is opened', async () => {
+    const kinds = surveys => verdictOf({ surveys, tail: 0 }).findings.map(({ code, count, gaps }) => [code, count, gaps]);
+    const sound = await twoTracks(() => {});
+    const hurt = await twoTracks(sector => {
+        sector(320).fill(0x55);
+        sector(340).set(calls.encode(calls.address(7), new Uint8Array(USER)));
+        sector(400).set(calls.encodeBlocks(400 + BASE + 10, new Uint8Array(USER)));
+        for (let i = 401; i < 500; i++) sector(i).set(calls.encodeBlocks(i + BASE + 10, new Uint8Array(USER)));
+    });
+    for (const track of [1, 2]) {
+        const base = track === 1 ? 0 : BASE;
+        assert.deepEqual(kinds(await foundWith(sound, { track })), []);
+        const surveys = await foundWith(hurt, { track });
+        const gaps = [{ first: 400 + base, last: 499 + base, by: 10 }];
+        assert.deepEqual(kinds(surveys), [['lost', 1, gaps], ['gap', 1, gaps], ['address', 101, gaps]]);
+        assert.deepEqual(surveys.map(({ lost, survey: { block } }) => [block, lost.map(({ first, last }) => [first, last])]),
+            [[base, []], [300 + base, [[320 + base, 320 + base]]]]);
+    }
+    const [found, ...others] = await foundWith(sound, { base: 0 });
+    assert.deepEqual([others, found.elsewhere], [[], 200], 'a base that was set by hand is that of the whole file');
 });

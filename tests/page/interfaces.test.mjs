@@ -272,7 +272,7 @@ function counted(out) {
 test('an image: survey', { skip }, async t => {
     withDocument(t);
     for (const [name, { files, base, due }] of Object.entries(SURVEYED)) {
-        const { survey: { marks, lack, verdict } } = await opened(files, { base });
+        const { survey: { marks, lacks: [lack = null], verdict } } = await opened(files, { base });
         const missing = lack && [lack.missing.first, lack.missing.last];
         assert.deepEqual([marks.mode1(), marks.damaged(), marks.elsewhere, marks.lost.map(it => [it.first, it.last]), missing], due, name);
         const { out, status } = cdscript('info', ...words(files, { base }));

@@ -1,5 +1,8 @@
 """The verdict of the page is that of `cdscript info`: the table of tests/lib/verdict_images.py."""
 
+import subprocess
+from pathlib import Path
+
 import common
 from pages import PageTest
 from verdict_images import OTHERS, VERDICTS, images
@@ -8,7 +11,14 @@ from verdict_images import OTHERS, VERDICTS, images
 INKS = {'damage': 'bad-ink', 'doubt': 'warn-ink', 'sound': 'good-ink', 'nothing': 'warn-ink'}
 INK = "return document.querySelector('#disc-line .lead b[class$=-ink]')?.className ?? ''"
 # Cue sheets with audio in other files, and images whose data the samples do not show, are for the list, which reads all files.
-LISTED = {'missing.cue', 'audio.bin', 'audio-filled.bin', 'middle.bin', 'gaps.cue'}
+LISTED = {'missing.cue', 'audio.bin', 'audio-filled.bin', 'middle.bin'}
+
+
+def said_by_info(image: Path) -> str:
+    """The verdict that `cdscript info` prints."""
+    printed = subprocess.run([common.cdscript(), 'info', image], check=False, stdout=subprocess.PIPE, text=True).stdout
+    [verdict] = [line for line in printed.splitlines() if line.startswith('verdict: ')]
+    return verdict.removeprefix('verdict: ').lower()
 
 
 class Verdicts(PageTest):
@@ -25,6 +35,8 @@ class Verdicts(PageTest):
                 self.open_files(*files)
                 self.browser.wait('#disc-line .lead b[class$=-ink]')
                 self.assertEqual(self.browser.run(INK), INKS[level], self.browser.text('#disc-line .lead'))
+                if level != 'nothing':
+                    self.assertIn(said_by_info(place / name), self.browser.text('#disc-line .lead').lower())
 
     def test_files_that_are_not_images_have_no_verdict(self) -> None:
         place = common.folder('verdicts')

@@ -5,7 +5,7 @@ import { readBytes } from '../core/bytes.js';
 import { openDisc } from '../core/disc/views.js';
 import { failedBy } from '../core/faults.js';
 import { SECTOR_KIND, SECTOR_SIZE } from '../core/module/index.js';
-import { openTrack, surveyedTrack, surveyedTracks } from '../core/tasks/index.js';
+import { openTrack, surveyedTracks, surveyedWith } from '../core/tasks/index.js';
 import { ownFault } from '../sentences/index.js';
 import { tryFile } from './failures.js';
 import { pathsOfSheet } from './sheet_files.js';
@@ -120,14 +120,14 @@ async function openTrackIn(job, disc, whole = false) {
 }
 
 /**
- * The tracks of a disc to survey: the one that an option selects, or all. Reports an unknown base.
+ * The tracks of a disc to survey: those in the file of the one that an option selects, or all. Reports an unknown base.
  * @param {Job} job
  * @param {Disc} disc
  */
 export async function surveyedIn(job, disc) {
     const { track, base } = job.options;
     const isChosen = (track !== undefined || base !== undefined) && disc.tracks.some(({ image }) => image !== null);
-    if (isChosen) return [surveyedTrack(await openTrackIn(job, disc, true))];
+    if (isChosen) return surveyedWith(await openTrackIn(job, disc, true));
     const surveyed = surveyedTracks(disc);
     surveyed.filter(({ isAudio }) => !isAudio).forEach(({ image }) => sayUnknownBase(job, image));
     return surveyed;

@@ -1,7 +1,8 @@
 // Surveys tracks, and calculates the hashes of their files, which are read once.
 
 import { readBytes } from '../core/bytes.js';
-import { sectorCount } from '../core/module/index.js';
+import { SECTOR_SIZE, sectorCount } from '../core/module/index.js';
+import { sliceOf } from '../core/readers/views.js';
 import { RunningHashes, SHA1_ONLY } from './hashes.js';
 import { turn } from './pausing.js';
 
@@ -65,9 +66,9 @@ export function readingOnce(job, needs = SHA1_ONLY) {
         const beside = isBeside ? hashed.digest() : null;
         if (beside !== null) beside.catch(() => {}); // it is thrown when its turn comes
         const surveys = [];
-        for (const { image, isWhole, shift } of tracks) {
-            const read = isWhole && !isBeside ? hashed : image.reader;
-            surveys.push(await job.survey(read, image.base, { shift, mode2: true }));
+        for (const { image: { reader: own, base, sectors }, before, shift } of tracks) {
+            const read = isBeside ? own : sliceOf(hashed, before * SECTOR_SIZE, (before + sectors) * SECTOR_SIZE);
+            surveys.push(await job.survey(read, base, { shift, mode2: true }));
         }
         return { surveys, hashes: await (beside || hashed.digest()) };
     };

@@ -4,7 +4,7 @@ import { failedBy } from '../faults.js';
 import { VolumeReader, descriptorsOf, endOfExtent, filesOf, numberInBoth } from '../iso/index.js';
 import { LAST_BASE, SECTOR_SIZE } from '../module/index.js';
 import { sliceOf } from '../readers/index.js';
-import { joinedForm1, joinedUser } from '../sectors/index.js';
+import { joinedForm1, joinedUser, laterRuns } from '../sectors/index.js';
 
 /** @typedef {import('./disc.js').DiscImage} DiscImage */
 /** @typedef {import('../sectors/runs.js').Run} Run */
@@ -85,11 +85,11 @@ export async function blocksOfVolume({ image, part, later }) {
     const { files, own } = await filesIn(volume) || { files: [], own: new Map() };
     const isBelieved = (/** @type {FileEntry} */ file) =>
         file.size > 0 && (file.fault === null || READ.includes(file.fault.code)) && endOfExtent(file) <= end;
-    return [
+    return laterRuns([
         { first: part.base, last: part.base + SYSTEM_AREA + descriptors.count - 1, path: '' },
         ...Array.from(own.keys(), block => ({ first: block, last: block, path: '' })),
         ...files.filter(isBelieved).map(file => ({ first: file.block, last: endOfExtent(file) - 1, path: file.path })),
-    ].map(({ first, last, path }) => ({ first: first + later, last: last + later, path }));
+    ], later);
 }
 
 /**

@@ -111,3 +111,13 @@ export function joinedRuns(runs) {
     }
     return joined;
 }
+
+/**
+ * Runs with the same other members, whose blocks are `later`.
+ * @template {Run} R
+ * @param {R[]} runs
+ * @param {number} later
+ */
+export function laterRuns(runs, later) {
+    return runs.map(run => ({ ...run, first: run.first + later, last: run.last + later }));
+}

@@ -2,5 +2,5 @@
 
 export { MODE2, isDamagedMode2, isSoundMode2, isTestedMode2, mode2Runs, testMode2 } from './mode2.js';
 export { addToRuns, blocksIn, firstBlocks, joinedRuns } from './runs.js';
-export { FIELDS, HEADER_OFFSET, USER_OFFSET, addressIn, addressText, imageTooLong } from './sector.js';
-export { auditText, findingOf, isDamaged, isSound, kindRuns, listText, surveyCounts, wrongRuns } from './survey.js';
+export { FIELDS, HEADER_OFFSET, USER_OFFSET, addressIn, addressOf, addressText, imageTooLong } from './sector.js';
+export { auditText, findingOf, isDamaged, isSound, kindRuns, listText, surveyCounts, surveyRange, wrongRuns } from './survey.js';

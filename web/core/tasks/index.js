@@ -8,7 +8,8 @@ export { CONVERTIBLE, convertToRaw, extractFile, isConvertible, passUser, userRa
 export { examineDisc, examineFile } from './examine.js';
 export { NO_IMAGE, otherSummary, summaryByDat, summaryOf } from './file_summary.js';
 export { findText, findTextAt } from './find.js';
-export { CollectedSurvey, foundInSurvey, surveyedTrack, surveyedTracks, unsurveyedTracks } from './inform.js';
+export { CollectedSurvey, foundInFile, foundInSurvey, shiftAt, shiftInFile, surveyedTracks, surveyedWith } from './inform.js';
+export { unsurveyedTracks } from './inform.js';
 export { COLUMN, NOT_TESTED, NO_DAT, lacksHash, listedColumns, saidOfFile } from './listed_line.js';
 export { ESCAPED_BYTE, SURROGATE_OF_BYTE, listedName, nameOfListed } from './listed_name.js';
 export { mergeRange } from './merge.js';

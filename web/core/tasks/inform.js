@@ -2,10 +2,10 @@
 
 import { joinedBytes } from '../bytes.js';
 import { imageAround, lackOf, lostSectors, otherSectors, sheetTracks } from '../disc/index.js';
-import { LAST_BASE, SECTOR_SIZE, sectorCount } from '../module/index.js';
+import { LAST_BASE, RECORD_SIZE, SECTOR_SIZE, sectorCount } from '../module/index.js';
 import { sliceOf } from '../readers/index.js';
-import { addToRuns, blocksIn, commonRuns, gapsIn, isTestedMode2, joinedRuns, mode2Counts, mode2Runs } from '../sectors/index.js';
-import { settledMode2, surveyCounts } from '../sectors/index.js';
+import { addToRuns, blocksIn, commonRuns, gapsIn, isTestedMode2, joinedRuns, laterRuns, mode2Counts } from '../sectors/index.js';
+import { mode2Runs, settledMode2, surveyCounts } from '../sectors/index.js';
 import { addressShift } from './common_part.js';
 
 /** @typedef {import('../disc/disc.js').Disc} Disc */
@@ -20,10 +20,11 @@ import { addressShift } from './common_part.js';
 /** @typedef {import('../sectors/survey.js').Survey} Survey */
 /** @typedef {Pick<import('./opened.js').OpenedTrack, 'disc' | 'track' | 'image' | 'part'>} Opened */
 /**
- * A track that is surveyed, as the `part` of an `image`, whose sectors are `shift` blocks later by their addresses. `isWhole` means that
- * the image is a whole file, and `isAlone` that the disc has no other track according to the cue sheet. `sheetTracks` lists the tracks of
- * the file according to the cue sheet, null without a sheet. `isAudio`: nothing but the survey can show that there is data.
- * @typedef {{ number: number, file: number, image: DiscImage, part: DiscImage, shift: number, isWhole: boolean, isAlone: boolean,
+ * A track that is surveyed, as the `part` of an `image`, whose sectors are `shift` blocks later by their addresses. The image is a file, or
+ * a part of one, and `before` is how many sectors of the file precede it. `isAlone` means that the disc has no other track according to the
+ * cue sheet. `sheetTracks` lists the tracks of the file according to the cue sheet, null without a sheet. `isAudio`: nothing but the survey
+ * can show that there is data.
+ * @typedef {{ number: number, file: number, image: DiscImage, part: DiscImage, shift: number, before: number, isAlone: boolean,
  *     sheetTracks: SheetTracks | null, isAudio: boolean }} SurveyedTrack
  */
 /**
@@ -53,9 +54,20 @@ function hasOneTrack({ sheet, tracks }) {
  * @param {Opened} opened
  * @returns {SurveyedTrack}
  */
-export function surveyedTrack({ disc, track: { number, file }, image, part }) {
-    const whole = { isWhole: true, isAlone: hasOneTrack(disc), isAudio: false, sheetTracks: sheetTracks(disc, file, image.base) };
+function surveyedTrack({ disc, track: { number, file }, image, part }) {
+    const tracks = sheetTracks(disc, file, image.base);
+    const whole = { before: 0, isAlone: hasOneTrack(disc), isAudio: false, sheetTracks: tracks };
     return { number, file, image, part, shift: addressShift(image), ...whole };
+}
+
+/**
+ * The tracks that are surveyed of the file in which an opened track lies. A base that was set by hand is used for the whole file, despite
+ * its addresses.
+ * @param {import('./opened.js').OpenedTrack} opened
+ */
+export function surveyedWith(opened) {
+    const all = opened.byAddresses === opened ? surveyedInFile(opened.disc, opened.track.file) : [];
+    return all.length > 1 ? all : [surveyedTrack(opened)];
 }
 
 /**
@@ -80,12 +92,14 @@ function surveyedInFile(disc, file) {
     });
     if (data.length === 0) return surveyedAudio(disc, file);
     if (data.every(it => it.image.base === data[0].image.base)) return [surveyedTrack(data[0])];
-    const starts = data.map(({ track: { at, pregap } }, i) => i === 0 ? 0 : Number(at) - pregap);
+    const begin = (/** @type {Opened} */ { track: { at, pregap } }) => Number(at) - pregap;
+    data.sort((a, b) => begin(a) - begin(b)); // a sheet may name a file twice
+    const starts = data.map((it, i) => i === 0 ? 0 : begin(it));
     return data.map(({ track: { number, at }, image, part }, i) => {
         const reader = sliceOf(image.reader, starts[i], i + 1 < starts.length ? starts[i + 1] : image.reader.size);
         const around = imageAround(part, reader, (Number(at) - starts[i]) / SECTOR_SIZE);
-        const own = sheetTracks(disc, file, around.base - starts[i] / SECTOR_SIZE);
-        const places = { isWhole: false, isAlone: false, isAudio: false, sheetTracks: own };
+        const before = starts[i] / SECTOR_SIZE;
+        const places = { before, isAlone: false, isAudio: false, sheetTracks: sheetTracks(disc, file, around.base - before) };
         return { number, file, image: around, part, shift: addressShift(around), ...places };
     });
 }
@@ -102,7 +116,7 @@ function surveyedAudio(disc, file) {
     const [{ name, reader }, [{ number, block, pregap }]] = [disc.files[file], own];
     const base = Math.max(Number(block) - pregap / SECTOR_SIZE, 0);
     const image = { name, reader, base: base > LAST_BASE ? 0 : base, addressed: null, sectors: sectorCount(reader.size), tail: 0 };
-    const places = { isWhole: true, isAlone: false, isAudio: true, sheetTracks: sheetTracks(disc, file, image.base) };
+    const places = { before: 0, isAlone: false, isAudio: true, sheetTracks: sheetTracks(disc, file, image.base) };
     return image.sectors === 0 ? [] : [{ number, file, image, part: image, shift: 0, ...places }];
 }
 
@@ -118,9 +132,8 @@ export function trackWithData(track, { moved }) {
     const addressed = track.image.base + by;
     const image = { ...track.image, base: Math.max(addressed, 0), addressed };
     const later = image.base - track.image.base;
-    const moves = (/** @type {Run[]} */ runs) => runs.map(({ first, last }) => ({ first: first + later, last: last + later }));
     const { sheetTracks: own } = track;
-    const tracks = own && { mode1: moves(own.mode1), mode2: moves(own.mode2), audio: moves(own.audio) };
+    const tracks = own && { mode1: laterRuns(own.mode1, later), mode2: laterRuns(own.mode2, later), audio: laterRuns(own.audio, later) };
     return { ...track, image, part: image, shift: addressShift(image), sheetTracks: tracks };
 }
 
@@ -169,6 +182,60 @@ export async function foundInSurvey({ image, part, isAlone, sheetTracks: tracks 
     const unproven = ofMode2.tested > 0 ? [] : commonRuns(lost.untested, mode2Runs(mode2, survey.block, isTestedMode2));
     return { survey, ...counts, wrong: counts.wrong + ofMode2.wrong, mode2: ofMode2, mode2Found, unproven: blocksIn(unproven), ...lost,
         fillers: bytesOfLost(lost.lost, filled), lack, gaps: gapsIn({ ...survey, moved }, mode2Found) };
+}
+
+/**
+ * How many blocks later the sectors of a track are by their addresses, if its file counts them from block `base` on.
+ * @param {SurveyedTrack} track
+ * @param {number} base
+ */
+export function shiftInFile({ image, before, shift }, base) {
+    return shift + image.base - base - before;
+}
+
+/**
+ * How many blocks later a sector of a file is by its address, if it belongs to one of its tracks.
+ * @param {SurveyedTrack[]} tracks
+ * @param {number} base of the file
+ * @param {number} block
+ */
+export function shiftAt(tracks, base, block) {
+    const own = tracks.find(({ before, image }) => block < base + before + image.sectors);
+    return own === undefined ? 0 : shiftInFile(own, base);
+}
+
+/**
+ * The findings in the tracks of a file. Their blocks are those of the file's survey, for which the sectors of each track were surveyed with
+ * `shiftInFile`. Throws what the readers throw.
+ * @param {SurveyedTrack[]} tracks
+ * @param {RangeSurvey} survey of the whole file
+ * @returns {Promise<Found[]>}
+ */
+export function foundInFile(tracks, { block, records, mode2, filled, moved }) {
+    return Promise.all(tracks.map(async track => {
+        const { before, image: { base, sectors } } = track;
+        const [from, end] = [before, before + sectors];
+        const later = base - block - before;
+        const own = [{ first: block + from, last: block + end - 1 }];
+        const found = await foundInSurvey(track, {
+            block: base, records: records.subarray(from * RECORD_SIZE, end * RECORD_SIZE), mode2: mode2.subarray(from, end),
+            filled: laterRuns(commonRuns(filled, own), later), moved: laterRuns(commonRuns(moved, own), later),
+        });
+        return laterFound(found, -later);
+    }));
+}
+
+/**
+ * Findings whose blocks are `later`.
+ * @param {Found} found
+ * @param {number} later
+ * @returns {Found}
+ */
+function laterFound(found, later) {
+    const { survey, lost, untested, used, lack, gaps } = found;
+    const moves = (/** @type {<R extends Run>(runs: R[]) => R[]} */ (runs => laterRuns(runs, later)));
+    return { ...found, survey: { ...survey, block: survey.block + later }, lost: moves(lost), untested: moves(untested),
+        used: used && moves(used), lack: lack && { ...lack, missing: moves([lack.missing])[0] }, gaps: moves(gaps) };
 }
 
 /**

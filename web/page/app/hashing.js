@@ -4,6 +4,7 @@ import { forwardOf, readBytes } from '../../core/bytes.js';
 import { crc32, joinedCrc } from '../../core/crc32.js';
 import { cancelled } from '../../core/faults.js';
 import { SECTOR_SIZE } from '../../core/module/index.js';
+import { sliceOf } from '../../core/readers/views.js';
 import { hexOf } from '../ui/index.js';
 import { startedWorker } from './pool.js';
 
@@ -126,14 +127,16 @@ export class Summing {
     }
 
     /**
-     * Reads all sectors. Throws what Pool.share throws.
+     * Reads all sectors, or the next part of them. Throws what Pool.share throws.
      * @param {import('../../core/pool/pool.js').Sharing} how
      * @param {((survey: RangeSurvey) => void) | null} [surveyed] receives the survey of each range
      * @param {number} [shift] how many blocks the address of a sector is ahead of its block, below 0 if behind
+     * @param {{ before: number, sectors: number } | null} [part] its number of sectors, and how many precede it
      */
-    async read(how, surveyed = null, shift = 0) {
+    async read(how, surveyed = null, shift = 0, part = null) {
         const args = { surveys: surveyed !== null, shift, mode2: true };
-        await this.pool.share('sums', [this.ahead], args, how, async ({ bytes, crc, survey }) => {
+        const [from, end] = part === null ? [0, this.reader.size] : [part.before, part.before + part.sectors].map(it => it * SECTOR_SIZE);
+        await this.pool.share('sums', [sliceOf(this.ahead, from, end)], args, how, async ({ bytes, crc, survey }) => {
             if (surveyed !== null && survey !== null) surveyed(survey);
             await this.add(bytes, crc);
         });

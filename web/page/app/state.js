@@ -7,6 +7,7 @@ import { Store } from './store.js';
 /** @typedef {import('../../core/disc/disc.js').DiscImage} DiscImage */
 /** @typedef {import('../../core/disc/volume_end.js').Lack} Lack */
 /** @typedef {import('../../core/sectors/survey.js').RangeSurvey} RangeSurvey */
+/** @typedef {import('../../core/tasks/inform.js').SurveyedTrack} SurveyedTrack */
 /** @typedef {import('../../core/tasks/verdict.js').Verdict} Verdict */
 /** @typedef {import('../../core/tasks/convert.js').ConvertibleKind} ConvertibleKind */
 /** @typedef {import('../../core/tasks/opened.js').OpenedTrack} OpenedTrack */
@@ -28,10 +29,11 @@ import { Store } from './store.js';
 /**
  * The survey of an image: `records` of RECORD_SIZE bytes for its sectors, of which the first `known` are read so far; what was found in
  * its Mode 2 sectors (`mode2`), settled when all is read; the runs of sectors `filled` with one byte, and of those `moved` to other blocks;
- * the `marks` for the map; and the `verdict` and the `lack` of its volume, known when all is read. Reading `began` and `ended` at these
- * times in milliseconds; `ended` is 0 if not all was read. `over` says that reading has stopped.
- * @typedef {RangeSurvey & { known: number, marks: SurveyMarks, verdict: Verdict | null, lack: Lack | null, began: number, ended: number,
- *     over: boolean }} Surveyed
+ * the `tracks` that are judged by themselves; the `marks` for the map; and the `verdict` and what its volumes lack (`lacks`), known when
+ * all is read. Reading `began` and `ended` at these times in milliseconds; `ended` is 0 if not all was read. `over` says that reading has
+ * stopped.
+ * @typedef {RangeSurvey & { known: number, tracks: SurveyedTrack[], marks: SurveyMarks, verdict: Verdict | null, lacks: Lack[],
+ *     began: number, ended: number, over: boolean }} Surveyed
  */
 
 /**

@@ -14,6 +14,7 @@ import { ScriptLines } from './script_lines.js';
 /** @typedef {import('../../core/module/calls.js').Calls} Calls */
 /** @typedef {import('../../core/sectors/survey.js').RangeSurvey} RangeSurvey */
 /** @typedef {import('../../core/sectors/survey.js').Survey} Survey */
+/** @typedef {import('../../core/tasks/inform.js').SurveyedTrack} SurveyedTrack */
 /** @typedef {import('../../core/encodings/encoding.js').Encoding} Encoding */
 /** @typedef {import('./state.js').Happening} Happening */
 /** @typedef {import('./state.js').Image} Image */
@@ -150,13 +151,14 @@ export class Store {
      * Begins the survey of an image. `addToSurvey` adds to it as the image is read.
      * @param {number} base
      * @param {number} sectors
+     * @param {SurveyedTrack[]} [tracks] with these sectors
      */
-    beginSurvey(base, sectors) {
+    beginSurvey(base, sectors, tracks = []) {
         const began = performance.now();
         /** @type {Surveyed} */
         const survey = {
-            block: base, records: newBytes(sectors * RECORD_SIZE), mode2: newBytes(sectors), filled: [], moved: [], known: 0,
-            marks: new SurveyMarks(base, sectors), verdict: null, lack: null, began, ended: 0, over: false,
+            tracks, block: base, records: newBytes(sectors * RECORD_SIZE), mode2: newBytes(sectors), filled: [], moved: [], known: 0,
+            marks: new SurveyMarks(base, sectors), verdict: null, lacks: [], began, ended: 0, over: false,
         };
         this.survey = survey;
         this.told = began;

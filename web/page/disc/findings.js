@@ -1,7 +1,7 @@
 // The card under the map: findings grouped into places, files, runs of one kind, and the output of the program.
 
 import { auditText, kindRuns, listText } from '../../core/sectors/views.js';
-import { surveyedTrack } from '../../core/tasks/index.js';
+import { shiftInFile } from '../../core/tasks/index.js';
 import { MARK, lookOf, lookOfKind } from '../app/index.js';
 import { downloadText } from '../save/index.js';
 import * as texts from '../texts/index.js';
@@ -9,7 +9,7 @@ import { counted, format, say } from '../texts/index.js';
 import { button, copyButton, element, fill, keyed, oneTabStop, setAttribute, term } from '../ui/index.js';
 import { FilesList } from './files_list.js';
 import { placeGuess, placeWords, placesOf } from './places.js';
-import { addressOf, findingAt } from './sector_text.js';
+import { addressWords, findingAt } from './sector_text.js';
 
 /** @typedef {import('../app/state.js').App} App */
 /** @typedef {import('../app/state.js').Surveyed} Surveyed */
@@ -201,7 +201,7 @@ export class Findings {
                 first === last ? String(first) : `${first}–${last}`)),
             element('td', { class: 'n', 'data-l': texts.discSectorsLabel }, counted(last - first + 1)),
             element('td', {}, ...this.kindWords(first, kind)),
-            element('td', { class: 'num', 'data-l': texts.discBeginsAtLabel }, addressOf(this.app, first))));
+            element('td', { class: 'num', 'data-l': texts.discBeginsAtLabel }, addressWords(this.app, first))));
         this.fillTable('runs', head, rows);
         const left = runs.length - rows.length;
         fill(this.foot, element('span', {}, left > 0 && `${format(texts.discMoreRuns, { n: left })} `, texts.discRunIsNeighbours));
@@ -232,8 +232,8 @@ export class Findings {
         const label = format(texts.discWhatProgramPrints, { verb: this.text });
         fill(this.body, element('pre', { class: 'report', tabindex: 0, 'aria-label': label }, shown,
             more > 0 && `\n${format(texts.discMoreLinesPrinted, { n: more })}`));
-        const { image } = this.app;
-        const isExact = this.text === 'list' || image === null || surveyedTrack(image.opened).shift === 0;
+        const { survey } = this.app;
+        const isExact = this.text === 'list' || survey === null || survey.tracks.every(track => shiftInFile(track, survey.block) === 0);
         fill(this.foot, choice, element('span', {}, isExact ? texts.discPrintedToTheByte : texts.discPrintedButForAddresses));
     }
 

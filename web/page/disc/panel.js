@@ -11,7 +11,7 @@ import { mountDumps } from './known_dumps.js';
 import { Legend } from './legend.js';
 import { DiscMap } from './map.js';
 import { SectorCard } from './sector_card.js';
-import { addressOf, sectorWords } from './sector_text.js';
+import { addressWords, sectorWords } from './sector_text.js';
 
 /** @typedef {import('../app/state.js').App} App */
 
@@ -115,7 +115,7 @@ class DiscPanel {
         const { kind, finding, bad } = sectorWords(app, survey, place.block - survey.block);
         const file = fileWords(app, place.block);
         return fill(this.words, element('b', {}, blockWords(place.block)),
-            element('span', {}, addressOf(app, place.block)), element('span', {}, kind),
+            element('span', {}, addressWords(app, place.block)), element('span', {}, kind),
             finding !== '' && element('span', { class: bad ? 'bad-ink' : null }, finding),
             file !== '' && element('span', { class: 'small' }, file));
     }
@@ -172,6 +172,6 @@ function tipOf(app, sector) {
     const file = fileWords(app, block);
     const found = damaged ? texts.discIsDamaged : finding;
     return [`${blockWords(block)} · ${finding === '' ? kind : found}`,
-        [...damaged ? [codes] : [], format(texts.discAddressOfSector, { address: addressOf(app, block) })].join(' · '),
+        [...damaged ? [codes] : [], format(texts.discAddressOfSector, { address: addressWords(app, block) })].join(' · '),
         ...file === '' ? [] : [file]];
 }

@@ -2,14 +2,14 @@
 
 import { RECORD, SECTOR_KIND, SECTOR_SIZE, USER_SIZE } from '../../core/module/index.js';
 import { firstLinesOf, lineText } from '../../core/script/views.js';
-import { USER_OFFSET, addressIn, addressText, isDamagedMode2, isSoundMode2 } from '../../core/sectors/views.js';
+import { USER_OFFSET, addressIn, addressText, isDamagedMode2, isSoundMode2, surveyRange } from '../../core/sectors/views.js';
 import { MARK, mode2Verdict } from '../app/index.js';
 import { repairOf } from '../second/index.js';
 import * as texts from '../texts/index.js';
 import { format, say } from '../texts/index.js';
 import { announce, button, element, hexOf, keyed, nameOf, setDisabled, term } from '../ui/index.js';
 import { byteOfCodes } from './crossings.js';
-import { addressOf } from './sector_text.js';
+import { addressWords, shiftOfSector } from './sector_text.js';
 
 /** @typedef {import('../app/state.js').App} App */
 /** @typedef {import('../ui/fill.js').Child} Child */
@@ -24,7 +24,7 @@ import { addressOf } from './sector_text.js';
  */
 export function sectorFault(app, block, sector, found) {
     if (found === null) return otherKind(app, block, sector);
-    const record = app.calls.survey(sector, block);
+    const record = surveyRange(app.calls, sector, block, { shift: shiftOfSector(app, block) }).records;
     const line = new TextDecoder().decode(app.calls.auditLine(block, record)).trimEnd();
     const [edc, zeros, parity] = [record[RECORD.EDC] > 0, record[RECORD.ZEROS] > 0, record[RECORD.P] + record[RECORD.Q] > 0];
     if (!edc && !zeros && !parity) return line === '' ? soundSector() : elsewhere(app, block, sector, line);
@@ -162,7 +162,7 @@ function soundSector() {
  * @param {string} line
  */
 function elsewhere(app, block, sector, line) {
-    const [has, wants] = [addressText(addressIn(sector, 0)), addressOf(app, block)];
+    const [has, wants] = [addressText(addressIn(sector, 0)), addressWords(app, block)];
     return element('div', { class: 'say warn thin' }, element('b', {}, ...say(texts.sectorSoundElsewhere, { line: mono(line) })),
         ...say(texts.sectorHeaderSays, { has, block: String(block), wants }), ' ',
         ...say(texts.sectorElsewhereIsNoDamage, { base: term('base', texts.sectorBaseTerm) }));

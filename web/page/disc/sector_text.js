@@ -1,7 +1,8 @@
 // Describes a sector in words: its kind, and its finding as the program prints it.
 
 import { RECORD, RECORD_SIZE } from '../../core/module/index.js';
-import { addressText, findingOf } from '../../core/sectors/views.js';
+import { addressOf, addressText, findingOf } from '../../core/sectors/views.js';
+import { shiftAt } from '../../core/tasks/index.js';
 import { MARK, lookOfKind, mode2Finding } from '../app/index.js';
 import * as texts from '../texts/index.js';
 import { format } from '../texts/index.js';
@@ -38,11 +39,20 @@ export function sectorWords(app, survey, sector) {
 }
 
 /**
- * The address that a block has, or '' if there is none.
+ * How many blocks later a sector of the open image is by the addresses of its track.
  * @param {App} app
  * @param {number} block
  */
-export function addressOf({ calls }, block) {
-    const address = calls.address(block);
+export function shiftOfSector({ survey }, block) {
+    return survey === null ? 0 : shiftAt(survey.tracks, survey.block, block);
+}
+
+/**
+ * The address that the sector of a block must have, or '' if there is none.
+ * @param {App} app
+ * @param {number} block
+ */
+export function addressWords(app, block) {
+    const address = addressOf(app.calls, block + shiftOfSector(app, block));
     return address === null ? '' : addressText(address);
 }

@@ -103,14 +103,12 @@ async function surveyedAndHashed(app, reader, tracks, { signal, needsMd5, progre
     const sums = new Summing(app, reader, progress, needsMd5);
     try {
         const surveys = [];
-        for (const { image: { base, reader: own }, shift, isWhole } of tracks) {
+        for (const { image: { base, sectors }, shift, before } of tracks) {
             const collected = new CollectedSurvey(base);
-            const take = (/** @type {import('../app/hashing.js').RangeSurvey} */ answer) => collected.add(answer);
-            if (isWhole) await sums.read({ base, signal }, take, shift);
-            else await app.pool.share('survey', [own], { shift, mode2: true }, { base, signal }, take);
+            await sums.read({ base, signal }, answer => collected.add(answer), shift, { before, sectors });
             surveys.push(collected.whole());
         }
-        if (!tracks.some(({ isWhole }) => isWhole)) await sums.read({ signal });
+        if (tracks.length === 0) await sums.read({ signal });
         return { surveys, hashes: await sums.end() };
     } finally {
         sums.close();

@@ -1,7 +1,8 @@
 // Reads an image that was opened: surveys its sectors, lists its files, and hashes it.
 
+import { joinedBytes } from '../../core/bytes.js';
 import { cancelled } from '../../core/faults.js';
-import { foundInSurvey, surveyedTrack, verdictOf } from '../../core/tasks/index.js';
+import { foundInFile, shiftInFile, surveyedWith, verdictOf } from '../../core/tasks/index.js';
 import { Summing } from '../app/index.js';
 import { isCancelled, refuseWhileSaving, showFailure } from '../ui/index.js';
 
@@ -9,6 +10,12 @@ import { isCancelled, refuseWhileSaving, showFailure } from '../ui/index.js';
 /** @typedef {import('../app/state.js').Image} Image */
 /** @typedef {import('../../core/tasks/opened.js').OpenedTrack} OpenedTrack */
 /** @typedef {import('../app/hashing.js').RangeSurvey} RangeSurvey */
+/** @typedef {import('../../core/tasks/inform.js').SurveyedTrack} SurveyedTrack */
+/**
+ * Reads a track that is surveyed: the block of its first sector, how many blocks later its sectors are by their addresses (`shift`), and
+ * what receives the survey of each range.
+ * @typedef {(track: SurveyedTrack, how: { base: number, shift: number }, take: (answer: RangeSurvey) => void) => Promise<void>} ReadTrack
+ */
 
 /**
  * Opens an image and reads it, or with null closes the open one.
@@ -31,20 +38,24 @@ export async function readImage(app, image) {
  * @param {App} app
  * @param {Image} image
  * @param {AbortSignal} signal
- * @param {(take: (answer: RangeSurvey) => void, shift: number) => Promise<void>} read
+ * @param {ReadTrack} read
  */
 async function surveyBy(app, image, signal, read) {
-    const survey = app.beginSurvey(image.base, image.sectors);
-    const track = surveyedTrack(image.opened);
+    const { base, tail } = image;
+    const tracks = surveyedWith(image.opened);
+    const survey = app.beginSurvey(base, image.sectors, tracks);
     let isWhole = false;
     try {
-        await read(answer => app.addToSurvey(survey, answer), track.shift);
-        const found = await foundInSurvey(track, survey);
-        survey.mode2 = found.mode2Found;
-        survey.marks.addMode2(found.mode2Found);
-        survey.marks.lose(found.lost);
-        survey.lack = found.lack;
-        survey.verdict = verdictOf({ surveys: [found], tail: image.tail });
+        for (const track of tracks) {
+            const how = { base: base + track.before, shift: shiftInFile(track, base) };
+            await read(track, how, answer => app.addToSurvey(survey, answer));
+        }
+        const surveys = await foundInFile(tracks, survey);
+        survey.mode2 = joinedBytes(surveys.map(({ mode2Found }) => mode2Found));
+        survey.marks.addMode2(survey.mode2);
+        survey.marks.lose(surveys.flatMap(({ lost }) => lost));
+        survey.lacks = surveys.flatMap(({ lack }) => lack || []);
+        survey.verdict = verdictOf({ surveys, tail });
         if (signal.aborted) throw cancelled();
         isWhole = true;
     } finally {
@@ -59,8 +70,8 @@ async function surveyBy(app, image, signal, read) {
  * @param {AbortSignal} signal
  */
 async function surveyOnly(app, image, signal) {
-    const how = { base: image.base, signal };
-    await surveyBy(app, image, signal, (take, shift) => app.pool.share('survey', [image.reader], { shift, mode2: true }, how, take));
+    await surveyBy(app, image, signal, (track, { base, shift }, take) =>
+        app.pool.share('survey', [track.image.reader], { shift, mode2: true }, { base, signal }, take));
     await listFiles(app, image, signal);
 }
 
@@ -73,7 +84,8 @@ async function surveyOnly(app, image, signal) {
 async function surveyAndHash(app, image, signal) {
     const sums = new Summing(app, image.reader, done => app.noteHashed(done));
     try {
-        await surveyBy(app, image, signal, (take, shift) => sums.read({ base: image.base, signal }, take, shift));
+        await surveyBy(app, image, signal, ({ before, image: { sectors } }, { base, shift }, take) =>
+            sums.read({ base, signal }, take, shift, { before, sectors }));
         const [known] = await Promise.all([sums.end(), listFiles(app, image, signal)]);
         if (signal.aborted) throw cancelled();
         app.setSums(image, known);

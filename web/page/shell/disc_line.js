@@ -216,16 +216,14 @@ function leadOf(app) {
     }
     if (!survey.over) return progressOf(app, image, survey);
     const [words, ...buttons] = verdictOn(app, image, survey);
-    return [words, lackWords(survey), ...buttons];
+    return [words, ...survey.lacks.map(lackWords), ...buttons];
 }
 
 /**
- * Says that the volume continues after the end of the image; false if it does not.
- * @param {Surveyed} survey
+ * Says that a volume continues after the end of the image.
+ * @param {import('../../core/disc/volume_end.js').Lack} lack
  */
-function lackWords({ lack }) {
-    if (lack === null) return false;
-    const { missing, file, isSure } = lack;
+function lackWords({ missing, file, isSure }) {
     const [first, last] = [String(missing.first), String(missing.last)];
     const looks = { class: isSure ? 'bad-ink' : 'warn-ink' };
     if (file !== '') return element('span', looks, ...say(texts.imageFileGoesOn, { first, last, file: nameOf(file) }));
