@@ -100,14 +100,16 @@ test('a long script is read in parts, with a turn for others between them, as al
     }
 });
 
-test('lines that are added stay among those before, and bytes that are typed on are one step', () => {
+test('lines that are added stay among those before, and each byte that is typed on is a step', () => {
     const lines = linesOf('cdpatch 1\n');
     lines.edit(0, 1, ['cdpatch 1', '# mine']);
     const number = lines.add(['set 1 2 41'], 'bytes');
     for (const bytes of ['4142', '414243']) lines.edit(number - 1, 1, [`set 1 2 ${bytes}`], 'bytes');
     assert.deepEqual([lines.text(), lines.patches], ['cdpatch 1\n# mine\nset 1 2 414243\n', 1]);
-    lines.undo();
-    assert.equal(lines.text(), 'cdpatch 1\n# mine\n');
+    for (const line of ['set 1 2 4142\n', 'set 1 2 41\n', '']) {
+        lines.undo();
+        assert.equal(lines.text(), `cdpatch 1\n# mine\n${line}`);
+    }
     lines.undo();
     assert.equal(lines.text(), 'cdpatch 1\n');
 });

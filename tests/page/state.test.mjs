@@ -33,6 +33,27 @@ test('bytes that are pasted are one line, which grows with what is typed after t
     assert.deepEqual(reported, ['cdpatch 1\nset 9 5 414243 was 010203\n', 'cdpatch 1\nset 9 5 41424445 was 01020304\n']);
 });
 
+test('bytes that are typed after an undo or a redo belong to the line that it left', () => {
+    const app = new App(calls, null, null);
+    const typing = new Typing(app);
+    const { script } = app;
+    const types = (offset, ...bytes) => typing.type(9, offset, Uint8Array.from(bytes), Uint8Array.from(bytes, (_, i) => offset + i));
+    const turned = way => {
+        const edit = (way === 'undo' ? script.done : script.undone).slice(-1)[0];
+        script[way]();
+        return typing.continueFrom(edit, way);
+    };
+    const place = (first, end) => ({ block: 9, first, end });
+    for (const [offset, ...bytes] of [[5, 0x41], [6, 0x42, 0x43], [6, 0x44]]) types(offset, ...bytes);
+    assert.deepEqual([turned('undo'), turned('undo')], [place(6, 7), place(6, 8)]);
+    types(6, 0x45);
+    assert.equal(script.text(), 'cdpatch 1\nset 9 5 4145 was 0506\n');
+    assert.deepEqual([turned('undo'), turned('undo'), script.text()], [place(6, 7), place(5, 6), 'cdpatch 1\n']);
+    assert.deepEqual([turned('redo'), turned('redo')], [place(5, 6), place(6, 7)]);
+    types(7, 0x46);
+    assert.equal(script.text(), 'cdpatch 1\nset 9 5 414546 was 050607\n');
+});
+
 test('who takes another script is given back the one that was in no file', () => {
     const app = new App(calls, null, null);
     const backs = [];

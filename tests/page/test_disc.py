@@ -61,6 +61,9 @@ def file_of(data: bytes, name: str = 'game.bin') -> Path:
     path.write_bytes(data)
     return path
 
+# Presses Ctrl+Shift+Z in the focused element.
+CONTROL_SHIFT_Z = '''document.activeElement.dispatchEvent(new KeyboardEvent('keydown',
+    { key: 'Z', ctrlKey: true, shiftKey: true, bubbles: true, cancelable: true }))'''
 
 class Disc(PageTest):
     stub = ''
@@ -555,18 +558,40 @@ class Disc(PageTest):
         fresh = (path.parent / 'new.bin').read_bytes()[60 * SECTOR_SIZE + 16:]
         self.assertEqual(fresh[16:18].hex() + fresh[34:35].hex(), 'c01234')
 
-    def test_bytes_that_were_typed_are_taken_back(self) -> None:
+    def wait_for_changed(self, *places: int) -> None:
+        changed = "return [...document.querySelectorAll('.hex i.new')].map(it => Number(it.dataset.at)).filter(at => at < 2064)"
+        waited(lambda: self.browser.run(changed) == [*places], f'changed bytes: {places}')
+
+    def test_bytes_that_were_typed_are_taken_back_one_by_one(self) -> None:
         browser = self.opened(file_of(discs.game()))
         self.go_into(60)
         browser.press('c', '0', 'f', 'f', Keys.ARROW_DOWN, '3', '4', '5')
         browser.press('z', held=Keys.CONTROL)
-        browser.press('z', held=Keys.CONTROL)
-        changed = "return [...document.querySelectorAll('.hex i.new')].map(it => Number(it.dataset.at)).filter(at => at < 2064)"
-        waited(lambda: browser.run(changed) == [16, 17], 'two changed bytes')
-        browser.press('z', held=Keys.CONTROL)
-        waited(lambda: browser.run(changed) == [], 'no changed byte')
+        for left in ([16, 17], [16]):
+            browser.press('z', held=Keys.CONTROL)
+            self.wait_for_changed(*left)
+        browser.press('e', 'e')
+        browser.wait('#announced', 'In the script: set 60 0 C0EE was')
+        turns: list[tuple[str, list[int]]] = [('z', [16]), ('y', [16, 17]), ('z', [16]), ('z', [])]
+        for way, due in turns:
+            browser.press(way, held=Keys.CONTROL)
+            self.wait_for_changed(*due)
         browser.press('z', held=Keys.CONTROL)
         browser.wait('#announced', 'The last change to the script was not typed here.')
+        for left in ([16], [16, 17]):
+            browser.run(CONTROL_SHIFT_Z)
+            self.wait_for_changed(*left)
+        browser.press('y', held=Keys.CONTROL)
+        browser.wait('#announced', 'There are no bytes to redo.')
+
+    def test_undo_leads_to_the_sector_of_its_bytes(self) -> None:
+        browser = self.opened(file_of(discs.game()))
+        self.go_into(60)
+        browser.press('c', '0')
+        self.go_into(61)
+        browser.press('z', held=Keys.CONTROL)
+        browser.wait('#sector-title', '60')
+        browser.wait('#panel-disc .foot', 'offset 0')
 
     def test_a_byte_that_is_typed_twice_keeps_what_was_there_first(self) -> None:
         image = discs.game()

@@ -10,8 +10,7 @@ import { MOST_LINES, MOST_SHOWN, hasTooMany, isLong } from './script_long.js';
 /** @typedef {import('../../core/script/patches.js').Outcome} Outcome */
 /**
  * An edit: from line `at` on, the `removed` and the `inserted` lines, and the script's names before and after it. A typed
- * edit is joined to the previous one if that was typed in the same line and in the same way. `saved` says that the text after the edit is
- * in a file.
+ * edit is joined to the previous one if that was typed in the same line. `saved` says that the text after the edit is in a file.
  * @typedef {{ at: number, removed: string[], inserted: string[], names: string[], typed: Typed, saved: boolean }} Edit
  * How an edit was typed: in the line, as bytes of a sector, or not at all.
  * @typedef {'line' | 'bytes' | ''} Typed
@@ -188,7 +187,7 @@ export class ScriptLines extends ScriptModel {
     noteSaved() {
         if (this.long) this.long.saved = true;
         const last = this.done[this.done.length - 1];
-        if (last) Object.assign(last, { saved: true, typed: '' });
+        if (last) Object.assign(last, { saved: true, typed: last.typed === 'line' ? '' : last.typed });
     }
 
     /**
@@ -203,8 +202,8 @@ export class ScriptLines extends ScriptModel {
     edit(at, count, inserted, typed = '', name = this.name, known = null) {
         const removed = this.lines.slice(at, at + count).map(({ text }) => text);
         const last = this.done[this.done.length - 1];
-        const goesOn = last && last.typed === typed && last.at === at && last.inserted.length === 1 && count === 1 && inserted.length === 1;
-        if (typed && goesOn) last.inserted = inserted;
+        const isOne = last && last.at === at && last.inserted.length === 1 && count === 1 && inserted.length === 1;
+        if (isOne && typed === 'line' && last.typed === 'line') last.inserted = inserted;
         else this.done.push({ at, removed, inserted, names: [this.name, name], typed, saved: false });
         this.undone = [];
         this.name = name;

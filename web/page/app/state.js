@@ -12,6 +12,7 @@ import { Store } from './store.js';
 /** @typedef {import('../../core/tasks/convert.js').ConvertibleKind} ConvertibleKind */
 /** @typedef {import('../../core/tasks/opened.js').OpenedTrack} OpenedTrack */
 /** @typedef {import('./marks.js').SurveyMarks} SurveyMarks */
+/** @typedef {import('./script_lines.js').Edit} Edit */
 /** @typedef {import('./store.js').RunningJob} RunningJob */
 /** @typedef {import('../ui/fill.js').Child} Child */
 
@@ -56,11 +57,11 @@ import { Store } from './store.js';
 
 /**
  * Services of parts of the page for all others: `open` opens files, as if they were dropped; `choose` lets the user choose them;
- * `dropSays` returns the text on what happens to files that are dropped; `takeBackBytes` undoes the bytes typed last in a sector, if
- * possible; `saveScript` saves the script in a file; `list` lists what is found in files with different names; `convert` offers to convert
- * a file to a raw image.
+ * `dropSays` returns the text on what happens to files that are dropped; `turnBytes` undoes the last edit of the script, or redoes the one
+ * that was undone last, if bytes of a sector were typed by it, and returns it; `saveScript` saves the script in a file; `list` lists what
+ * is found in files with different names; `convert` offers to convert a file to a raw image.
  * @typedef {{ open: (files: File[], aim: Aim) => Promise<void>, choose: (aim: Aim) => void, dropSays: () => Child[],
- *     takeBackBytes: () => boolean, saveScript: () => void, list: (files: File[]) => void,
+ *     turnBytes: (way: 'undo' | 'redo') => Edit | null, saveScript: () => void, list: (files: File[]) => void,
  *     convert: (file: DiscFile, kind: ConvertibleKind) => void }} Services
  */
 
@@ -92,9 +93,13 @@ export class App extends Store {
         this.services.choose(aim);
     }
 
-    /** Undoes the bytes typed last in a sector, if possible. */
-    takeBackBytes() {
-        return this.services.takeBackBytes();
+    /**
+     * Undoes the bytes typed last in a sector, or redoes those that were undone last. Returns the edit; null if the last edit of the script
+     * was a different one.
+     * @param {'undo' | 'redo'} way
+     */
+    turnBytes(way) {
+        return this.services.turnBytes(way);
     }
 
     /**

@@ -72,7 +72,7 @@ export class Store {
         /** Ends the jobs with the second image. */
         this.pairing = new AbortController();
         /** @type {Services} */
-        this.services = { open: async () => {}, choose: () => {}, dropSays: () => [], takeBackBytes: () => false, saveScript: () => {},
+        this.services = { open: async () => {}, choose: () => {}, dropSays: () => [], turnBytes: () => null, saveScript: () => {},
             list: () => {}, convert: () => {} };
         this.takers = /** @type {Taker[]} */ ([]);
         /** The time of the last `survey` event, in milliseconds. */

@@ -19,9 +19,11 @@ export class ByteField {
         this.label = element('label', { for: 'new-bytes' });
         this.input = element('input', { type: 'text', id: 'new-bytes', class: 'mono', autocomplete: 'off', autocapitalize: 'off',
             spellcheck: 'false' });
-        this.undo = button('', () => this.takeBack(), texts.undo);
+        this.undo = button('', () => this.turnBack('undo'), texts.undo);
+        this.redo = button('', () => this.turnBack('redo'), texts.redo);
         this.part = element('form', { class: 'byte-field', submit: event => this.change(event) }, this.label,
-            element('div', { class: 'row' }, this.input, element('button', { class: 'btn' }, texts.sectorChangeBytes), this.undo));
+            element('div', { class: 'row' }, this.input, element('button', { class: 'btn' }, texts.sectorChangeBytes), this.undo,
+                this.redo));
     }
 
     /**
@@ -34,8 +36,9 @@ export class ByteField {
         if (shown === null) return;
         const place = placeName(shown, view.selection().first);
         fill(this.label, format(column === 'text' ? texts.sectorNewTextFrom : texts.sectorNewBytesFrom, { place }));
-        const { app: { script: { done } }, typing } = this.edit;
-        this.undo.hidden = typing.block !== shown.block || done[done.length - 1]?.typed !== 'bytes';
+        const { done, undone } = this.edit.app.script;
+        this.undo.hidden = done[done.length - 1]?.typed !== 'bytes';
+        this.redo.hidden = undone[undone.length - 1]?.typed !== 'bytes';
     }
 
     /** @param {Event} event */
@@ -46,8 +49,9 @@ export class ByteField {
         else this.foot.scrollIntoView({ block: 'nearest' });
     }
 
-    takeBack() {
-        if (this.edit.view) this.edit.takeBack(this.edit.view);
+    /** @param {'undo' | 'redo'} way */
+    turnBack(way) {
+        if (this.edit.view) this.edit.turnBack(this.edit.view, way);
         this.input.focus();
     }
 }

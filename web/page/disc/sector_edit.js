@@ -2,7 +2,7 @@
 
 import { encodeText } from '../../core/encodings/views.js';
 import { bytesOfHex } from '../../core/hex_digits.js';
-import { SECTOR_SIZE } from '../../core/module/index.js';
+import { SECTOR_SIZE, USER_SIZE } from '../../core/module/index.js';
 import { USER_OFFSET } from '../../core/sectors/views.js';
 import { charactersFrom } from '../../core/texts/views.js';
 import { ownFault } from '../../sentences/index.js';
@@ -93,9 +93,11 @@ export class SectorEdit {
     pressed(view, at, event) {
         const key = event.key.length === 1 && !event.isComposing ? event.key : '';
         if (event.ctrlKey || event.metaKey) {
-            if (event.shiftKey || !['z', 'a'].includes(key.toLowerCase())) return;
-            if (key.toLowerCase() === 'a') view.selectAll();
-            else this.takeBack(view);
+            const way = `${event.shiftKey ? 'shift ' : ''}${key.toLowerCase()}`;
+            if (way === 'a') view.selectAll();
+            else if (way === 'z') this.turnBack(view, 'undo');
+            else if (way === 'y' || way === 'shift z') this.turnBack(view, 'redo');
+            else return;
         } else if (event.key === 'Escape') this.escape(view);
         else if (event.key === 'PageDown' || event.key === 'PageUp') this.page(view, at, event.key === 'PageDown' ? 1 : -1);
         else if (view.column === 'text' && key !== '') this.write(() => this.encoded(key));
@@ -131,16 +133,23 @@ export class SectorEdit {
     }
 
     /**
-     * Undoes the digit or the bytes typed last.
+     * Undoes the digit or the bytes typed last, or redoes the bytes that were undone last, and shows their place.
      * @param {HexView} view
+     * @param {'undo' | 'redo'} way
      */
-    takeBack(view) {
+    turnBack(view, way) {
         const { app, digit, typing } = this;
         this.digit = '';
         if (digit !== '') return this.changed();
-        const done = app.takeBackBytes();
-        if (done && typing.block === app.place.block) view.moveTo(USER_OFFSET + typing.offset);
-        return announce(done ? texts.sectorBytesTakenBack : texts.sectorNotTypedHere);
+        const edit = app.turnBytes(way);
+        if (edit === null) return announce(way === 'undo' ? texts.sectorNotTypedHere : texts.sectorNothingToRedo);
+        const place = typing.continueFrom(edit, way);
+        if (place !== null) {
+            const offset = way === 'undo' ? place.first : Math.min(place.end, USER_SIZE - 1);
+            if (place.block === app.place.block) view.moveTo(USER_OFFSET + offset);
+            else app.goTo(place.block, offset);
+        }
+        return announce(way === 'undo' ? texts.sectorBytesTakenBack : texts.sectorBytesRedone);
     }
 
     /** @param {string} digit of a byte */

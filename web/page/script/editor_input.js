@@ -88,14 +88,16 @@ export function turnBack(editor, line) {
 }
 
 /**
- * Undoes the last change if it was typing bytes into a sector. Returns whether it was.
+ * Undoes the last change, or redoes the one that was undone last, if it was typing bytes into a sector. Returns it, or null if it was not.
  * @param {ScriptEditor} editor
+ * @param {'undo' | 'redo'} way
  */
-export function takeBackBytes(editor) {
-    const { done } = editor.lines;
-    const isLast = done.length > 0 && done[done.length - 1].typed === 'bytes';
-    if (isLast) turnBack(editor, editor.lines.undo());
-    return isLast;
+export function turnBytes(editor, way) {
+    const { lines } = editor;
+    const edit = (way === 'undo' ? lines.done : lines.undone).slice(-1)[0];
+    if (edit === undefined || edit.typed !== 'bytes') return null;
+    turnBack(editor, way === 'undo' ? lines.undo() : lines.redo());
+    return edit;
 }
 
 /**

@@ -10,7 +10,7 @@ import { askBeforeLeaving, askUser, button, byId, clearNotices, copyButton, elem
 import { messageArea, nameOf, notice, showNotice } from '../ui/index.js';
 import { CheckCard } from './check_card.js';
 import { ScriptEditor } from './editor.js';
-import { listenToEditor, takeBackBytes, turnBack } from './editor_input.js';
+import { listenToEditor, turnBack, turnBytes } from './editor_input.js';
 import { explainLine } from './explain.js';
 import { textsOfLine } from './line_parts.js';
 import { helpOfFault, helpOfRefusal } from './plain_words.js';
@@ -70,7 +70,7 @@ class ScriptPanel {
     listen() {
         const { app } = this;
         askBeforeLeaving(() => this.isLost(), texts.scriptIsNotSaved, () => this.save());
-        app.serve({ takeBackBytes: () => takeBackBytes(this.editor), saveScript: () => this.save() });
+        app.serve({ turnBytes: way => turnBytes(this.editor, way), saveScript: () => this.save() });
         app.on('line', line => this.goTo(line));
         app.on('check', () => void this.check.checkAtOnce());
         app.on('script', change => change && this.load(change.back));

@@ -15,6 +15,7 @@ export const copied = 'Copied';
 export const notCopied = 'Not copied';
 export const copyCommand = 'Copy the command';
 export const undo = 'Undo';
+export const redo = 'Redo';
 export const theRowsOf = ' the rows: {title}';
 
 // names, and the progress of a job
@@ -130,7 +131,7 @@ export const KEYS = [
     ['', 'Sector'], ['`←` `→` `↑` `↓`', 'one byte, one row'], ['`0` to `9`, `A` to `F`', 'change the byte: a patch in the script'],
     ['`T`', 'type text; Esc goes back to digits'], ['`Shift`+`arrows`, `Ctrl`+`A`', 'select'],
     ['`Ctrl`+`C`, `Ctrl`+`V`', 'copy, paste: digits, or text in its column'],
-    ['`Ctrl`+`Z`', 'undo the last typed bytes'],
+    ['`Ctrl`+`Z`, `Ctrl`+`Y`', 'undo, redo what was typed, byte by byte'],
     ['`Page Up`, `Page Down`', 'one screen; past the end, the next sector'], ['`Esc`', 'back to the map'],
     ['', 'Script'], ['`Ctrl`+`Enter`, `Ctrl`+`S`', 'Check, save (on a Mac ⌘ for Ctrl)'],
     ['`F8`, `Shift`+`F8`', 'next, previous error or refusal'],
@@ -536,6 +537,8 @@ export const sectorOnlyModeOneChanges = 'Only Mode 1 sectors can be changed.';
 export const sectorBytesCopied = 'Copied {n} byte|Copied {n} bytes';
 export const sectorInTheScript = 'In the script: {line}';
 export const sectorBytesTakenBack = 'The last typed bytes were undone.';
+export const sectorBytesRedone = 'The bytes that were undone last are in the script again.';
+export const sectorNothingToRedo = 'There are no bytes to redo.';
 export const sectorNotTypedHere = 'The last change to the script was not typed here.';
 export const sectorOnlyUserDataTyped = 'Only the user data of Mode 1 sectors can be edited.';
 export const sectorTooManyBytes = 'These are {n} bytes, but there is room for only {room} here in the user data of this sector.';
