@@ -249,6 +249,32 @@ class TextsTable(PageTest):
         corrected = self.table(image, {2: 'The game starts.', 3: 'Save?', 4: 'No sign.', 5: 'Too long.'})
         self.assertEqual(sorted(self.script_text().splitlines()), sorted(common.cdscript_prints('replace', image, '--list', corrected).splitlines()))
 
+    def test_equal_rows_are_corrected_together(self) -> None:
+        places = [20 * i for i in range(5)]
+        image = self.begin(common.image_of([b'', b''.join((discs.START if at else b'another').ljust(20, b'\0') for at in places)]))
+        table = image.with_name('mine.tsv')
+        rows = [f'1\t{at}\tスタート\tmuch too long for it\n' for at in places]
+        table.write_text('block\toffset\ttext\tnew\n' + ''.join(rows) + '1\t100\tはじめ\tmuch too long for it\n')
+        self.give(table)
+        self.browser.wait('#panel-text h2', '6 rows do not fit')
+        self.press('3')
+        self.browser.wait('#panel-text h2', 'Correct row 3')
+        self.browser.type('#row-text', 'Start')
+        self.press('Only this row')
+        self.browser.wait('#panel-text .say.good', '1 line added to the script.')
+        self.browser.wait('#panel-text h2', '5 rows do not fit')
+        self.browser.wait('#panel-text h2', 'Correct row 4')
+        self.browser.type('#row-text', 'Begin')
+        self.browser.wait('#panel-text button', 'Add for all 4 equal rows')
+        self.browser.press(Keys.ENTER)
+        self.browser.wait('#panel-text .say.warn', '3 lines added to the script.')
+        self.browser.wait('#panel-text .say.warn', '1 equal row still does not fit:')
+        self.browser.wait('#panel-text h2', '2 rows do not fit')
+        self.browser.click('#tab-script')
+        lines = [f"set 1 {at} {word.ljust(8).hex().upper()} was {discs.START.hex().upper()}"
+                 for at, word in ((20, b'Start'), (40, b'Begin'), (60, b'Begin'), (80, b'Begin'))]
+        self.assertEqual(sorted(self.script_text().splitlines()), sorted(['cdpatch 1', *lines]))
+
     def test_a_corrected_row_never_writes_over_the_text_of_another_row(self) -> None:
         image = self.begin(common.image_of([b'', 'はじめからスタート'.encode('cp932') + b'\0' * 20]))
         table = image.with_name('mine.tsv')

@@ -49,7 +49,7 @@ export class LeftRows {
         this.ended = ended;
         this.left = /** @type {Left | null} */ (null);
         this.chosen = 0;
-        this.row = new RowCard(row => void this.add(row), () => void this.choose(this.chosen + 1));
+        this.row = new RowCard((row, all) => void this.add(row, all), () => void this.choose(this.chosen + 1));
         this.around = new AroundCard(app);
         this.list = element('div', { class: 'side' });
         this.part = element('div', { class: 'two even', hidden: true }, this.list,
@@ -105,7 +105,7 @@ export class LeftRows {
         const { text: row } = rows[this.chosen];
         const found = await roomInTrack(image.opened, row, options).catch(error => error);
         if (this.left !== left || rows[this.chosen].text !== row) return;
-        this.row.show(row, found);
+        this.row.show(row, found, this.equalRows().length);
         await this.showPlace(image, row);
     }
 
@@ -137,31 +137,59 @@ export class LeftRows {
         }
     }
 
+    /** The rows with the same texts as the chosen one, which is one of them. */
+    equalRows() {
+        const rows = this.left === null ? [] : this.left.rows;
+        const { text, fresh, encoding, fill: own } = rows[this.chosen].text;
+        return rows.filter(({ text: it }) => it.text === text && it.fresh === fresh && it.encoding === encoding && it.fill === own);
+    }
+
     /**
      * Adds the lines of a corrected row to the script, and shows the next row.
      * @param {ListRow} row
+     * @param {boolean} all whether rows with the same texts are corrected too, as far as they then fit
      */
-    async add(row) {
+    async add(row, all) {
         const { app, left, chosen } = this;
         if (left === null) return;
         const say = (/** @type {HTMLElement} */ words) => showMessageAt(this.row.message, words);
+        const rows = all ? this.equalRows() : [left.rows[chosen]];
+        const fresh = rows.map(({ text }) => ({ ...text, fresh: row.fresh }));
         try {
-            const { script, left: [other] } = await importRows(app, left.image.opened, [row], left.options);
-            if (other) return say(notice('bad', `${capital(remarkText(other.why))}.`, texts.discNothingAdded));
+            const { script, left: others } = await importRows(app, left.image.opened, fresh, left.options);
+            const why = others.map(it => `${capital(remarkText(it.why))}.`)[0] || '';
+            if (others.length === rows.length) return say(notice('bad', why, texts.discNothingAdded));
             const line = lineBeside(app, script);
             if (line > 0) return say(notice('bad', format(texts.textLineWritesHere, { line: String(line) }), texts.discNothingAdded));
             const made = await rowsMerged(app, left.image, script);
             if (made === null || this.left !== left) return undefined;
-            left.rows.splice(chosen, 1);
-            if (left.rows.length === 0) {
-                this.show(null);
-                return this.ended();
-            }
-            say(notice('good', mergedWords(made.merged)));
+            this.leave(left, rows, others);
+            if (left.rows.length === 0) return this.end();
+            const rest = others.length === 0 ? '' : `${format(texts.textEqualRowsLeft, { n: others.length })} ${why}`;
+            say(notice(rest === '' ? 'good' : 'warn', mergedWords(made.merged), rest));
             await this.choose(chosen);
             return this.row.input.focus();
         } catch (error) {
             return say(notice('bad', sentence(error), texts.discNothingAdded));
         }
+    }
+
+    /**
+     * Removes rows that were corrected. Those that still do not fit stay, with the new reasons.
+     * @param {Left} left
+     * @param {LeftRow[]} rows
+     * @param {LeftRow[]} others the rows of them that do not fit, as they were corrected
+     */
+    leave(left, rows, others) {
+        const keyOf = (/** @type {LeftRow} */ { text: { number, block, offset } }) => [number, block, offset].join();
+        const again = new Map(others.map(it => [keyOf(it), it]));
+        const corrected = new Set(rows);
+        left.rows = left.rows.flatMap(it => corrected.has(it) ? again.get(keyOf(it)) || [] : it);
+    }
+
+    /** Says that no row is left. */
+    end() {
+        this.show(null);
+        this.ended();
     }
 }

@@ -689,6 +689,9 @@ export const textOldText = 'Old text';
 export const textRoomFor = '{bytes}: there is room for {size}';
 export const textCorrectInTable = 'A different new text does not help: correct this row in your table.';
 export const textAddRow = 'Add to the script';
+export const textAddEqualRows = 'Add for this {n} row|Add for all {n} equal rows';
+export const textAddOnlyRow = 'Only this row';
+export const textEqualRowsLeft = '{n} equal row still does not fit:|{n} equal rows still do not fit:';
 export const textAllRowsAdded = 'All translations are in the script now.';
 
 // ---- script: editor and check
