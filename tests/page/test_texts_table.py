@@ -78,6 +78,7 @@ class TextsTable(PageTest):
         self.browser.wait('#panel-text .say.good', ' characters are in no old text: S T a')
         written = common.cdscript_prints('replace', image, '--list', table)
         self.press('Open Script')
+        self.browser.wait('#panel-script .say.good', '3 patches, which all match game.bin')
         self.assertEqual(self.script_text(), written)
         self.press('Apply and save')
         self.assertEqual(self.browser.downloaded('game (patched).bin').read_bytes(), applied(image, discs.written(script=written)['script'])[2])

@@ -167,6 +167,11 @@ export class App extends Store {
         this.notify('check');
     }
 
+    /** Checks a script on the open image after a change by another panel, which stays. The panel Script has the result when it is shown. */
+    checkAfterChange() {
+        if (this.script.patches > 0 || this.script.long !== null) this.notify('check');
+    }
+
     /** Ends the jobs with the second image. */
     endPairing() {
         this.pairing.abort();

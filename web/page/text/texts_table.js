@@ -180,6 +180,7 @@ export class TextsTable {
             const made = await importTable(app, image.opened, { ...options, lists, isAlso }, { signal, progress: bar.things });
             const lines = await rowsMerged(app, image, made.script, signal);
             if (lines === null) return null;
+            app.checkAfterChange();
             const withdrawn = await withdrawnLines(app, linesMade(made.old), lines.incoming, signal);
             await this.left.show({ image, name: file.name, rows: made.left, options });
             return this.madeNotice(made, lines.merged, withdrawn);
@@ -215,6 +216,7 @@ export class TextsTable {
 
     /** Says that all rows that did not fit are in the script. */
     ended() {
+        this.app.checkAfterChange();
         const script = this.scriptButton();
         fill(this.message, notice('good', texts.textAllRowsAdded, element('div', { class: 'row' }, script)));
         script.focus();
