@@ -24,6 +24,11 @@ BESIDE = '''const { bottom } = document.querySelector('[data-aim=play]').getBoun
 TOP = 'return Math.round(document.querySelector(arguments[0]).getBoundingClientRect().top)'
 
 
+# Counts how often the line under the bytes is spoken.
+WATCHED = '''globalThis.spokenLines = 0;
+    new MutationObserver(() => { spokenLines += 1; }).observe(document.querySelector('#panel-disc .card > div > [aria-live=polite]'), { childList: true })'''
+
+
 class Access(States):
     def has_focus(self) -> str:
         return str(self.browser.run(HAS_FOCUS))
@@ -87,6 +92,19 @@ class Access(States):
         self.to_second_repair()
         self.browser.press(Keys.TAB)
         self.assertEqual(self.has_focus(), 'Save repaired image…')
+
+    def test_the_line_under_the_bytes_is_spoken_after_a_pause(self) -> None:
+        self.begin(discs.game())
+        self.browser.click('#tab-disc')
+        self.go_into(discs.first_block())
+        spoken = "return document.querySelector('#panel-disc .card > div > [aria-live=polite]').textContent"
+        waited(lambda: 'offset 0' in self.browser.run(spoken), 'the line is not spoken')
+        self.browser.run(WATCHED)
+        for _ in range(6):
+            self.browser.press(Keys.ARROW_RIGHT)
+        waited(lambda: 'offset 6' in self.browser.run(spoken), 'the line is not spoken again')
+        self.assertEqual(self.browser.run('return spokenLines'), 1)
+        self.assertEqual(self.browser.run("return document.querySelector('#panel-disc .foot').closest('[aria-live]')"), None)
 
     def test_a_file_is_extracted_by_the_keyboard_alone(self) -> None:
         self.begin(discs.game())

@@ -100,7 +100,7 @@ class Lists(PageTest):
         self.assertEqual(self.lines(), scanned(paths, '--dat', dat))
         self.assertIn('Game (Japan).bin', self.browser.run(CELLS, 'mode1.bin')[-1])
         self.open_files(other)
-        self.browser.wait('#start-message .say.good', 'The images of the list are looked up in it.')
+        self.browser.wait('#messages .say.good', 'The images of the list are looked up in it.')
         due = scanned(paths, '--dat', dat, '--dat', other)
         self.assertTrue([line for line in due if 'verified Sound.bin' in line], due)
         self.assertEqual(self.lines(), due)

@@ -1,6 +1,7 @@
 """Each state of the page (tests/page/states.py) is usable by everyone: at three widths, and at a zoom of 200 %, it ends with its footer and
-nothing is cut off; a finger meets each control; each control has a name in the accessibility tree; a list is one Tab stop; the focused
-element is visible and has a ring; no text is too faint in either scheme; in forced colours, chosen controls and signs differ from others.
+nothing is cut off; a finger meets each control; each control and table has a name in the accessibility tree; headings are in order; a list
+is one Tab stop; the focused element is visible and has a ring; no text is too faint in either scheme; in forced colours, chosen controls
+and signs differ from others.
 
 If PICTURES is set to a directory, each state is drawn there at three widths in both schemes.
 """
@@ -81,7 +82,11 @@ ALIKE = '''const seen = it => it.checkVisibility();
 
 # Roles that need a name: controls, and elements that a screen reader lists by name.
 NAMED = {'button', 'link', 'tab', 'textbox', 'searchbox', 'combobox', 'checkbox', 'radio', 'slider', 'spinbutton', 'listbox', 'option', 'dialog',
-         'tablist', 'progressbar', 'heading', 'image', 'group', 'region', 'DisclosureTriangle'}
+         'tablist', 'progressbar', 'heading', 'image', 'group', 'region', 'table', 'DisclosureTriangle'}
+
+# The levels of the visible headings outside a dialog.
+HEADINGS = '''return [...document.querySelectorAll('h1, h2, h3, h4')].filter(it => it.checkVisibility() && !it.closest('dialog, [popover]'))
+    .map(it => Number(it.localName[1]))'''
 
 
 class State(States):
@@ -98,6 +103,12 @@ class State(States):
             own = [by_id[child] for child in tabs['childIds'] if child in by_id]
             chosen = [tab for tab in own if any(it['name'] == 'selected' and it['value']['value'] for it in tab.get('properties', []))]
             self.assertEqual(len(chosen), 1, tabs['name']['value'])
+
+    def judge_headings(self) -> None:
+        """Checks that there is one main heading, the first, and that no level is left out."""
+        levels = self.browser.run(HEADINGS)
+        self.assertEqual([i for i, level in enumerate(levels) if level == 1], [0], levels)
+        self.assertTrue(all(level - before <= 1 for before, level in zip(levels, levels[1:])), levels)
 
     def judge_stops(self, most: int) -> None:
         """Checks that a list is one stop, that each stop is visible and has a ring, and that there are few."""
@@ -138,6 +149,7 @@ class State(States):
             self.browser.pictures(Path(os.environ['PICTURES']), name)
         self.judge_colours()
         self.judge_tree()
+        self.judge_headings()
         self.judge_stops(MOST_STOPS.get(name.split('_')[0], MOST_OF_OTHERS))
 
 

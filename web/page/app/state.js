@@ -45,9 +45,10 @@ import { Store } from './store.js';
  * The script has changed (`script`, with a function `back` that restores the last one if that is not saved, or with null if a line was
  * typed in the panel Script), or is to be checked (`check`). One of its lines was chosen (`line`, from 0). The encoding was chosen, or a
  * table was loaded (`encoding`). A job began, has done more, or ended (`jobs`). No image is being saved any more (`saved`).
- * A list of known dumps was loaded (`dumps`). A different panel is shown (`panel`). The data of a patcher are to be edited (`patcher`).
+ * A list of known dumps was loaded (`dumps`). A different panel is shown (`panel`). The list of files was shown or closed (`listed`). The
+ * data of a patcher are to be edited (`patcher`).
  * @typedef {'image' | 'closed' | 'survey' | 'surveyed' | 'hash' | 'files' | 'second' | 'repair' | 'place' | 'script' | 'check' | 'line' |
- *     'encoding' | 'jobs' | 'saved' | 'dumps' | 'panel' | 'patcher'} Happening
+ *     'encoding' | 'jobs' | 'saved' | 'dumps' | 'panel' | 'listed' | 'patcher'} Happening
  */
 
 /**

@@ -50,7 +50,7 @@ export class FilesList {
             ...this.jobs.parts);
         this.table = element('tbody');
         this.head = element('tr');
-        this.part = element('table', { class: 'files' }, element('thead', {}, this.head), this.table);
+        this.part = element('table', { class: 'files', 'aria-label': texts.discFilesTab }, element('thead', {}, this.head), this.table);
     }
 
     /** @param {boolean} looked whether the files of the open image were looked for */

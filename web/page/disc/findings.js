@@ -121,18 +121,19 @@ export class Findings {
             element('th', { class: 'n' }, texts.discSectorsColumn), element('th', {}, texts.discWhatColumn),
             element('th', {}, texts.discLooksLikeColumn));
         const rows = placesOf(survey.marks).flatMap(place => this.placeRows(survey, place));
-        this.fillTable('findings', head, rows);
+        this.fillTable('findings', texts.discFindingsTab, head, rows);
         fill(this.foot, element('span', {}, texts.discLooksLikeIsGuess));
     }
 
     /**
-     * Shows a table. If it was already shown, the focus or a press in it is not interrupted.
+     * Shows a table with a label. If it was already shown, the focus or a press in it is not interrupted.
      * @param {FindingsTab} name
+     * @param {string} label
      * @param {HTMLElement} head
      * @param {HTMLElement[]} rows
      */
-    fillTable(name, head, rows) {
-        fill(this.body, keyed(name, element('table', {}, element('thead', {}, head), element('tbody', {}, ...rows))));
+    fillTable(name, label, head, rows) {
+        fill(this.body, keyed(name, element('table', { 'aria-label': label }, element('thead', {}, head), element('tbody', {}, ...rows))));
     }
 
     /**
@@ -202,7 +203,7 @@ export class Findings {
             element('td', { class: 'n', 'data-l': texts.discSectorsLabel }, counted(last - first + 1)),
             element('td', {}, ...this.kindWords(first, kind)),
             element('td', { class: 'num', 'data-l': texts.discBeginsAtLabel }, addressWords(this.app, first))));
-        this.fillTable('runs', head, rows);
+        this.fillTable('runs', texts.discRunsTab, head, rows);
         const left = runs.length - rows.length;
         fill(this.foot, element('span', {}, left > 0 && `${format(texts.discMoreRuns, { n: left })} `, texts.discRunIsNeighbours));
     }

@@ -21,7 +21,7 @@ import { addressWords, sectorWords } from './sector_text.js';
  */
 export function mountDisc(app, panel) {
     const disc = new DiscPanel(app);
-    panel.append(element('h1', { class: 'hide' }, texts.discHeading), disc.part);
+    panel.append(disc.part);
     for (const name of /** @type {const} */ (['survey', 'panel'])) app.on(name, () => disc.drawMap());
     app.on('surveyed', () => disc.findings.draw());
     app.on('files', () => disc.takeFiles());

@@ -7,7 +7,7 @@ import { sectorOfSecond } from '../second/index.js';
 import { bindEncodings, chosenEncoding, encodingLabel } from '../text/index.js';
 import * as texts from '../texts/index.js';
 import { format, say } from '../texts/index.js';
-import { button, copyButton, element, fill, keysIn, nameOf, oneTabStop, showFailure, term } from '../ui/index.js';
+import { button, copyButton, element, fill, keysIn, nameOf, oneTabStop, showFailure, spokenLine, term } from '../ui/index.js';
 import { ByteField } from './byte_field.js';
 import { crossingsOf } from './crossings.js';
 import { USER_END, byteWords, digitsOf, placeName } from './hex_lines.js';
@@ -35,7 +35,8 @@ export class SectorCard {
         this.view = new HexView((at, event) => this.edit.pressed(this.view, at, event));
         this.view.hex.addEventListener('moved', () => { this.copied = ''; });
         this.edit.bind(this.view);
-        this.foot = element('p', { class: 'foot', 'aria-live': 'polite' });
+        this.foot = element('p', { class: 'foot' });
+        this.spoken = spokenLine(this.foot);
         this.field = new ByteField(this.edit, this.foot);
         this.view.hex.addEventListener('click', () => this.field.part.scrollIntoView({ block: 'nearest' }));
         this.view.hex.addEventListener('copy', () => this.sayCopied());
@@ -43,14 +44,15 @@ export class SectorCard {
         this.message = element('div');
         this.fields = element('div', { class: 'fields', role: 'group', 'aria-label': texts.sectorPressFieldToGo });
         this.keys = element('p', { class: 'small quiet keys-line if-mouse' });
-        const copies = element('div', { class: 'row copies' }, copyButton('slim bare tiny', () => this.edit.selectedHex(),
-            texts.sectorCopyAsHex),
+        const copies = element('div', { class: 'row copies' },
+            copyButton('slim bare tiny', () => this.edit.selectedHex(), texts.sectorCopyAsHex),
             copyButton('slim bare tiny', () => this.edit.selectedText(), texts.sectorCopyAsText));
         this.goTo = element('input', { type: 'text', id: 'go-to', class: 'num slim', inputmode: 'numeric', autocomplete: 'off' });
         this.noBlock = element('div');
         this.choice = element('select', { class: 'slim' });
         bindEncodings(app, this.choice, ({ hasCharacters }) => hasCharacters);
-        this.body = element('div', {}, this.message, this.fields, this.keys, this.view.part, copies, this.field.part, this.foot);
+        this.body = element('div', {}, this.message, this.fields, this.keys, this.view.part, copies, this.field.part, this.foot,
+            this.spoken.part);
         this.empty = element('p', { class: 'pad quiet' }, ...say(texts.sectorHowToOpenSector,
             { tab: element('kbd', {}, texts.sectorTabKey), enter: element('kbd', {}, texts.sectorEnterKey) }));
         this.part = element('section', { class: 'card', 'aria-labelledby': 'sector-title' },
@@ -204,6 +206,7 @@ export class SectorCard {
         const unchanged = shown.mode1 ? texts.sectorEdcFollowsFromData : texts.sectorOnlyModeOneChanges;
         const hint = isUser ? `${texts.sectorChangeIsLine}${this.damageHint()}` : unchanged;
         fill(this.foot, fault !== '' && element('b', { class: 'bad-ink' }, fault), ...parts, element('span', {}, hint));
+        this.spoken.changed();
     }
 
     /** @param {boolean} isUser whether the chosen byte can be typed over */

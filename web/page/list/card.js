@@ -41,7 +41,8 @@ class FileList {
         const head = element('tr', {}, element('th', {}, texts.textColumnFile), element('th', {}, capital(texts.discSectorsLabel)),
             ...NUMBERS.map(({ label }) => element('th', { class: 'n' }, capital(label))), element('th', {}, 'SHA-1'),
             element('th', {}, 'DAT'));
-        const table = element('div', { class: 'scroll fit' }, element('table', {}, element('thead', {}, head), this.rows));
+        const table = element('div', { class: 'scroll fit' },
+            element('table', { 'aria-label': texts.listTitle }, element('thead', {}, head), this.rows));
         oneTabStop(table, 'tbody button');
         fill(this.part, element('header', {}, element('h2', {}, texts.listTitle),
             copyButton('slim bare', () => this.text(), texts.textCopyAsTable), button('slim', () => this.save(), texts.listSave),
@@ -53,6 +54,7 @@ class FileList {
 
     show() {
         this.part.hidden = this.found.length === 0 && this.job.childElementCount === 0 || this.app.panel !== 'disc';
+        this.app.notify('listed');
     }
 
     /** The lists of known dumps in one, null if there is none. */

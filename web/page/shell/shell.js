@@ -1,10 +1,14 @@
 // The frame around the panels: the tabs, the notes, and the keys that work everywhere.
 
 import { PANELS } from '../app/index.js';
+import * as texts from '../texts/index.js';
 import { byId, endMessages, endSavingNotices, escapeJob, oneTabStop, setAttribute } from '../ui/index.js';
 
 /** @typedef {import('../app/state.js').App} App */
 /** @typedef {import('../app/state.js').PanelName} PanelName */
+
+/** @type {Record<PanelName, string>} */
+const HEADINGS = { disc: texts.frameDiscTab, text: texts.frameTextTab, script: texts.frameScriptTab, publish: texts.framePublishTab };
 
 /** @param {App} app */
 export function mountFrame(app) {
@@ -13,7 +17,7 @@ export function mountFrame(app) {
     const frame = { started: false, panel: app.panel };
     app.on('saved', endSavingNotices);
     app.on('closed', () => { frame.started = false; });
-    for (const name of /** @type {const} */ (['panel', 'image'])) app.on(name, () => showPanels(app, frame));
+    for (const name of /** @type {const} */ (['panel', 'image', 'listed'])) app.on(name, () => showPanels(app, frame));
     app.on('panel', () => panelComes(app, frame));
     byId('home').addEventListener('click', () => app.showPanel('disc'));
     document.addEventListener('keydown', pressed);
@@ -43,17 +47,20 @@ function panelOfTab(tab) {
 }
 
 /**
- * Shows the chosen panel. Without an open image, the start is shown instead of the Disc panel. Until there has been a script or an image,
- * it is shown instead of any panel.
+ * Shows the chosen panel under its heading for screen readers. Without an open image, the list of files or the start, which has a heading
+ * of its own, is shown instead of the Disc panel, and instead of any panel until there has been a script or an image.
  * @param {App} app
  * @param {{ started: boolean }} frame
  */
 function showPanels(app, frame) {
     frame.started = frame.started || app.image !== null || !app.script.isNew() || app.script.name !== '';
     const { started } = frame;
-    byId('start').hidden = app.image !== null || (started && app.panel !== 'disc');
+    const isListed = !byId('list').hidden;
+    byId('start').hidden = app.image !== null || isListed || (started && app.panel !== 'disc');
+    byId('heading').hidden = !byId('start').hidden;
+    byId('heading').textContent = isListed && app.image === null ? texts.listTitle : HEADINGS[app.panel];
     byId('tabs').hidden = !started;
-    byId('open-other').hidden = !started;
+    byId('open-other').hidden = !started && !isListed;
     byId('disc-line').hidden = app.image === null;
     for (const name of PANELS) {
         const shown = started && name === app.panel && (name !== 'disc' || app.image !== null);

@@ -58,7 +58,8 @@ export class HitsCard {
         this.search = search;
         this.shown = ROWS_SHOWN;
         this.contexts = new Map();
-        const head = element('header', {}, element('h2', {}, format(texts.textHitsFound, { n: search.count })),
+        const title = format(texts.textHitsFound, { n: search.count });
+        const head = element('header', {}, element('h2', {}, title),
             element('span', { class: 'small quiet' }, format(texts.textFoundInSeconds, { seconds: search.seconds.toFixed(1) })),
             search.count > search.hits.length && element('span', { class: 'tag warn' },
                 format(texts.textOnlyFirstListed, { n: search.hits.length })),
@@ -68,7 +69,7 @@ export class HitsCard {
         const columns = element('tr', {}, column('n', term('block', texts.textColumnBlock)), column('n', term('offset',
             texts.textColumnOffset)),
             column('', texts.textColumnFile), column('', texts.textColumnContext));
-        const table = element('table', { class: 'hits' }, element('thead', {}, columns), this.body);
+        const table = element('table', { class: 'hits', 'aria-label': title }, element('thead', {}, columns), this.body);
         fill(this.card, head, element('div', { class: 'scroll fit' }, table), this.more());
         this.draw();
     }

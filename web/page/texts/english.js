@@ -286,7 +286,6 @@ export const imageCloseAnyway = 'Close it anyway';
 
 // ---- disc: map, findings, files
 
-export const discHeading = 'Disc';
 
 // the map
 export const discMapOfDisc = 'Map of the disc';

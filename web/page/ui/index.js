@@ -11,6 +11,7 @@ export { messageArea, messageParts, notice, refuseWhileSaving } from './notices.
 export { sentence, showFailure, showMessageAt, showNotice, verdictLine } from './notices.js';
 export { drawLongJobs, escapeJob, jobBar, jobEnd, megabytes, megabytesDone, sayBusy, timeLeft } from './progress.js';
 export { askUser } from './sheet.js';
+export { spokenLine } from './spoken_line.js';
 export { countsRow, tableCard } from './stat_row.js';
 export { oneTabStop } from './tab_groups.js';
 export { nextTurn } from './turns.js';

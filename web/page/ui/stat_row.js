@@ -22,7 +22,7 @@ export function countsRow(counts) {
  * @param {import('./fill.js').Child} [more] beside the copy button
  */
 export function tableCard(title, head, rows, text, foot, more = null) {
-    const table = element('table', {}, element('thead', {}, head), element('tbody', {}, ...rows));
+    const table = element('table', { 'aria-label': title }, element('thead', {}, head), element('tbody', {}, ...rows));
     const part = element('div', { class: 'scroll fit' }, table);
     oneTabStop(part, 'tbody button');
     return element('section', { class: 'card', 'aria-label': title },
