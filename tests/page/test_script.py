@@ -118,6 +118,12 @@ class Script(PageTest):
         self.assertEqual(common.waited(saved.read_text, 'the cue sheet is empty'), wanted)
 
     def test_carry_patches_damaged_sectors_too(self) -> None:
+        box = "return document.querySelector('#panel-script input[type=checkbox]') !== null"
+        self.open_both(discs.game(), discs.script())
+        self.press('Check')
+        self.browser.wait('#panel-script .verdict', 'match')
+        self.assertFalse(self.browser.run(box), 'carry is offered for a sound image')
+        self.setUp()
         files = self.open_both(discs.scratched(), discs.script())
         self.press('Check')
         self.browser.wait('#panel-script .verdict', ', 1 does not.')

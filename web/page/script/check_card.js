@@ -94,7 +94,13 @@ export class CheckCard {
         for (const it of [check, apply]) setDisabled(it, !ready);
         const parts = lines.faults > 0 ? [this.faults()] : this.outcomes(apply);
         const row = element('div', { class: 'row' }, check, !this.patched && apply);
-        return fill(this.body, this.failure, ...parts, this.carryRow, row, element('p', { class: 'small quiet' }, ...this.footnote(ready)));
+        return fill(this.body, this.failure, ...parts, this.isCarryAsked() && this.carryRow, row,
+            element('p', { class: 'small quiet' }, ...this.footnote(ready)));
+    }
+
+    /** Whether damaged sectors can be patched too: Check has found that some refuse a patch, or it is chosen. */
+    isCarryAsked() {
+        return this.carry.checked || (this.patched !== null && this.patched.outcomes.some(({ result }) => result === RESULT.DAMAGED));
     }
 
     /** The button that saves. It is the main button only if all patches match, and old bytes of the image show that. */
