@@ -72,7 +72,7 @@ class Disc(PageTest):
         """Opens these files in the new page, and waits until they have been read."""
         browser = self.browser
         browser.give('#files', paths)
-        browser.wait(f'{VERDICT} b[class$=-ink]')
+        browser.wait(f'{VERDICT} .verdict')
         return browser
 
     def place(self) -> str:
@@ -287,6 +287,7 @@ class Disc(PageTest):
         browser = self.opened(discs.written(game=discs.scratched())['game'])
         browser.wait('#disc-line .lead button', 'Repair from another dump')
         browser.wait('.sha1', sha1(discs.scratched()))
+        self.press('Details')
         browser.click('#disc-line .change')
         browser.type('#base', '100')
         browser.press(Keys.ENTER)
@@ -330,6 +331,7 @@ class Disc(PageTest):
         browser.give('#files', [file_of(discs.game() * 120)])
         browser.wait(VERDICT, 'Reading the disc')
         shown = browser.text(VERDICT)
+        self.press('Details')
         browser.run("globalThis.kept = ['.lead .btn', '.change'].map(it => document.querySelector(`#disc-line ${it}`)); kept[1].focus()")
         browser.run('letGo(4)')
         waited(lambda: browser.text(VERDICT) != shown, 'the disc is not read')

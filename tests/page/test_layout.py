@@ -15,9 +15,9 @@ from pages import PICKER, PageTest, patcher
 ALL_WIDTHS = (*WIDTHS, 640)
 LONG_NAME = f"Hoshizora Tantei - The Starlit Detective and the Case of the Missing Comet ({'Japan, ' * 4}Disc 1) (Rev 2) (Alt).bin"
 
-# The number of rows that the facts of the open image occupy, and the number of facts.
-FACTS = '''const dl = document.querySelector('#disc-line dl');
-    return [new Set([...dl.children].map(it => Math.round(it.getBoundingClientRect().top))).size, dl.children.length]'''
+# How high the line with the facts of the open image is, in lines of its text.
+FACTS = '''const line = document.querySelector('.disc-line'), { height } = line.getBoundingClientRect();
+    return Math.round((height - 16) / 20)'''
 
 
 class Layout(PageTest):
@@ -100,13 +100,30 @@ class Layout(PageTest):
 
     def test_a_long_name_leaves_room_for_the_facts_of_the_image(self) -> None:
         self.begin(discs.game())
-        for panel, fact in (('disc', 'Mode 1'), ('script', 'SHA-1')):
+        for panel in ('disc', 'script'):
+            self.browser.size(1280)
             self.browser.click(f'#tab-{panel}')
-            self.browser.wait('#disc-line dl', fact)
-            for width, most in ((1280, 1), (900, 1), (640, 2), (360, 3)):
+            self.browser.wait('#disc-line dl', 'SHA-1')
+            for width, most in ((1280, 3), (900, 4), (640, 5), (360, 6)):
                 self.browser.size(width)
-                rows, facts = self.browser.run(FACTS)
-                self.assertLessEqual(rows, most, f'{facts} facts in {rows} rows at {width} on {panel}')
+                rows = self.browser.run(FACTS)
+                self.assertLessEqual(rows, most, f'{rows} rows at {width} on {panel}')
+
+    def test_a_phone_shows_the_verdict_and_its_button_first_and_folds_the_facts(self) -> None:
+        self.begin(discs.scratched(), 'game.bin')
+        self.browser.size(360, 740)
+        places = '''return ['.lead .verdict', '.lead .btn.main', '.disc-line .name', '#map-title'].map(css =>
+            Math.round(document.querySelector(css).getBoundingClientRect().top + scrollY))'''
+        tops = self.browser.run(places)
+        self.assertEqual(tops, sorted(tops))
+        self.assertLess(tops[-1], 400)
+        shown = "return [...document.querySelectorAll('.disc-line .fact, .disc-line .rest')].map(it => it.checkVisibility())"
+        self.assertFalse(any(self.browser.run(shown)))
+        self.press('Details')
+        common.waited(lambda: all(self.browser.run(shown)), 'the facts are not shown')
+        self.browser.size(1280)
+        self.press('Details')
+        common.waited(lambda: self.browser.run(shown) == [True, True, False], 'the base can be set at once')
 
     def test_a_map_without_a_ruler_leaves_no_room_for_one(self) -> None:
         lefts = '''return ['#map', '.readout button'].map(css =>

@@ -71,6 +71,7 @@ class Unsaved(PageTest):
             self.browser.run(CLOSE, card)
             self.browser.wait(f'{place} .say.warn', common.text('imageBeingSaved'))
         self.press('Open it instead')
+        self.press('Details')
         self.press('Set the base')
         self.browser.wait('#disc-line form', 'Set it only if a script or list numbers the blocks of this file differently.')
         self.press('Set')

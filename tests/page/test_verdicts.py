@@ -9,7 +9,7 @@ from verdict_images import OTHERS, VERDICTS, images
 
 # The colour of each level, as a class. Of audio and the like, the page says that nothing can be patched.
 INKS = {'damage': 'bad-ink', 'doubt': 'warn-ink', 'sound': 'good-ink', 'nothing': 'warn-ink'}
-INK = "return document.querySelector('#disc-line .lead b[class$=-ink]')?.className ?? ''"
+INK = "return document.querySelector('#disc-line .lead .verdict')?.className.split(' ').pop() ?? ''"
 # Cue sheets with audio in other files, and images whose data the samples do not show, are for the list, which reads all files.
 LISTED = {'missing.cue', 'audio.bin', 'audio-filled.bin', 'middle.bin'}
 
@@ -33,7 +33,7 @@ class Verdicts(PageTest):
             with self.subTest(name):
                 self.setUp()
                 self.open_files(*files)
-                self.browser.wait('#disc-line .lead b[class$=-ink]')
+                self.browser.wait('#disc-line .lead .verdict')
                 self.assertEqual(self.browser.run(INK), INKS[level], self.browser.text('#disc-line .lead'))
                 if level != 'nothing':
                     self.assertIn(said_by_info(place / name), self.browser.text('#disc-line .lead').lower())

@@ -2,13 +2,13 @@
 
 import { LAST_BASE, SECTOR_SIZE } from '../../core/module/index.js';
 import { verdictText } from '../../sentences/index.js';
-import { MARK, lookOf, mode2Note } from '../app/index.js';
+import { mode2Note } from '../app/index.js';
 import { dumpWords, otherBase, placesOf } from '../disc/index.js';
 import { changeBase, imageOfTrack, readImage } from '../open/index.js';
 import * as texts from '../texts/index.js';
 import { counted, format, playerTexts, say } from '../texts/index.js';
 import { button, byId, capital, copyButton, element, fill, jobEnd, keyed, megabytesDone, nameOf, seen, shownName } from '../ui/index.js';
-import { term, timeLeft } from '../ui/index.js';
+import { term, timeLeft, verdictLine } from '../ui/index.js';
 import { closeImage } from './close_image.js';
 import { tracksInWords } from './tracks.js';
 
@@ -18,6 +18,7 @@ import { tracksInWords } from './tracks.js';
 /** @typedef {import('../app/store.js').RunningJob} RunningJob */
 /** @typedef {import('../../core/tasks/verdict.js').Verdict} Verdict */
 /** @typedef {import('../ui/fill.js').Child} Child */
+/** @typedef {import('../ui/notices.js').Tone} Tone */
 
 /**
  * Notes how much of the disc was read among the running jobs. Returns the job, or null when the reading has ended.
@@ -41,13 +42,15 @@ export function mountDiscLine(app) {
     const line = byId('disc-line');
     const top = element('div', { class: 'disc-line' });
     const lead = element('div', { class: 'lead' });
-    line.append(top, lead);
-    const drawn = { waiting: 0, hashed: 0, changing: false, redraw: () => {}, reading: /** @type {RunningJob | null} */ (null) };
+    line.append(lead, top);
+    const drawn = { waiting: 0, hashed: 0, changing: false, isOpen: false, redraw: () => {},
+        reading: /** @type {RunningJob | null} */ (null) };
     const draw = () => {
         drawn.waiting = 0;
         lead.hidden = app.panel !== 'disc';
         drawn.reading = readingJob(app, drawn.reading, lead);
         if (app.image === null) return;
+        top.classList.toggle('open', drawn.isOpen);
         if (!drawn.changing) fill(top, ...keptParts(app.image.name, facts(app, app.image, drawn)));
         fill(lead, ...keptParts('lead', leadOf(app)));
         drawCounts(app);
@@ -88,37 +91,33 @@ function drawCounts({ survey }) {
 }
 
 /**
+ * The facts of the open image. A press shows those that are folded: a button that sets the base, and on a phone all but the name.
  * @param {App} app
  * @param {Image} image
- * @param {{ hashed: number, changing: boolean, redraw: () => void }} drawn
+ * @param {{ hashed: number, changing: boolean, isOpen: boolean, redraw: () => void }} drawn
  * @returns {Child[]}
  */
 function facts(app, image, drawn) {
     const { survey, panel } = app;
-    const counts = survey ? survey.marks.counts : new Uint32Array(16);
-    const mode1 = survey ? survey.marks.mode1() : 0;
     const cell = (/** @type {string} */ name, /** @type {Child[]} */ ...value) => element('div', {}, element('dt', {}, name),
         element('dd', {}, ...value));
     const isMoved = image.base !== 0 || (survey !== null && survey.marks.isElsewhere());
-    const change = button('slim bare tiny change next', () => askBase(app, drawn), isMoved ? texts.imageChangeBase : texts.imageSetTheBase);
+    const looks = `slim bare tiny change next${isMoved ? '' : ' rest'}`;
+    const change = button(looks, () => askBase(app, drawn), isMoved ? texts.imageChangeBase : texts.imageSetTheBase);
     const own = isMoved ? [cell(texts.frameWordBase, term('base', String(image.base)), ' ', change)] : [];
-    const sectors = (/** @type {number} */ mark, count = counts[mark]) => cell(capital(lookOf(mark).name), counted(count));
-    if (mode1 > 0 || survey === null || !survey.over) own.push(sectors(MARK.MODE1, mode1));
-    const mode2 = survey && survey.marks.modeTwo || counts[MARK.MODE2];
-    if (mode2 > 0) own.push(sectors(MARK.MODE2, mode2));
-    if (counts[MARK.NOSYNC] > 0) own.push(sectors(MARK.NOSYNC));
-    if (panel !== 'disc') {
-        const hash = cell('SHA-1', ...shaOf(image, drawn, 12));
-        hash.className = 'hash';
-        own.push(hash);
-    }
+    const hash = cell('SHA-1', ...shaOf(image, drawn, panel === 'disc' ? 40 : 12));
+    hash.className = 'hash';
+    own.push(hash);
     const close = button('slim bare tiny away', () => void closeImage(app), playerTexts.close, element('span', { class: 'hide' },
         texts.imageTheImage));
-    const name = element('div', { class: 'row' }, element('p', { class: 'name' }, nameOf(image.name)), close,
-        !isMoved && panel === 'disc' && change);
-    return [element('div', {}, name, ...imageParts(app, image),
-        panel === 'disc' && element('p', { class: 'small quiet' }, 'SHA-1 ', ...shaOf(image, drawn, 40)), dumpWords(app, image)),
-    element('dl', {}, ...own)];
+    const unfold = button(`slim bare tiny unfold${isMoved || panel !== 'disc' ? ' narrow' : ''}`, () => {
+        drawn.isOpen = !drawn.isOpen;
+        drawn.redraw();
+    }, texts.imageDetails);
+    unfold.setAttribute('aria-expanded', String(drawn.isOpen));
+    const name = element('div', { class: 'row' }, element('p', { class: 'name' }, nameOf(image.name)), close, unfold);
+    return [element('div', { class: 'row' }, name, dumpWords(app, image), ...imageParts(app, image)),
+        element('dl', { class: 'fact' }, ...own), !isMoved && panel === 'disc' && change];
 }
 
 /**
@@ -130,7 +129,8 @@ function imageParts(app, image) {
     const sheet = element('span', { class: 'mono' }, nameOf(image.from));
     const from = image.from === '' ? [] : [' · ', ...say(texts.imageFromSheet, { sheet, tracks: tracksInWords(image) })];
     const tracks = image.disc.tracks.filter(track => track.image !== null);
-    return [element('p', { class: 'small quiet num' }, format(texts.imageSizeAndSectors, { size: image.reader.size, n: image.sectors }),
+    const size = format(texts.imageSizeAndSectors, { size: image.reader.size, n: image.sectors });
+    return [element('p', { class: 'small quiet num fact' }, size,
         image.tail > 0 && ` · ${format(texts.imageTailOf, { n: image.tail })}`, ...from), tracks.length > 1 && trackChoice(app, image)];
 }
 
@@ -148,7 +148,7 @@ function trackChoice(app, image) {
         choice.append(element('option', { value: number, selected: number === image.number }, format(texts.imageTrackOfType, { number,
             type })));
     }
-    return element('label', { class: 'row small quiet' }, ...say(texts.imageDataTrack, { choice }));
+    return element('label', { class: 'row small quiet fact' }, ...say(texts.imageDataTrack, { choice }));
 }
 
 /**
@@ -198,7 +198,7 @@ function askBase(app, drawn) {
         changeBase(app, Number(input.value));
     } }, element('label', { for: 'base' }, texts.imageBlockOfFirst), input, element('button', { class: 'btn slim main' }, texts.imageSetIt),
     button('slim bare', close, playerTexts.cancel), element('p', { class: 'small quiet' }, texts.frameBaseMeans));
-    fill(/** @type {Element} */ (byId('disc-line').firstElementChild), form);
+    fill(/** @type {Element} */ (byId('disc-line').querySelector('.disc-line')), form);
     input.focus();
 }
 
@@ -215,8 +215,11 @@ function leadOf(app) {
             button('slim', () => readImage(app, { ...image }), texts.imageReadAgain)];
     }
     if (!survey.over) return progressOf(app, image, survey);
-    const [words, ...buttons] = verdictOn(app, image, survey);
-    return [words, ...survey.lacks.map(lackWords), ...buttons];
+    if (survey.verdict === null) return [];
+    const { tone, sentence, rest, buttons } = verdictOn(app, image, survey, survey.verdict);
+    const more = [rest, ...survey.lacks.map(lackWords)].filter(it => it !== '');
+    const words = more.length > 0 && element('p', { class: 'small' }, ...more.flatMap(it => [it, ' ']));
+    return [element('div', { class: 'stack tight' }, verdictLine(tone, sentence), words), element('div', { class: 'row' }, ...buttons)];
 }
 
 /**
@@ -257,29 +260,27 @@ function progressOf(app, { sectors, reader }, survey) {
         jobEnd(() => app.reading.abort(), false)];
 }
 
-/** @type {Record<Verdict['level'], string>} */
-const INKS = { damage: 'bad-ink', doubt: 'warn-ink', sound: 'good-ink', nothing: 'warn-ink' };
+/** @type {Record<Verdict['level'], Tone>} */
+const TONES = { damage: 'bad', doubt: 'warn', sound: 'good', nothing: 'warn' };
 
 /**
- * The verdict in one sentence, and buttons for the next step.
+ * The verdict in one sentence, more about it, and buttons for the next step, the first of which is the main one.
  * @param {App} app
  * @param {Image} image
  * @param {Surveyed} survey
- * @returns {Child[]}
+ * @param {Verdict} verdict
+ * @returns {{ tone: Tone, sentence: string, rest: string, buttons: Child[] }}
  */
-function verdictOn(app, image, { marks, verdict }) {
-    if (verdict === null) return [];
+function verdictOn(app, image, { marks }, verdict) {
     const { level, total, canRepair } = verdict;
     const base = otherBase({ base: image.base, addressed: image.opened.byAddresses.image.addressed }, marks);
     if (base !== null) return otherBaseVerdict(app, image, base, marks.damaged());
-    if (level === 'nothing') {
-        return [element('span', {}, element('b', { class: INKS[level] }, texts.imageNoModeOne), ` ${texts.imageCanBeLookedAt}`)];
-    }
-    const words = element('b', { class: INKS[level] }, `${capital(verdictText(verdict))}.`);
-    return [element('span', {}, words, ` ${mode2Note(marks)}`),
-        canRepair && app.second === null && button('slim', () => app.choose('repair'), texts.imageRepairFromOther),
-        marks.findings() > 0 && total > 0 && button('slim bare', () => app.goTo(image.base + placesOf(marks)[0].first, -1, true),
-            texts.imageGoToFirstPlace)];
+    const tone = TONES[level];
+    if (level === 'nothing') return { tone, sentence: texts.imageNoModeOne, rest: texts.imageCanBeLookedAt, buttons: [] };
+    const repair = canRepair && app.second === null && button('main', () => app.choose('repair'), texts.imageRepairFromOther);
+    const first = () => app.goTo(image.base + placesOf(marks)[0].first, -1, true);
+    return { tone, sentence: `${capital(verdictText(verdict))}.`, rest: mode2Note(marks),
+        buttons: [repair, marks.findings() > 0 && total > 0 && button('', first, texts.imageGoToFirstPlace)] };
 }
 
 /**
@@ -288,11 +289,11 @@ function verdictOn(app, image, { marks, verdict }) {
  * @param {Image} image
  * @param {number} base the probable base
  * @param {number} damaged
- * @returns {Child[]}
+ * @returns {ReturnType<typeof verdictOn>}
  */
 function otherBaseVerdict(app, image, base, damaged) {
     const probably = format(texts.imageBaseIsProbably, { base: String(base), own: String(image.base) });
-    return [element('span', {}, element('b', { class: 'warn-ink' }, texts.imageNoAddressFits), ` ${probably}`,
-        damaged > 0 && ` ${format(texts.imageSectorsAreDamaged, { n: damaged })}`),
-    button('slim main', () => changeBase(app, base), format(texts.imageSetBaseTo, { base: String(base) }))];
+    return { tone: 'warn', sentence: texts.imageNoAddressFits,
+        rest: damaged > 0 ? `${probably} ${format(texts.imageSectorsAreDamaged, { n: damaged })}` : probably,
+        buttons: [button('main', () => changeBase(app, base), format(texts.imageSetBaseTo, { base: String(base) }))] };
 }

@@ -233,6 +233,7 @@ export const listTrackMissing = 'Track {number} is in a missing file.';
 export const imageFindingsOfTab = '{n} finding|{n} findings';
 export const imageChangeBase = 'Change';
 export const imageSetTheBase = 'Set the base…';
+export const imageDetails = 'Details';
 export const imageTheImage = ' the image';
 export const imageSizeAndSectors = '{size} bytes · {n} sector|{size} bytes · {n} sectors';
 export const imageTailOf = 'a tail of {n} byte|a tail of {n} bytes';
