@@ -38,7 +38,7 @@ test('a name that is not UTF-8 may be an argument of what only reads', () => inD
         return [status, stdout.split('\n')[0].split('\t')[0], stderr];
     };
     assert.deepEqual(shell("scan $'caf\\xe9.bin'"), [0, 'caf\\xe9.bin', '']);
-    assert.deepEqual(shell("info $'caf\\xe9.bin'"), [0, 'caf..bin: a raw image, 2352 bytes a sector', '']);
+    assert.deepEqual(shell("info $'caf\\xe9.bin'"), [0, 'caf..bin: a raw image, 2352 bytes per sector', '']);
     for (const words of ["scan $'caf\\xe9.bin' -o $'\\xe9'", "find made.bin $'\\xe9'", "raw made.bin $'\\xe9'", "scan '\uFFFD'"]) {
         assert.deepEqual(shell(words), [2, '', 'cdscript: the words are not text\n'], words);
     }

@@ -57,12 +57,12 @@ test('info says what is wrong with a standard input that is closed', () => inDir
         'Standard input is empty or closed: give the name of a file, or the image on standard input.']]);
 }));
 
-test('an address that no script can name is said by undo, and not taken for damage', () => inDirectory(async room => {
+test('an address that no script can write is reported by undo, and does not count as damage', () => inDirectory(async room => {
     write(room, { hurt: damaged(imageOf(room, 8), 0, [3, 14]), fix: 'cdpatch 1\nrebuild 3\n', edit: 'cdpatch 2\naddress 3 00:02:03\n' });
     tool(program, ['apply', 'hurt', 'fix', 'odd'], { cwd: room });
     const { status, out, errors } = await run(['undo', 'odd', 'edit'], { cwd: room });
     assert.deepEqual([status, out], [1, 'cdpatch 1\n']);
-    assert.match(errors, /^cdscript: no script can name the address of block 3 in odd\n/);
+    assert.match(errors, /^cdscript: a script cannot write the address of block 3 in odd\n/);
 }));
 
 test('a signal ends what waits for its reader', () => inDirectory(async room => {

@@ -46,7 +46,7 @@ test('a raw image goes on to the last block with an address', () => inDirectory(
 }));
 
 test('an image with subchannels is made raw, by its sync fields and not by its size', () => inDirectory(async room => {
-    // More sectors than are copied at a time; and images of 2352 bytes a sector whose size is a multiple of 2448.
+    // More sectors than are copied at a time; and images of 2352 bytes per sector whose size is a multiple of 2448.
     for (const count of [1, 2, 51, 700]) {
         const image = imageOf(room, count);
         const longer = Buffer.concat(Array.from({ length: count }, (_, i) => Buffer.concat([image.subarray(2352 * i, 2352 * (i + 1)), Buffer.alloc(96, i)])));
@@ -86,7 +86,7 @@ test('what can not be made raw, or has no user data', { skip }, () => inDirector
     write(room, { 'cut.iso': read(room, 'disc.iso').subarray(0, 100000), 'a.chd': Buffer.from('MComprHD'.padEnd(3000)) });
     await fails(['raw', 'a.chd', 'out'], `${NOT_CONVERTED} a.chd is a CHD file`, room);
     await fails(['raw', 'cut.iso', 'out'], 'cut.iso has 100000 bytes, which is not a multiple of 2048', room);
-    await fails(['user', 'disc.iso', 'out'], 'disc.iso is an ISO image, 2048 bytes a sector. Convert it to a raw image with cdscript raw. ' +
+    await fails(['user', 'disc.iso', 'out'], 'disc.iso is an ISO image, 2048 bytes per sector. Convert it to a raw image with cdscript raw. ' +
         'Then merge that with a dump, or patch it and extract its user data as an ISO image.', room);
     await fails(['raw', 'nothing.iso', 'out'], 'cannot open nothing.iso: there is no such file or directory', room);
 }));
@@ -126,7 +126,7 @@ test('info of a disc', () => inDirectory(async room => {
     const hash = createHash('sha1').update(image).digest('hex');
     const { status, out, errors } = await run(['info', 'image.bin'], { cwd: room });
     assert.deepEqual([status, errors], [1, '']);
-    assert.equal(out, ['image.bin: a raw image, 2352 bytes a sector', 'verdict: 2 of 39 data sectors are damaged; 1 data sector is lost', `file image.bin bytes ${image.length} sha1 ${hash}`,
+    assert.equal(out, ['image.bin: a raw image, 2352 bytes per sector', 'verdict: 2 of 39 data sectors are damaged; 1 data sector is lost', `file image.bin bytes ${image.length} sha1 ${hash}`,
         'track 1 data blocks 75-114 in image.bin', 'base 75', '75-94 mode1', '95-95 nosync', '96-114 mode1', 'sectors 40 tail 0',
         'mode1 39 damaged 2 address 0', '80-80 mode1 damaged: edc p=1 q=1', '81-81 mode1 damaged: p=1 q=1', '95-95 not mode1 in a track of mode1', ''].join('\n'));
 }));
@@ -149,7 +149,7 @@ test('info of what can not be patched as it is', { skip }, () => inDirectory(asy
         'audio.cue': 'FILE "audio.bin" BINARY\n  TRACK 01 AUDIO\n    INDEX 01 00:00:00\n' });
     const untested = 'not tested 3: blocks 0 to 2 are';
     const cases = { mode2: [1, 'mode2 20: Mode 2 sectors cannot be audited or patched; PlayStation discs have them'],
-        'cooked.cue': [1, 'track 1 has 2048 bytes a sector: it cannot be audited or patched'],
+        'cooked.cue': [1, 'track 1 has 2048 bytes per sector: it cannot be audited or patched'],
         'audio.cue': [0, `${untested} audio`], 'audio.bin': [0, `${untested} not mode1; a cue sheet would say whether they are audio`] };
     for (const [name, [due, line]] of Object.entries(cases)) {
         const { status, out, errors } = await run(['info', name], { cwd: room });
@@ -276,7 +276,7 @@ test('a repair of many places names the first of them', () => inDirectory(async 
     assert.deepEqual([status, errors], [1, 'cdscript: the bytes after the last sector differ in other; those in old are kept\n']);
     const lines = out.split('\n');
     const due = odd.map(([block]) => block).filter(block => block !== 11).slice(0, 1000).map(block => `${block}-${block} from other`);
-    assert.deepEqual(lines, [...due, 'and so on: 1199 places in all', '11-11 sound only with the address of a different block',
+    assert.deepEqual(lines, [...due, 'and so on: 1199 places in all', '11-11 sound, but only with the address of a different block',
         'taken 1199 damaged 1 disputed 0 different 0', '']);
     const due2 = Buffer.concat([damaged(good, 0, odd[5]), Buffer.from('a')]);
     sameFile(read(room, 'out'), due2, 'the repaired image');

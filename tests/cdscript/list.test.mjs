@@ -156,7 +156,7 @@ test('what a spreadsheet wrote for a formula, and a mistyped code, are rows that
     const rows = ['2\t0\t{3D}A\t{3D}B', '2\t100\tAA\t#REF!', '2\t200\tAAAA\t{O1}'];
     const done = await listed(room, 'block\toffset\ttext\tnew', rows, '--encoding', 'CP932', '--partial');
     assert.deepEqual(done.errors.split('\n').slice(0, -1), ['cdscript: row 3: a spreadsheet wrote #REF! in place of a formula: write the text, with {3D} for =',
-        'cdscript: row 4: {O1} is not a code: a code has two digits 0 to F for each byte; a brace is {7B}']);
+        'cdscript: row 4: {O1} is not a code: a code has two digits 0 to F for each byte; to write a brace, use {7B}']);
     assert.equal(done.out, 'cdpatch 1\nset 2 0 3D42 was 3D41\n');
     const plain = await listed(room, 'block\toffset\ttext\tnew', ['2\t0\t=A\t=B'], '--encoding', 'CP932');
     assert.deepEqual([plain.errors, plain.out], ['', done.out]);

@@ -124,7 +124,7 @@ test('each file that is looked at has a row, which names what info names and wha
     const words = ['scan', 'set/disc.iso', 'set/audio only.bin', '--dat', 'all.dat', '--resume', 'set/list'];
     for (let i = 0; i < 2; i++) {
         const { status, errors } = await run(words, { cwd: room });
-        assert.deepEqual([status, errors], [2, 'cdscript: set/disc.iso is an ISO image, 2048 bytes a sector\ncdscript: games: whole 0, in part 1, missing 0\ncdscript: verified 2, known as bad 0, not in the DAT 0\n']);
+        assert.deepEqual([status, errors], [2, 'cdscript: set/disc.iso is an ISO image, 2048 bytes per sector\ncdscript: games: whole 0, in part 1, missing 0\ncdscript: verified 2, known as bad 0, not in the DAT 0\n']);
     }
     // The list is not a part of the collection that contains it.
     const all = await run(['scan', 'set', '--dat', 'all.dat', '--resume', 'set/list'], { cwd: room });

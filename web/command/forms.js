@@ -21,14 +21,15 @@ import { textsJob } from './texting.js';
  *     options: OptionName[], says: string, does: string, ends?: Record<number, string>, example: string,
  *     own?: Partial<Record<OptionName, string>> }} Form
  */
-const FROM_0 = 'The first sector is block 0 unless --base or a cue sheet says otherwise.';
+const FROM_0 = 'The first sector is block 0 unless --base or a cue sheet says otherwise. An image whose addresses contradict that is ' +
+    'refused.';
 
 /** @type {Record<string, Form>} */
 export const FORMS = {
     'info': {
         job: infoJob, takes: ['IMAGE'], options: ['dat', 'json', 'base', 'track'], says: 'Identify a file, and report what it contains',
-        does: 'Prints the verdict, tracks, kinds of sectors, base, what is wrong with which sectors, and SHA-1, or what to do with a ' +
-            'file that is not a raw image.',
+        does: 'Prints the verdict, SHA-1, tracks, base, kinds of sectors, and what is wrong with which sectors. For a file that is not a ' +
+            'raw image, prints what to do with it.',
         ends: { 0: 'no findings', 1: 'findings, or not in the DAT', 2: 'failed' },
         example: 'cdscript info game.cue',
     },
@@ -48,7 +49,7 @@ export const FORMS = {
             '9 modification time\n' +
             '10 CRC32\n' +
             '11 MD5\n' +
-            'Columns that were not tested or not computed have -. PATH is an image, a cue sheet, or a directory.',
+            '- means not tested, or not computed. PATH is an image, a cue sheet, or a directory.',
         ends: { 0: 'no findings', 1: 'findings, or not in the DAT', 2: 'a file could not be read' },
         example: 'cdscript scan /games --dat redump.dat --resume games.tsv',
     },
@@ -89,7 +90,7 @@ export const FORMS = {
         job: textsJob, takes: ['IMAGE'], instead: { file: [] },
         options: ['encoding', 'table', 'end', 'in', 'min', 'lines', 'every', 'length', 'skip', 'limit', 'csv', 'po', 'list', 'file',
             'track', 'base', 'output'],
-        own: { limit: 'print the first N records' },
+        own: { limit: 'print the first N records', encoding: 'the encoding of text, as for find, except hex' },
         says: 'Print a table of all text on a disc',
         does: 'Its columns are block, offset, bytes, room, encoding, file, text, and new. Write translations in the column new, for ' +
             '`replace --list`. A PO file has an entry for each distinct string. --list fills in the translations of an earlier ' +
@@ -105,6 +106,7 @@ export const FORMS = {
         options: ['encoding', 'table', 'track', 'base', 'output'],
         says: 'Show the user data of a block as hex and text',
         does: 'With OFFSET it shows 128 bytes, starting with the row of that byte.',
+        ends: { 0: 'done', 2: 'failed' },
         example: 'cdscript show game.cue 1234 512',
     },
     'extract': {
@@ -120,10 +122,11 @@ export const FORMS = {
             'output'],
         says: 'Write a script that replaces text',
         does: 'Without BLOCK and OFFSET it searches for OLD, which must occur exactly once unless --all is given. A shorter NEW is ' +
-            'padded with spaces (00 for hex) or with --fill. A longer NEW is refused. --list reads a table with the columns ' +
-            'block, offset, text, and new (room and encoding are optional), or a PO file from `texts --po`. --check tests whether ' +
-            'the translations of lists fit and can be encoded. With --file, --list is required: OUT, which must not exist yet, ' +
-            'becomes a copy of FILE with the translations.',
+            'padded with spaces (00 for hex) or with --fill. A longer NEW is refused.\n' +
+            'With --list it reads a table with the columns block, offset, text, and new (room and encoding are optional), or a PO ' +
+            'file from `texts --po`.\n' +
+            'With --check it tests whether the translations of lists fit and can be encoded.\n' +
+            'With --file and --list it makes OUT, a copy of FILE with the translations.',
         ends: { 0: 'done', 1: 'some places are left out (they are listed) or not tested', 2: 'failed' },
         example: "cdscript replace game.cue 'press start' 'Start' -o english.txt",
         own: {
@@ -135,9 +138,10 @@ export const FORMS = {
         job: replaceFileJob, takes: ['IMAGE', 'PATH', 'FILE'], words: ['PATH'], options: ['fill', 'track', 'base', 'output'],
         own: { fill: 'pad with this byte, such as 20' },
         says: 'Write a script that replaces a file on a disc',
-        does: 'FILE may be as long as all sectors of the old file together. The size in the directory is updated, and the rest ' +
+        does: 'FILE may grow to the end of the last sector of the old file. The size in the directory is updated, and the rest ' +
             'of the sectors becomes 00. With --fill, the old size is kept: a shorter FILE is padded, and a longer one is ' +
             'refused.',
+        ends: { 0: 'done', 2: 'failed' },
         example: 'cdscript replace-file game.cue /DATA/TEXT.BIN text.bin -o new.txt',
     },
     'diff': {
@@ -163,8 +167,9 @@ export const FORMS = {
     'rebuilds': {
         job: rebuildsJob, takes: ['IMAGE'], options: ['track', 'base', 'output'],
         says: 'Write a script that recalculates stale EDC and parity',
-        does: 'Use it only if the image was clean before it was edited: the script makes the sectors valid with their present ' +
-            'bytes, so that it hides real damage for good, and destroys deliberate damage.',
+        does: 'Use it only if the image was clean before it was edited. The script makes the sectors valid with their present ' +
+            'bytes. So it hides real damage for good, and destroys deliberate damage.',
+        ends: { 0: 'done', 2: 'failed' },
         example: 'cdscript rebuilds edited.bin -o rebuild.txt',
     },
     'undo': {
@@ -179,6 +184,7 @@ export const FORMS = {
         job: rawJob, takes: ['IMAGE', 'OUT'], options: ['base', 'first'], says: 'Convert an ISO image to a raw image',
         does: 'OUT must not exist. It has 2352 bytes per sector. IMAGE may also have 2448 bytes per sector (its subchannels are left ' +
             'out) or 2336 (Mode 2 without sync fields and headers, which are added).',
+        ends: { 0: 'done', 2: 'failed' },
         example: 'cdscript raw game.iso game.bin',
     },
     'user': {

@@ -44,11 +44,11 @@ function wholeHelp(version) {
     const rows = OWN_OPTIONS.map(name => optionRow(name));
     return ['Inspect, translate, and repair raw CD images', '',
         'Usage: cdscript JOB [OPTIONS] ARGUMENTS', '', 'Jobs:', ...jobs, '', 'Options:', ...rows, '',
-        'The first argument of a job is a raw image (2352 bytes per sector) or its cue',
-        'sheet; - is standard input. Scripts and lists go to standard output, messages',
-        'to standard error. Output files must not exist yet. Options may appear',
-        'anywhere; arguments after -- are never options. `cdscript help JOB` describes',
-        'a job.', '',
+        'IMAGE is a raw image (2352 bytes per sector) or its cue sheet, but an ISO image',
+        'for `raw`; - is standard input. Scripts and lists go to standard output,',
+        'messages to standard error. Output files must not exist yet. Options may',
+        'appear anywhere; arguments after -- are never options. `cdscript help JOB`',
+        'describes a job.', '',
         'Status: 0 done; 1 findings or refused patches; 2 failed', '', version];
 }
 

@@ -34,7 +34,7 @@ function repairLines({ taken, corrected, damaged, alike, disputed, wrongAddress,
     const numbers = [taken, damaged, disputed].map(blocksIn).concat(different.reduce((sum, count) => sum + count, 0));
     const inBoth = differing.flatMap((runs, other) => runs.map(run => ({ ...run, other })));
     const sameDamage = `alike ${blocksIn(alike)}, damaged with the same bytes in all dumps:`;
-    const notTaken = { true: 'sound only with the address of a different block', false: 'damaged, without a sound copy' };
+    const notTaken = { true: 'sound, but only with the address of a different block', false: 'damaged, without a sound copy' };
     return [
         ...linesOfRuns(taken, ({ first, last, other }) => `${first}-${last} from ${others[other].name}`),
         ...linesOfRuns(corrected, ({ first, last }) => `${first}-${last} from its own parity`),

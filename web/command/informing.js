@@ -143,7 +143,7 @@ function surveyLines(job, disc, found) {
  * @param {Disc} disc
  */
 function unsurveyedLines(disc) {
-    const sizes = unsurveyedTracks(disc).map(({ number, type }) => `track ${number} has ${type.replace(/.*\//, '')} bytes a sector`);
+    const sizes = unsurveyedTracks(disc).map(({ number, type }) => `track ${number} has ${type.replace(/.*\//, '')} bytes per sector`);
     return sizes.map(it => `${it}: it cannot be audited or patched`);
 }
 

@@ -72,7 +72,7 @@ const ROWS = /** @type {const} */ ({
         parse: endOf,
     },
     fill: {
-        word: '--fill', value: 'HEX', does: 'pad with these bytes, such as 20 or 8140; the word end means the byte that ends text',
+        word: '--fill', value: 'HEX', does: 'pad with these bytes, such as 20 or 8140, or with `end`, the byte that ends a text',
         parse: fillOf,
     },
     all: { word: '--all', value: '', does: 'replace every occurrence (at most 1000000)' },
@@ -95,7 +95,7 @@ const ROWS = /** @type {const} */ ({
     lines: { word: '--lines', value: '', does: 'print a row for each line of text, without its line ending' },
     in: { word: '--in', value: 'PATH', does: 'search only this file or directory; may be repeated', repeated: true },
     every: {
-        word: '--every', value: 'N', does: 'print a row for each record of the file: one begins every N bytes',
+        word: '--every', value: 'N', does: 'print a row for each record; the distance of records is N bytes',
         parse: numberFrom('--every', 1, MOST_EVERY), excludes: ['lines', 'min'], needs: { texts: 'length' },
     },
     length: {

@@ -90,10 +90,10 @@ function assertRecords({ every, length, in: paths = [], file }) {
  * @param {Awaited<ReturnType<typeof newTextsNamed>>} news
  */
 function sayUnused(job, { unused, records }) {
-    if (records > 0) job.say(`new texts of records, which stay in their own list: ${records}`);
+    if (records > 0) job.say(`new texts of records that were left out, since they need their own list: ${records}`);
     if (unused.size === 0) return;
     const some = Array.from(unused, rowName).slice(0, MOST_NAMED);
-    job.say(`new texts that belong to no text here: ${unused.size} (${some.join(', ')}${unused.size > some.length ? ', …' : ''})`);
+    job.say(`new texts that match no text here: ${unused.size} (${some.join(', ')}${unused.size > some.length ? ', …' : ''})`);
     job.say('if the texts have moved, --po and msgmerge carry their translations over');
 }
 

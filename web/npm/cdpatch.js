@@ -12,7 +12,7 @@ export { Fault, ScriptError } from './errors.js';
 
 /** Reads a file. `read` returns at most `length` bytes from `at` on, and none only at the end. More bytes are refused. */
 /** @typedef {{ size: number, read(at: number, length: number): Promise<Uint8Array> }} Source */
-/** @typedef {Blob | Uint8Array | ArrayBuffer | Source} Input a raw image, of 2352 bytes a sector */
+/** @typedef {Blob | Uint8Array | ArrayBuffer | Source} Input a raw image, of 2352 bytes per sector */
 /** @typedef {Input | string} ScriptInput a script: its bytes, or its text */
 /**
  * A signal that ends a job, which then throws its reason; and a callback for the number of bytes of the image that are done, of all.

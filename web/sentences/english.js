@@ -39,7 +39,7 @@ function knownDump({ name, isBad, others }) {
 function leftClause({ runs, image, most }) {
     const blocks = blocksText(runs, most);
     if (runs[0].why === 'damaged') return `${image} is damaged in ${blocks}`;
-    if (runs[0].why === 'address') return `no script can name the address of ${blocks} in ${image}`;
+    if (runs[0].why === 'address') return `a script cannot write the address of ${blocks} in ${image}`;
     return `${[...new Set(runs.flatMap(run => run.kinds))].map(kindName).join(' and ')} in ${blocks}, and a script changes only mode1`;
 }
 
@@ -160,12 +160,12 @@ export const ENGLISH = {
     'dat/archive': () => 'it is an archive: unpack it',
     'dat/clrmamepro': () => "it is in clrmamepro's own format: save it as Logiqx XML",
     'dat/encoding': ({ encoding }) => `its encoding ${encoding} is not supported: save it as UTF-8`,
-    'dat/declares': () => 'it declares what a DAT does not, such as entities',
+    'dat/declares': () => 'it contains declarations, such as entities, that a DAT cannot have',
     'dat/entity': ({ entity }) => `it has the entity ${entity}, which a DAT does not have`,
     'dat/tag': ({ tag }) => `it is not well-formed: a < is inside the tag <${tag}`,
     'dat/long-tag': ({ most }) => `it has a tag of more than ${most} characters`,
     'dat/long-name': ({ most }) => `it has a name of more than ${most} characters`,
-    'dat/deep': ({ most }) => `its elements are more than ${most} deep`,
+    'dat/deep': ({ most }) => `its elements are nested more than ${most} deep`,
     'dat/too-many': ({ most }) => `there are more than ${most} dumps`,
     'dat/cut': () => 'it is incomplete: download it again',
     'dat/no-dump': () => 'it has no dump with a SHA-1, or with a size and a CRC32 or MD5',
@@ -188,7 +188,7 @@ export const ENGLISH = {
     'tree/large': ({ block, size }) => `the directory in block ${block} would have ${size} bytes`,
     'tree/missing': ({ block }) => `the directory is in block ${block}, which is not in the image`,
     'tree/cut': ({ first, last }) => `the directory in blocks ${first} to ${last} continues after the end of the image`,
-    'tree/deep': ({ most }) => `its directories are not read: they are more than ${most} deep`,
+    'tree/deep': ({ most }) => `its directories are not read: they are nested more than ${most} deep`,
     'tree/many-entries': ({ most }) => `the volume has more than ${most} files and directories`,
     'tree/long-paths': ({ most }) => `its paths have more than ${most} characters`,
     'tree/many-areas': ({ most }) => `its records are continued in more than ${most} places`,
@@ -268,7 +268,7 @@ export const ENGLISH = {
     'list/place-in-file': () => 'its block is -, so its place is in a file that is not an image',
     'list/place-in-image': () => 'it has a block number, so its place is in an image, not in the file',
     'list/after-file': ({ size }) => `the file has only ${size} bytes`,
-    'list/cell-runs-on': ({ row }) => `a cell in quotes runs on to row ${row}, which has a place of its own`,
+    'list/cell-runs-on': ({ row }) => `a quoted cell continues into row ${row}, which is a row of its own`,
     'list/overlaps': ({ row }) => `it overlaps the text of ${rowName(row)}`,
     'list/long-text': ({ most }) => `a text has more than ${most} characters`,
     'list/no-space': ({ name }) => `${name} has no space character to pad with`,
@@ -276,7 +276,7 @@ export const ENGLISH = {
     'list/new-text-there': () => 'the new text is already there',
     'list/formula': ({ cell }) => `a spreadsheet wrote ${cell} in place of a formula: write the text, with {3D} for =`,
     'list/no-fill': ({ cell }) => `the filler ${cell} is not a code such as {00}`,
-    'list/no-code': ({ code }) => `${code} is not a code: a code has two digits 0 to F for each byte; a brace is {7B}`,
+    'list/no-code': ({ code }) => `${code} is not a code: a code has two digits 0 to F for each byte; to write a brace, use {7B}`,
     'list/row-left': ({ text, why }, sentence) => `${rowName(text)}: ${sentence(why)}`,
     'list/code-left': leftCode,
     'list/fuzzy': ({ count }) => count === 1 ? '1 fuzzy entry is not applied' : `${count} fuzzy entries are not applied`,
