@@ -1,4 +1,4 @@
-"""CD-ROM sectors and raw images by libcdpatch: EDC, P and Q parity, defects of sectors, and patches of images.
+"""Python bindings of libcdpatch: EDC, P and Q parity, and defects of CD-ROM sectors, and patches of raw images.
 
     import sys
     import cdpatch
@@ -11,9 +11,11 @@
 To list the damaged sectors of a file without loading it whole (examples/fixlist.py does more):
 
     with open('disc.bin', 'rb') as image:
-        for first in range(0, 1000000, 1000):
-            for block, record in enumerate(cdpatch.survey(image.read(1000 * 2352), first), first):
+        block = 0
+        while sectors := image.read(1000 * 2352):
+            for record in cdpatch.survey(sectors, block):
                 print(cdpatch.audit_line(block, record), end='')
+                block += 1
 
 The calls; help(cdpatch.patch) describes one in full:
 
@@ -49,7 +51,7 @@ reclaims them.
 
 This package is tested, not proved; the calls of libcdpatch that it makes are proved.
 
-Threads may call at the same time, also with the same bytes, unless one of them writes these bytes.
+It is safe to call from several threads, also with the same bytes, unless one of them writes these bytes.
 
 The library is the file that CDPATCH_LIBRARY names. Without that variable it is the one in the directory of this package, else the one that
 the loader finds, else the one in `lib` of the prefix below which this package is installed. Of these last two, a library that lacks a call

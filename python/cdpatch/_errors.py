@@ -10,7 +10,8 @@ from ._numbers import LINE_SIZE, Result
 
 
 class Failed(ValueError):
-    """The command would end with status 2. The message is what it prints, without the last line feed, or that no image has this base."""
+    """Raised where the command would end with status 2. The message is what the command prints, without the last line feed, or that no
+    image has this base."""
 
 
 class Refused(ValueError):

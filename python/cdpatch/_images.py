@@ -96,9 +96,9 @@ def apply(image: ReadableBuffer, script: ReadableBuffer, base: int = 0, carry: b
     prints, and whether a patch was refused. The new image has all patches that were not refused. With `carry`, patches of damaged sectors
     are applied too, and the damage stays. A `rebuild` removes damage with or without `carry`.
 
-    With `out`, for example a mapped new file, the new image is written to its first bytes, its other bytes stay, and the result is a Report,
-    which has no image. The call also needs memory for the log (at most 5243080 bytes, twice), 20 bytes for each patch, and a copy of a script that
-    is not `bytes`.
+    With `out`, for example a mapped new file, the new image is written to its first bytes, its other bytes do not change, and the result is
+    a Report, which has no image. The call also needs memory for the log (at most 5243080 bytes, twice), 20 bytes for each patch, and a copy
+    of a script that is not `bytes`.
 
     Raises Failed if the base is not 0 to 449849, if the script is invalid or too long, or if the image has more than 2352000000 bytes.
     `out` then begins with a prefix of the new image, which may be empty.

@@ -80,7 +80,7 @@ def patch(reader: Reader, script: ReadableBuffer, writer: Writer, base: int = 0,
     `carry`, patches of damaged sectors are applied too, and the damage stays. A `rebuild` removes damage with or without `carry`.
 
     `log`, for example `sys.stdout.write`, gets each line of the output as soon as it is known: the line of a patch before any sector from
-    its block on is written. It also gets the line of an error. So if a file fails, the lines before are not lost.
+    its block on is written. It also gets the line of an error, so that no line is lost if a file fails later.
 
     At most 65536 bytes of the image are in memory, so `reader` and `writer` may be pipes. A script that is not `bytes` is copied, so a
     change of it during the call has no effect. A read may return fewer bytes than requested, and a write may write fewer; `write` returns

@@ -60,7 +60,7 @@ export async function bytesAround(image, place, before, after) {
 /**
  * The text around a hit in user bytes, and whether it may begin in the middle of a character.
  * @param {Encoding} encoding
- * @param {Uint8Array} bytes from BEFORE bytes before the hit on, or from the image's beginning
+ * @param {Uint8Array} bytes those from BEFORE bytes before the hit, or from the image's beginning
  * @param {number} at where the hit begins in them
  * @param {number} size
  * @param {number} around how many bytes after it are read as text

@@ -10,7 +10,7 @@ import { ASCII, BAD, CONTROL, HALF_WIDTH } from './scores.js';
 const LEAST_ENDED = 6;
 const LEAST_SHARE = 0.2;
 
-/** The fewest letters, or half-width kana, that a text is extended over to its left: a single one may be a length or a code. */
+/** The fewest letters, or half-width kana, by which a text is extended to its left: a single one may be a length or a code. */
 const LEAST_LETTERS = 2;
 
 const BEGINS = /[A-Za-z0-9([<"'`]/;

@@ -347,10 +347,10 @@ export class Store {
      * @param {boolean} [show]
      */
     goTo(block, offset = -1, show = false) {
-        const comes = show && this.panel !== 'disc';
+        const wasHidden = show && this.panel !== 'disc';
         this.place = { block, offset };
         if (show) this.showPanel('disc');
-        this.notify('place', { show, comes });
+        this.notify('place', { show, wasHidden });
     }
 
     /** @param {number} line of the script, from 0, to be shown in its panel */

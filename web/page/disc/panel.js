@@ -26,7 +26,7 @@ export function mountDisc(app, panel) {
     app.on('surveyed', () => disc.findings.draw());
     app.on('files', () => disc.takeFiles());
     app.on('image', () => disc.begin());
-    app.on('place', ({ show, comes }) => disc.drawPlace(show, comes));
+    app.on('place', ({ show, wasHidden }) => disc.drawPlace(show, wasHidden));
     app.on('second', job => disc.second.begin(job));
     mountDumps(app);
 }
@@ -92,16 +92,16 @@ class DiscPanel {
 
     /**
      * @param {boolean} wanted whether the place is scrolled to
-     * @param {boolean} comes whether the panel was hidden before, so that the focus was elsewhere
+     * @param {boolean} wasHidden whether the panel was hidden before, so that the focus was elsewhere
      */
-    drawPlace(wanted, comes) {
+    drawPlace(wanted, wasHidden) {
         const { survey, place } = this.app;
         if (survey === null || place.block < 0) return;
         this.map.moveTo(place.block - survey.block);
         this.sector.part.hidden = false;
         this.findings.drawPlace();
         this.sector.draw(true, wanted);
-        if (comes) this.sector.focus();
+        if (wasHidden) this.sector.focus();
         this.drawReadout();
     }
 
