@@ -42,9 +42,9 @@ test('a language is read and written if it is one of those of the page, and may 
     assert.deepEqual(await readPatcherText(calls, `\n${await patcherText(calls, chosen)}`), chosen);
     assert.equal('language' in await readPatcherText(calls, `\n${text}`), false);
     for (const language of ['', 'xx', 'pt', 'DE', 'toString', null, ['de'], 1, undefined]) {
-        assert.equal(headFault({ ...head, language }), 'the data have a wrong language', String(language));
+        assert.equal(headFault({ ...head, language }), 'the data has a wrong language', String(language));
     }
-    assert.equal(headFault({ ...head, languages: 'de' }), 'the data do not have the expected fields');
+    assert.equal(headFault({ ...head, languages: 'de' }), 'the data does not have the expected fields');
 });
 
 test('a patcher that came over plain http is read, where a browser has no digest', async () => {

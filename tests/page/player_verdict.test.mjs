@@ -65,7 +65,7 @@ test('a verdict says whether other bytes or damage refuse the patches', async ()
 
 test('each reason that refuses a place has its own words', () => {
     const words = reasonsOf(9, [5, 5, 2, 1, 4]);
-    assert.deepEqual(words.map(it => it.split('. ')[0]), ['2 of 9 places to patch hold other bytes', '1 of 9 places to patch is damaged',
+    assert.deepEqual(words.map(it => it.split('. ')[0]), ['2 of 9 places to patch contain different bytes', '1 of 9 places to patch is damaged',
         '1 of 9 places to patch is not in a Mode 1 sector here', '1 of 9 places to patch is not in this image']);
     assert.deepEqual(reasonsOf(2, [2]).filter(it => it.includes('release')), []);
 });
@@ -112,10 +112,10 @@ test('an image fits only if it is as long as the author’s and all that is writ
     const rows = [
         [`${set}set 1 0 41 was 77\n`, image, 'fits', /^All 2 places match\. The rest of the disc differs from the author’s\. 1 sector of your image is damaged\.$/],
         [set, image, 'fits', /^The place matches\./],
-        [`${set}set 1 0 41\n`, image, 'unknown', /^1 of 2 places to patch matches\. 1 of 2 patches names no old bytes, so nothing shows whether it fits\. 1 sector of your image is damaged\.$/],
-        ['set 0 0 41\nfill 1 0 100 00\n', image, 'unknown', /^2 of 2 patches name no old bytes, so nothing shows whether they fit\. 1 sector/],
+        [`${set}set 1 0 41\n`, image, 'unknown', /^1 of 2 places to patch matches\. 1 of 2 patches has no old bytes to compare, so cdpatch cannot tell whether it matches\. 1 sector of your image is damaged\.$/],
+        ['set 0 0 41\nfill 1 0 100 00\n', image, 'unknown', /^2 of 2 patches have no old bytes to compare, so cdpatch cannot tell whether they match\. 1 sector/],
         [`${set}fill 1 0 1 41\n`, image, 'unknown', /^1 of 2 places to patch matches\. 1 of 2 patches/],
-        [`${set}set 1 0 4A was 77\nrebuild 1\n`, image, 'unknown', /^2 of 3 places to patch match\. 1 of 3 patches names/],
+        [`${set}set 1 0 4A was 77\nrebuild 1\n`, image, 'unknown', /^2 of 3 places to patch match\. 1 of 3 patches has no/],
         [set, { size: size + 2352, sha1: '' }, 'unknown', /^The place matches, but .* Your image has 7,056 bytes, and the author’s has 9,408\. The file is probably incomplete\. 1 sector/],
         [set, { size: size - 2352, sha1: '' }, 'unknown', /the author’s has 4,704\. 1 sector/],
     ];

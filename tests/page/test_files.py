@@ -129,7 +129,7 @@ class Files(PageTest):
         saved = self.browser.downloaded('MSG00.DAT')
         self.assertEqual(common.waited(saved.read_bytes, 'the file is empty'), discs.messages()[:1500])
         saved.unlink()
-        self.press('Take back')
+        self.press('Undo the replacement')
         self.browser.wait('#findings .say.good', 'earlier lines for this file were removed.')
         self.assertEqual(self.browser.run(marked), [])
         self.assertNotIn('→', self.browser.text('.files [aria-selected=true]'))
@@ -146,7 +146,7 @@ class Files(PageTest):
         self.browser.wait('#findings .say.warn', '1 line that does not match is left out.')
         expected = b'A' + discs.messages()[1:9] + bytes(2) + discs.messages()[11:]
         self.assertEqual(common.waited(self.browser.downloaded('MSG00.DAT').read_bytes, 'the file is empty'), expected)
-        self.press('Take back')
+        self.press('Undo the replacement')
         self.browser.wait('#findings .say.warn', '1 earlier line for this file was removed.')
         self.assertIn('2 lines still write in this file. The first is line 2.', self.browser.text('#findings .say.warn'))
         self.press('Go to line 2')
@@ -258,7 +258,7 @@ class Files(PageTest):
 
         one_file = 'FILE "t1.bin" BINARY\n  TRACK 01 MODE1/2352\n    INDEX 01 00:00:00\n  TRACK 02 AUDIO\n    INDEX 01 00:02:00\n'
         cases = ((named('t1', 't2'), ['t1', 't2'], '1 data track, 1 audio track (t2.bin, not opened for editing)'),
-                 (named('t1', 't2'), ['t1'], '1 data track, 1 audio track (t2.bin, which is not here)'),
+                 (named('t1', 't2'), ['t1'], '1 data track, 1 audio track (t2.bin, which is missing)'),
                  (named('t1', 't2', 't3'), ['t1', 't2', 't3'], '1 data track, 2 audio tracks (t2.bin, t3.bin, not opened for editing)'),
                  (one_file, ['t1'], '1 data track, 1 audio track (in the same file)'), (named('t1'), ['t1'], 'from disc.cue: 1 data track'))
         for text, given, said in cases:

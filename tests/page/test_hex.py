@@ -57,7 +57,7 @@ class Hex(PageTest):
         browser.click('#tab-script')
         self.assertEqual(self.script_text(), 'cdpatch 1\nrebuild 60\nset 60 1000 C0 was 55\n')
         self.press('Check')
-        browser.wait('#panel-script .say.good', '1 of 2 patches match game.bin, 1 names no old bytes.')
+        browser.wait('#panel-script .say.good', '1 of 2 patches match game.bin, 1 has no old bytes to compare.')
 
     def copied(self) -> str:
         """The text that Ctrl+C copies."""

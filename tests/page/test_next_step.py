@@ -10,7 +10,7 @@ from sector import SYNC
 from states import another
 
 SAID = '#panel-script .say'
-ALL_FIT = 'english.txt: 4 of 6 patches match game.bin, 2 name no old bytes.'
+ALL_FIT = 'english.txt: 4 of 6 patches match game.bin, 2 have no old bytes to compare.'
 
 
 # The labels of the main buttons beside the editor.
@@ -84,7 +84,7 @@ class NextStep(PageTest):
     def test_how_many_changes_fit_is_said(self) -> None:
         files = {**self.files(), **discs.written(one='cdpatch 1\nrebuild 1\n', none='cdpatch 1\nset 9999 0 41\n')}
         self.open_image(files['scratched'])
-        for name, said in (('refused', 'refused.txt: 4 of 8 patches match scratched.bin, 3 do not.'), ('one', 'Nothing shows whether the patch of one.txt fits scratched.bin.'),
+        for name, said in (('refused', 'refused.txt: 4 of 8 patches match scratched.bin, 3 do not.'), ('one', 'cdpatch cannot tell whether the patch of one.txt matches scratched.bin.'),
                            ('none', 'none.txt: 1 patch, which does not match scratched.bin.')):
             self.open_files(files[name])
             self.browser.wait(SAID, said)
@@ -99,23 +99,23 @@ class NextStep(PageTest):
         for name, why in (('hurt', '1 of 1 place to patch is damaged. Repair the image first, or tick “Patch damaged sectors too”.'),
                           ('far', '1 of 1 place to patch is not in this image. Another track, or another base?'),
                           ('sound', '1 of 1 place to patch is not in a Mode 1 sector here. Only Mode 1 sectors are patched.'),
-                          ('other', '1 of 1 place to patch holds other bytes. Another release, another disc, or another base?')):
+                          ('other', '1 of 1 place to patch contains different bytes. Another release, another disc, or another base?')):
             self.open_script(files[name])
             self.browser.wait(f'{SAID}.bad', why)
             shown = self.browser.text('#panel-script .side')
             for words in ('Apply and save', 'Saves a new image', *([] if name == 'other' else ['Another release'])):
                 self.assertNotIn(words, shown)
         self.open_script(files['some'])
-        self.browser.wait(f'{SAID}.warn', '1 of 4 places to patch holds other bytes. 1 of 4 places to patch is damaged. Repair the image first')
+        self.browser.wait(f'{SAID}.warn', '1 of 4 places to patch contains different bytes. 1 of 4 places to patch is damaged. Repair the image first')
         self.browser.wait(f'{SAID}.warn', 'A new image can be saved without those patches.')
         self.browser.wait(f'{SAID}.warn .btn', 'Save with the other 2 patches…')
 
     def test_a_script_of_which_nothing_shows_that_it_fits_is_not_presented_as_one_that_does(self) -> None:
         files = discs.written(other=another(), game=discs.game(), english=discs.script(), refused=discs.refused(),
                               unnamed='cdpatch 1\nfill 20 0 4 20\nrebuild 21\n', few='cdpatch 1\nfill 20 0 4 20\nset 99999 0 41\n')
-        cases = [('other', 'english', 'bad', 'None of the 4 patches of english.txt that name old bytes fits other.bin.', 'Save with the other 2 patches…', 'Go to line 4'),
-                 ('other', 'unnamed', 'warn', 'Nothing shows whether the 2 patches of unnamed.txt fit other.bin.', 'Apply and save…', 'Check again'),
-                 ('other', 'few', 'warn', 'Nothing shows whether the 2 patches of few.txt fit other.bin.', 'Save with the other patch…', 'Go to line 3'),
+        cases = [('other', 'english', 'bad', 'None of the 4 patches of english.txt that can be checked matches other.bin.', 'Save with the other 2 patches…', 'Go to line 4'),
+                 ('other', 'unnamed', 'warn', 'cdpatch cannot tell whether the 2 patches of unnamed.txt match other.bin.', 'Apply and save…', 'Check again'),
+                 ('other', 'few', 'warn', 'cdpatch cannot tell whether the 2 patches of few.txt match other.bin.', 'Save with the other patch…', 'Go to line 3'),
                  ('game', 'refused', 'warn', 'refused.txt: 4 of 8 patches match game.bin, 2 do not.', 'Save with the other 6 patches…', 'Go to line 11')]
         for image, script, tone, words, save, focused in cases:
             with self.subTest(script):
@@ -134,7 +134,7 @@ class NextStep(PageTest):
         patched = discs.written(patched=applied(files['game'], files['english'])[2])['patched']
         self.browser.drop('#drop', [patched, files['english']])
         self.browser.wait(f'{SAID}.good', 'patched.bin is patched already.')
-        self.assertIn('It holds what all 6 patches of english.txt write.', self.browser.text(f'{SAID}.good'))
+        self.assertIn('It already contains what all 6 patches of english.txt write.', self.browser.text(f'{SAID}.good'))
         self.assertNotIn('Apply and save', self.browser.text('#panel-script .side'))
         self.assertEqual((self.browser.run(MAIN), self.sign()), ([], '#icon-tick'))
         self.assertIn('is patched already', self.browser.text('#announced'))
@@ -172,7 +172,7 @@ class NextStep(PageTest):
                 side = self.browser.text('#panel-script .side')
                 self.assertIn('Your emulator opens a cue sheet', side)
                 self.assertEqual('It is for a disc of one track.' in side, sheet not in names)
-                self.assertEqual('Copy there too, since the cue sheet names it: song.bin.' in side, more != {})
+                self.assertEqual('Copy this file to the same folder too, because the cue sheet needs it: song.bin.' in side, more != {})
                 self.assertEqual(self.browser.run("return document.querySelector('#panel-script .side .stack > .row .btn').innerText"), 'Save a cue sheet…')
                 self.press('Save a cue sheet')
                 saved = self.browser.downloaded('game (patched).cue')

@@ -42,7 +42,7 @@ class Publish(PageTest):
         self.wait_for_hash()
         self.open_script(paths['english'])
         self.browser.click('#tab-publish')
-        self.browser.wait('#panel-publish', 'english.txt: 4 of 6 patches match game.bin, 2 name no old bytes.')
+        self.browser.wait('#panel-publish', 'english.txt: 4 of 6 patches match game.bin, 2 have no old bytes to compare.')
         self.browser.type('#patcher-title', HOSTILE)
 
     def test_a_patcher_is_the_page_byte_for_byte_and_data_after_it(self) -> None:
@@ -148,7 +148,7 @@ class Publish(PageTest):
             const { slice } = Blob.prototype;
             Blob.prototype.slice = function (...given) { globalThis.slices += 1; return slice.apply(this, given); }''')
         self.browser.click('#tab-publish')
-        self.browser.wait('#panel-publish', 'Nothing shows whether the 1,567 patches of script.txt fit long.bin.')
+        self.browser.wait('#panel-publish', 'cdpatch cannot tell whether the 1,567 patches of script.txt match long.bin.')
         self.browser.type('#patcher-title', 'Title')
         self.press('Save as a patcher')
         saved = self.browser.downloaded('Title.html').read_bytes()
@@ -242,7 +242,7 @@ class Player(PageTest):
     def test_another_dump_that_the_patch_fits(self) -> None:
         other = common.damaged(discs.game(), 150)
         self.play(other, discs.named())
-        self.browser.wait('#verdict', 'This is a different dump, but the patch fits it.')
+        self.browser.wait('#verdict', 'This is a different dump, but the patch matches it.')
         self.assertIn('All 4 places match. The rest of the disc differs from the author’s. 1 sector of your image is damaged.', self.browser.text('#player'))
         self.press('Patch and save')
         files = discs.written(other=other, english=discs.named())
@@ -255,8 +255,8 @@ class Player(PageTest):
         user[0:2] = b'XX'
         other = discs.game()[:block * 2352] + common.sector(block, bytes(user)) + discs.game()[(block + 1) * 2352:]
         self.play(other)
-        self.browser.wait('#verdict', 'This is a different dump, and the patch does not fit it.')
-        self.assertIn('1 of 6 places to patch holds other bytes.', self.browser.text('#player'))
+        self.browser.wait('#verdict', 'This is a different dump, and the patch does not match it.')
+        self.assertIn('1 of 6 places to patch contains different bytes.', self.browser.text('#player'))
         self.assertIn(common.text('playerOlderPatchPerhaps'), self.browser.text('#player'))
         self.press('Details')
         self.browser.wait('.hashes', f'refused: old bytes differ at block {block} offset 0')
@@ -267,7 +267,7 @@ class Player(PageTest):
 
     def test_a_damaged_dump_is_not_called_another_release(self) -> None:
         self.play(common.damaged(discs.game(), discs.first_block() + 1))
-        self.browser.wait('#verdict', 'This dump is damaged in places that the patch changes.')
+        self.browser.wait('#verdict', 'This dump is damaged where the patch needs to write.')
         self.assertIn('1 of 6 places to patch is damaged.', self.browser.text('#player'))
         self.assertNotIn('release', self.browser.text('#player'))
 
@@ -325,7 +325,7 @@ class Player(PageTest):
         tracks = 'FILE "{}" BINARY\n  TRACK 01 MODE1/2352\n    INDEX 01 00:00:00\nFILE "song.bin" BINARY\n  TRACK 02 AUDIO\n    INDEX 01 00:00:00\n'
         (place / 'mine.cue').write_text(tracks.format('MINE.bin'))
         self.browser.give('#player-sheet', [place / 'mine.cue'])
-        self.browser.wait('#player .step.now', 'Copy there too, since the cue sheet names it: song.bin.')
+        self.browser.wait('#player .step.now', 'Copy this file to the same folder too, because the cue sheet needs it: song.bin.')
         self.assertNotIn('if you have a .cue of the old image', self.browser.text('#player'))
         self.assertEqual(self.browser.run('return document.activeElement.innerText'), 'Save the cue sheet…')
         self.press('Save the cue sheet')
@@ -359,13 +359,13 @@ class Player(PageTest):
         sheet.write_text(discs.sheet_of(mine=discs.DATA, **{f'song {track}': 'AUDIO' for track in range(2, 9)}))
         self.browser.drop('#player', [sheet, image])
         self.browser.wait('#player .step.now', 'Save this one next to mine.bin.')
-        self.browser.wait('#player .step.now', 'Copy there too, since the cue sheet names them: song 2.bin, song 3.bin, song 4.bin, song 5.bin and 3 more files.')
+        self.browser.wait('#player .step.now', 'Copy these files to the same folder too, because the cue sheet needs them: song 2.bin, song 3.bin, song 4.bin, song 5.bin and 3 more files.')
 
     def test_an_iso_image_is_no_full_dump(self) -> None:
         self.open_patcher(patcher(discs.game(), result(), discs.script()))
         image = discs.written(mine=b''.join(common.iso_of({'README.TXT': b'game'})))['mine'].rename(common.folder('iso') / 'mine.iso')
         self.browser.drop('#player', [image])
-        self.browser.wait('#player .say.bad', 'mine.iso is an ISO image, which has only a part of each sector.')
+        self.browser.wait('#player .say.bad', 'mine.iso is an ISO image, which contains only part of each sector.')
         self.browser.wait('#player .say.bad', 'This patcher needs a full dump')
 
     def test_music_is_not_taken_for_the_disc(self) -> None:

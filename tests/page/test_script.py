@@ -220,7 +220,7 @@ class Script(PageTest):
         self.assertEqual([row.split('|')[1] for row in self.rows()], ['# end'])
         self.browser.press('z', held=Keys.CONTROL)
         self.browser.press(Keys.ENTER, held=Keys.CONTROL)
-        self.browser.wait('#panel-script .say.warn', 'Nothing shows whether the 2 patches')
+        self.browser.wait('#panel-script .say.warn', 'cdpatch cannot tell whether the 2 patches')
         self.assertEqual(self.script_text(), 'cdpatch 1\nrebuild 1\nrebuild 2\n# end')
 
     def type_script(self) -> None:

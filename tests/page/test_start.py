@@ -20,7 +20,7 @@ ASKED = 'globalThis.asked = 0; HTMLInputElement.prototype.click = function () { 
 class Start(PageTest):
     def test_all_of_it_is_seen_in_1280_by_800(self) -> None:
         self.browser.size(1280, 800)
-        self.assertEqual(self.browser.text('#start h1'), 'Patch, translate and repair CD images.')
+        self.assertEqual(self.browser.text('#start h1'), 'Patch, translate, and repair CD images.')
         self.assertEqual(self.browser.run(BELOW), [])
         self.assertLessEqual(self.browser.run('return document.documentElement.scrollHeight'), 800)
 

@@ -79,23 +79,23 @@ class Fitting(Stranger):
         self.play(disc, 'cdpatch 1\nset 3 0 4142\nfill 4 0 100 00\nrebuild 5\n')
         self.browser.wait('#verdict', common.text('playerCannotTell'))
         said = self.browser.text('#player')
-        self.assertIn('3 of 3 patches name no old bytes, so nothing shows whether they fit.', said)
+        self.assertIn('3 of 3 patches have no old bytes to compare, so cdpatch cannot tell whether they match.', said)
         self.assertIn(f'Your image has {len(disc):,} bytes, and the author’s has {len(discs.game()):,}.', said)
         self.assertNotIn('the author saw', said)
         self.assertEqual(self.browser.run('return document.querySelectorAll("#player .btn.main").length'), 0)
         self.press('Patch anyway')
         self.browser.downloaded('Starlit (English).bin')
         self.browser.wait('#saved.warn-ink', 'Starlit (English).bin')
-        self.assertIn('Nothing has shown whether the patch fits this disc.', self.browser.text('#player'))
+        self.assertIn('cdpatch could not check whether the patch matches this disc.', self.browser.text('#player'))
 
     def test_a_dump_of_the_same_length_is_not_told_so_if_one_line_names_no_old_bytes(self) -> None:
         self.play(common.damaged(discs.game(), 150), discs.script())
         self.browser.wait('#verdict', common.text('playerCannotTell'))
-        self.assertIn('2 of 6 patches name no old bytes, so nothing shows whether they fit.', self.browser.text('#player'))
+        self.assertIn('2 of 6 patches have no old bytes to compare, so cdpatch cannot tell whether they match.', self.browser.text('#player'))
 
     def test_only_the_hash_says_that_an_image_is_patched(self) -> None:
         self.play(common.image_of([bytes(8)] * 40), 'cdpatch 1\nset 3 0 00\nset 4 0 00\n')
-        self.browser.wait('#verdict', 'These places hold the new bytes already.')
+        self.browser.wait('#verdict', 'The new bytes are already there.')
         self.assertIn('this is not the image that the author made', self.browser.text('#player'))
         self.assertEqual(self.browser.run('return document.querySelectorAll("#player .btn.main, #player .good-ink").length'), 0)
 
@@ -103,7 +103,7 @@ class Fitting(Stranger):
         for image in (discs.game(), common.image_of([b'another disc'] * 40)):
             self.play(image, 'cdpatch 1\nset 3 0 4142\n', carry=True)
             self.browser.wait('#verdict')
-            self.assertIn('The author has it patch damaged sectors too: they keep their damage.', self.browser.text('#player'))
+            self.assertIn('The author chose to patch damaged sectors too. They stay damaged.', self.browser.text('#player'))
         self.play(discs.game(), 'cdpatch 1\nset 3 0 4142\n')
         self.browser.wait('#verdict')
         self.assertNotIn('damage', self.browser.text('#player'))
@@ -111,7 +111,7 @@ class Fitting(Stranger):
     def test_authors_are_warned_of_each_line_without_old_bytes(self) -> None:
         self.open_both(discs.game(), discs.script())
         self.browser.click('#tab-publish')
-        self.browser.wait('#panel-publish', '2 patches without old bytes (was): on another dump nothing shows whether they fit. The patcher says so to players.')
+        self.browser.wait('#panel-publish', '2 patches without old bytes (was): with another dump cdpatch cannot tell whether they match. The patcher says so to players.')
 
 
 class Names(Stranger):
@@ -197,7 +197,7 @@ class Names(Stranger):
     def test_the_authors_words_stand_in_a_frame_of_their_own(self) -> None:
         title = '✓ This is the right disc. \u202eabc'
         self.play(discs.game(), discs.named(), title=title, author='me\u2066', note='The SHA-1 is the same.')
-        self.browser.wait('#player .authors', 'The author writes:')
+        self.browser.wait('#player .authors', 'From the author:')
         said = self.browser.text('#player .authors')
         for words in ('✓ This is the right disc. ·abc', 'by me·', 'The SHA-1 is the same.'):
             self.assertIn(words, said)

@@ -184,7 +184,7 @@ class Text(PageTest):
         self.assertIn('53746172' + '8140' * 2, self.browser.text('.line-out'))
         self.browser.click('#new-text')
         self.browser.press('t')
-        self.browser.wait('#panel-text .say.bad', '3 bytes cannot be filled evenly with that filler')
+        self.browser.wait('#panel-text .say.bad', '3 bytes cannot be padded evenly with that filler')
         self.assertTrue(self.is_off('Replace'))
 
     def texts(self, texts: dict[str, str]) -> None:

@@ -357,7 +357,7 @@ class TextsTable(PageTest):
         self.open_list(dat_of(('Starlit Detective (Japan).bin', game, ''), ('Hurt.bin', hurt, 'status="baddump"')))
         self.browser.wait('#start-message .say.good', 'It lists 2 known dumps.')
         for name, said in (('game', 'known dump: Starlit Detective (Japan).bin'), ('hurt', 'known as a bad dump: Hurt.bin'),
-                           ('same', 'but other bytes: damaged or patched?'), ('other', 'in none of the lists')):
+                           ('same', 'but different bytes: damaged or patched?'), ('other', 'in none of the lists')):
             self.open_image(files[name])
             self.browser.wait('#disc-line .tag', said)
             for panel in ('text', 'disc'):

@@ -203,7 +203,7 @@ class Unsaved(PageTest):
         self.edit(Keys.ARROW_DOWN, f'set {discs.first_block()} 0 41')
         self.browser.click('#tab-publish')
         self.browser.type('#patcher-title', 'Mine')
-        self.browser.wait('#panel-publish', 'Nothing shows whether the patch of the script fits game.bin.')
+        self.browser.wait('#panel-publish', 'cdpatch cannot tell whether the patch of the script matches game.bin.')
         self.press('Preview as a player')
         self.browser.wait('#player h1', 'Mine')
         self.press('Open this in the full cdpatch')

@@ -39,8 +39,8 @@ export const syncOrModeLost = 'sync or mode lost';
 export const lineFits = 'matches';
 export const lineNotCompared = 'not compared';
 export const lineDoesNotFit = 'refused: {why}';
-export const scriptIsLong = 'It is larger than 4 MB or longer than 150,000 lines. Check, Apply, Publish, and Save work with all of it. ' +
-    'The other panels do not highlight its changes.';
+export const scriptIsLong = 'The script is larger than 4 MB or longer than 150,000 lines. Check, Apply, Publish, and Save work with all ' +
+    'of it. The other panels do not highlight its changes.';
 
 // ---- the frame: first screen, bar, help
 
@@ -62,7 +62,7 @@ export const frameOpenImage = 'Open image';
 
 // shown until the page has started
 export const frameHasNotStarted = 'cdpatch could not start.';
-export const frameWhyNotStarted = 'Either your browser cannot run it (any browser from mid-2024 on can, if JavaScript is allowed), or ' +
+export const frameWhyNotStarted = 'Either your browser cannot run it (browsers from mid-2024 or later can, if JavaScript is on), or ' +
     'this file has been modified. In that case get it again from a source you trust.';
 export const frameNoVectors = 'Your browser has no WebAssembly SIMD. Chromium 91, Firefox 89, Safari 16.4, and later versions have it, ' +
     'unless the processor has no SSE4.1 or the browser’s compilers are switched off.';
@@ -70,7 +70,7 @@ export const frameNotInsideAnother = 'cdpatch does not run inside another page.'
 export const frameOpenTheFile = 'Open the file cdpatch.html itself.';
 
 // the first screen
-export const framePatchTranslateRepair = 'Patch, translate and repair CD images.';
+export const framePatchTranslateRepair = 'Patch, translate, and repair CD images.';
 export const frameNeverChanged = 'Your file is never changed: cdpatch saves a new one.';
 export const frameWhatYouCanDo = 'What you can do';
 export const frameApplyPatch = 'Apply a patch';
@@ -83,7 +83,7 @@ export const frameOpenFilesHere = 'Open files';
 export const frameOpenFiles = 'Open files…';
 export const frameOrTryExample = 'or {example} that has some damage and the Japanese text {text}';
 export const frameTryExample = 'try it with a small example disc';
-export const frameKindsOfFiles = 'Takes raw images (.bin, .img), their .cue, patch scripts, patcher pages, lists of text, DATs; ' +
+export const frameKindsOfFiles = 'Opens raw images (.bin, .img), their .cue, patch scripts, patcher pages, lists of text, DATs; ' +
     'converts ISO files, not CHDs.';
 export const frameNothingLeavesYourComputer = 'Nothing leaves your computer.';
 export const frameOneFileOffline = 'This page is a single file and makes no network connections. It works offline.';
@@ -252,7 +252,7 @@ export const imageAudioTracks = '{n} audio track ({where})|{n} audio tracks ({wh
 export const imageInSameFile = 'in the same file';
 export const imageNamesAndMore = '{names} and {n} more';
 export const imageNotForEditing = '{names}, not opened for editing';
-export const imageIsNotHere = '{names}, which is not here';
+export const imageIsNotHere = '{names}, which is missing';
 export const imageNotAllHere = '{names}, not all of them here';
 
 // the progress of reading, and the findings
@@ -293,7 +293,7 @@ export const discMapOfDisc = 'Map of the disc';
 export const discSquareIsSector = '1 square = 1 sector';
 export const discPixelIsSector = '1 pixel = 1 sector';
 export const discPixelIsSectors = '1 pixel = {n} sectors, the worst shown';
-export const discFilesInShades = '{per}, files in two shades by turns';
+export const discFilesInShades = '{per}; neighbouring files have different shades';
 export const discMinutesOnRuler = '{minute} min';
 export const discNoSectorChosen = 'No sector is chosen.';
 export const discPressLegendEntry = 'Legend: select an entry to show only that kind';
@@ -330,7 +330,7 @@ export const discSectorsColumn = 'Sectors';
 export const discSectorsLabel = 'sectors';
 export const discWhatColumn = 'What';
 export const discLooksLikeColumn = 'Looks like';
-export const discLooksLikeIsGuess = '“Looks like” is guessed from the spacing of the damaged sectors. The other columns were found.';
+export const discLooksLikeIsGuess = '“Looks like” is a guess from the spacing of the damaged sectors. The other columns are facts.';
 export const discMoreFindings = 'and {n} more (all are under “As text”)';
 
 // the findings at a place
@@ -382,7 +382,7 @@ export const discChooseFile = 'Select a file to see its first sector and to save
 export const discFileInScript = 'in the script';
 export const discExtractFile = 'Extract…';
 export const discExtractPatched = 'Extract as patched…';
-export const discTakeBack = 'Take back';
+export const discTakeBack = 'Undo the replacement';
 export const discReplaceFile = 'Replace…';
 export const discJobCancelled = 'Cancelled.';
 export const discReadingFile = 'Reading the file';
@@ -430,7 +430,7 @@ export const discImageIsLookedUp = 'The open image is looked up in it.';
 export const discListIsLookedUp = 'The images of the list are looked up in it.';
 export const discNotAListOfDumps = 'This list of known dumps cannot be read: {name}';
 export const discInNoListOfDumps = 'in none of the lists of known dumps';
-export const discSizeOfDump = 'the size of {name}, but other bytes: damaged or patched?';
+export const discSizeOfDump = 'same size as {name}, but different bytes: damaged or patched?';
 export const discKnownBadDump = 'known as a bad dump: {name}';
 export const discVerifiedDump = 'known dump: {name}';
 
@@ -542,7 +542,7 @@ export const sectorNothingToRedo = 'There are no bytes to redo.';
 export const sectorNotTypedHere = 'The last change to the script was not typed here.';
 export const sectorOnlyUserDataTyped = 'Only the user data of Mode 1 sectors can be edited.';
 export const sectorTooManyBytes = 'These are {n} bytes, but there is room for only {room} here in the user data of this sector.';
-export const sectorNoHexDigits = 'These are not pairs of hexadecimal digits. To enter text, first press T or select a character beside ' +
+export const sectorNoHexDigits = 'These are not pairs of hexadecimal digits. To enter text, first press T or select a character next to ' +
     'the bytes.';
 // the field on a touch screen
 export const sectorNewBytesFrom = 'New bytes from {place} on, in hex';
@@ -618,7 +618,7 @@ export const textAnotherByte = 'another byte…';
 export const textCannotMoveBytes = 'A patch cannot move bytes: the new text needs as many bytes as the old one, or fewer.';
 export const textShortenBy = 'Shorten it by\u00A0{more}.';
 export const textTypeNewText = 'Type the new text.';
-export const textCannotFill = '{n} byte cannot be filled evenly with that filler.|{n} bytes cannot be filled evenly with that filler.';
+export const textCannotFill = '{n} byte cannot be padded evenly with that filler.|{n} bytes cannot be padded evenly with that filler.';
 export const textChooseAnotherByte = 'Choose a different filler.';
 export const textLineWritesHere = 'Line {line} of the script already writes here. A second line would find different old bytes.';
 export const textTakesPlaceOfLine = 'This line replaces line {line}';
@@ -725,13 +725,13 @@ export const scriptUndoGetsOriginalBack = 'Apply it to the patched image to get 
 export const scriptUndoButForDamage = 'Apply it to the patched image to get the original back, except for the damage in {blocks}, of which \
 only address and user data are restored.';
 export const scriptUndoButForRefused =
-    '{n} patch does not fit this image, and is not undone.|{n} patches do not fit this image, and are not undone.';
+    '{n} patch does not match this image, and is not undone.|{n} patches do not match this image, and are not undone.';
 export const scriptUndoWithCarry = 'Apply it with carry, like this script.';
 export const scriptUndoIsLong = 'It is longer than cdpatch and this page accept: apply it with cdscript and --long.';
 export const scriptHasFault = 'The script has an error.';
 export const scriptNoUndoMade = 'No undo script was made.';
 export const scriptImageHasItAlready = 'The image already has what the script writes.';
-export const scriptAllRefusedByImage = '{n} patch does not fit this image.|{n} patches do not fit this image.';
+export const scriptAllRefusedByImage = '{n} patch does not match this image.|{n} patches do not match this image.';
 export const scriptOpenImageBefore = 'No undo script was made. Open the image as it was before the script.';
 
 // the lines of the script
@@ -832,19 +832,21 @@ export const scriptWouldBeCopy = 'The saved image would be an unchanged copy.';
 export const scriptAllChangesFit = '{script}: {n} patch, which matches {image}.|{script}: {n} patches, which all match {image}.';
 export const scriptNoChangeFits = '{script}: {n} patch, which does not match {image}.|{script}: {n} patches, which do not match {image}.';
 export const scriptIsPatchedAlready = '{image} is patched already.';
-export const scriptChangesStandThere = 'It holds what the patch of {script} writes.|It holds what all {n} patches of {script} write.';
+export const scriptChangesStandThere = 'It already contains what the patch of {script} writes.|\
+It already contains what all {n} patches of {script} write.';
 export const scriptAnotherRelease = 'Another release, another disc, or another base?';
 export const scriptSomeChangesFit =
     '{script}: {fitting} of {all} patches match {image}, {n} does not.|{script}: {fitting} of {all} patches match {image}, {n} do not.';
-export const scriptSomeNotCompared = '{script}: {fitting} of {all} patches match {image}, {n} names no old bytes.|\
-{script}: {fitting} of {all} patches match {image}, {n} name no old bytes.';
+export const scriptSomeNotCompared = '{script}: {fitting} of {all} patches match {image}, {n} has no old bytes to compare.|\
+{script}: {fitting} of {all} patches match {image}, {n} have no old bytes to compare.';
 export const scriptNothingShowsFit =
-    'Nothing shows whether the patch of {script} fits {image}.|Nothing shows whether the {n} patches of {script} fit {image}.';
-export const scriptNamesNone = 'It names no old bytes.|None of them names old bytes.';
-export const scriptNoNamedFits = 'The patch of {script} that names old bytes does not fit {image}.|\
-None of the {n} patches of {script} that name old bytes fits {image}.';
-export const scriptOthersNameNone = 'The other patch names no old bytes, so nothing shows whether it fits.|\
-The other {n} patches name no old bytes, so nothing shows whether they fit.';
+    'cdpatch cannot tell whether the patch of {script} matches {image}.|\
+cdpatch cannot tell whether the {n} patches of {script} match {image}.';
+export const scriptNamesNone = 'It has no old bytes to compare.|None of them has old bytes to compare.';
+export const scriptNoNamedFits = 'The patch of {script} that can be checked does not match {image}.|\
+None of the {n} patches of {script} that can be checked matches {image}.';
+export const scriptOthersNameNone = 'The other patch has no old bytes to compare, so cdpatch cannot tell whether it matches.|\
+The other {n} patches have no old bytes to compare, so cdpatch cannot tell whether they match.';
 export const scriptRepairOrCarry = 'Repair the image first, or tick “Patch damaged sectors too”.';
 export const scriptAnotherTrack = 'Only Mode 1 sectors are patched. Another track, or another disc?';
 export const scriptAnotherTrackOrBase = 'Another track, or another base?';
@@ -966,7 +968,7 @@ export const secondNotThere = 'not there';
 export const secondNotOfMode1 = 'not Mode 1';
 export const secondMoreHaveNoRow = 'and {n} more block.|and {n} more blocks.';
 export const secondDifferInEach = 'The images differ in each of these blocks.';
-export const secondNoSoundCopyThere = 'The second image has a sound copy of none of these blocks.';
+export const secondNoSoundCopyThere = 'The second image has no sound copy of these blocks.';
 export const secondSameBytesIn = 'In {blocks} both images hold the same bytes: perhaps the damage is on the disc itself, or on purpose.';
 export const secondThirdDump = 'A third dump would show it.';
 export const secondTheBlock = 'block {blocks}';
@@ -1040,8 +1042,9 @@ export const publishTryingOnImage = 'Testing the script on your image…';
 export const publishChangesForDamage =
     '{n} patch is for a damaged sector: repair the image first.|{n} patches are for a damaged sector: repair the image first.';
 export const publishAllNameOldBytes = 'Each patch names the bytes that it replaces.';
-export const publishWithoutOldBytes = '{n} patch without old bytes ({was}): on another dump nothing shows whether it fits. The patcher \
-says so to players.|{n} patches without old bytes ({was}): on another dump nothing shows whether they fit. The patcher says so to players.';
+export const publishWithoutOldBytes = '{n} patch without old bytes ({was}): with another dump cdpatch cannot tell whether it matches. \
+The patcher says so to players.|{n} patches without old bytes ({was}): with another dump cdpatch cannot tell whether they match. \
+The patcher says so to players.';
 export const publishReadingYourImage = 'Reading your image…';
 export const publishNotReadToEnd = 'Your image was not read to its end. Read it again under Disc.';
 export const publishYourImageSound = 'All sectors of your image that were tested are sound.';
@@ -1064,7 +1067,8 @@ The old bytes come from the game ({n} bytes). Check whether you may publish them
 export const publishSaveAsPatcher = 'Save as a patcher…';
 export const publishSeeAsPlayer = 'Preview as a player';
 export const publishPatcherSize = 'About {size} KB.';
-export const publishPatcherIsOneFile = 'One .html file with this page, your script, and what you entered here. It holds no image.';
+export const publishPatcherIsOneFile =
+    'One .html file with this page, your script, and what you entered here. It does not contain the image.';
 export const publishNoLicenceYet = 'The publisher of this copy of cdpatch, which the patcher contains, has not given a licence yet: ' +
     'try it, but ' +
     'do not publish it before there is a release with a licence.';
