@@ -9,7 +9,7 @@ import { ENCODINGS_KNOWN, damaged, imageOf, inDirectory, program, read, run, sam
 import { files, makeDisc, noise } from './discs.mjs';
 
 const skip = tool('genisoimage', ['--version']) === null && 'no genisoimage';
-const NOT_CONVERTED = 'expected an image of 2048, 2336, or 2448 bytes a sector, but';
+const NOT_CONVERTED = 'expected an image of 2048, 2336, or 2448 bytes per sector, but';
 const sheet = (name, type = 'MODE1/2352') => `FILE "${name}" BINARY\n  TRACK 01 ${type}\n    INDEX 01 00:00:00\n`;
 
 /** Asserts that a run fails with exactly this message and creates no file. */
@@ -56,7 +56,7 @@ test('an image with subchannels is made raw, by its sync fields and not by its s
     }
     write(room, { 'plain.bin': imageOf(room, 51), 'cut.bin': read(room, 'longer.bin').subarray(0, -1) });
     assert.equal(read(room, 'plain.bin').length % 2448, 0);
-    await fails(['raw', 'plain.bin', 'out'], `${NOT_CONVERTED} plain.bin is a raw image, 2352 bytes a sector`, room);
+    await fails(['raw', 'plain.bin', 'out'], `${NOT_CONVERTED} plain.bin is a raw image, 2352 bytes per sector`, room);
     await fails(['raw', 'cut.bin', 'out'], `cut.bin has ${2448 * 700 - 1} bytes, which is not a multiple of 2448`, room);
     await fails(['raw', 'longer.bin', 'out', '--base', '0'], 'longer.bin has addresses, so it needs no --base', room);
     assert.equal(read(room, 'out'), null);
@@ -67,9 +67,9 @@ test('Mode 2 sectors without sync field and header get both, and the raw image i
     const sectors = Array.from({ length: 700 }, (_, i) => image.subarray(2352 * i, 2352 * (i + 1)));
     write(room, { 'image.2336': Buffer.concat(sectors.map(it => it.subarray(16))) });
     const { out } = await run(['info', 'image.2336'], { cwd: room });
-    assert.equal(out, 'image.2336: an image of 2336 bytes a sector, Mode 2 without sync fields and headers\n' +
+    assert.equal(out, 'image.2336: an image of 2336 bytes per sector, Mode 2 without sync fields and headers\n' +
         'Convert it to a raw image with `cdscript raw`, which adds them.\n');
-    assert.match((await run(['scan', 'image.2336'], { cwd: room })).out, /^image.2336\tnone: an image of 2336 bytes a sector, /);
+    assert.match((await run(['scan', 'image.2336'], { cwd: room })).out, /^image.2336\tnone: an image of 2336 bytes per sector, /);
     for (const [words, base] of [[[], 0], [['--base', '45000'], 45000]]) {
         assert.deepEqual(await run(['raw', 'image.2336', `${base}.bin`, ...words], { cwd: room }).then(it => [it.status, it.errors]), [0, '']);
         const found = JSON.parse((await run(['info', '--json', `${base}.bin`], { cwd: room })).out);
@@ -82,7 +82,7 @@ test('Mode 2 sectors without sync field and header get both, and the raw image i
 
 test('what can not be made raw, or has no user data', { skip }, () => inDirectory(async room => {
     await makeDisc(room);
-    await fails(['raw', 'disc.bin', 'out'], `${NOT_CONVERTED} disc.bin is a raw image, 2352 bytes a sector`, room);
+    await fails(['raw', 'disc.bin', 'out'], `${NOT_CONVERTED} disc.bin is a raw image, 2352 bytes per sector`, room);
     write(room, { 'cut.iso': read(room, 'disc.iso').subarray(0, 100000), 'a.chd': Buffer.from('MComprHD'.padEnd(3000)) });
     await fails(['raw', 'a.chd', 'out'], `${NOT_CONVERTED} a.chd is a CHD file`, room);
     await fails(['raw', 'cut.iso', 'out'], 'cut.iso has 100000 bytes, which is not a multiple of 2048', room);

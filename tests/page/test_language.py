@@ -42,7 +42,7 @@ CORE = {
     'SectorCalls.auditLine': r'edc p=\d+ q=\d+',
     'script/left of sentences/english.js, with blocksText of sentences/blocks.js': r'is damaged in blocks [\d, ]+ and \d+ more',
     'verdictText of sentences/verdict.js': r'(?i:^the only data sector is sound|(all )?[\d,]+ (of [\d,]+ )?(data |Mode 2 |extra )?(sectors?|blocks?|tracks?)( of the volume)? .*(sound|damaged|lost|address|missing|tested|damage).*)',
-    'kind/what of sentences/kinds.js': '^(not recognised|an ISO image, 2048 bytes a sector)$',
+    'kind/what of sentences/kinds.js': '^(not recognised|an ISO image, 2048 bytes per sector)$',
     'list/new-characters of sentences/english.js': r'\d+ characters are in no old text: .* Does the font of the game have them\?',
     'replace/no-room of sentences/english.js': r'the new text has \d+ bytes in CP932, and there is room for \d+: \d+ too many',
 }

@@ -102,9 +102,9 @@ class Conversions(PrivateFilesTest):
 
     def test_each_kind_is_converted_to_the_raw_image_that_it_was_made_from(self) -> None:
         game, mode2 = discs.game(), discs.mode2(700)
-        cases = {'game.iso': (cut(game, 16, 2064), game, 'an ISO image, 2048 bytes a sector'),
-                 'game.img': (cut(game, 0, 2352, bytes(96)), game, 'an image of 2448 bytes a sector, with subchannels'),
-                 'video.bin': (cut(mode2, 16, 2352), mode2, 'an image of 2336 bytes a sector, Mode 2 without sync fields and headers')}
+        cases = {'game.iso': (cut(game, 16, 2064), game, 'an ISO image, 2048 bytes per sector'),
+                 'game.img': (cut(game, 0, 2352, bytes(96)), game, 'an image of 2448 bytes per sector, with subchannels'),
+                 'video.bin': (cut(mode2, 16, 2352), mode2, 'an image of 2336 bytes per sector, Mode 2 without sync fields and headers')}
         for name, (data, due, what) in cases.items():
             with self.subTest(name):
                 self.setUp()
@@ -117,7 +117,7 @@ class Conversions(PrivateFilesTest):
                 self.browser.wait('#disc-line .lead', 'are sound')
 
     def test_a_cancelled_conversion_leaves_no_file(self) -> None:
-        self.offered('long.iso', cut(discs.long_disc(), 16, 2064), 'an ISO image, 2048 bytes a sector')
+        self.offered('long.iso', cut(discs.long_disc(), 16, 2064), 'an ISO image, 2048 bytes per sector')
         self.browser.run('chosen.hold()')
         self.press(CONVERT)
         common.waited(lambda: self.browser.run('return chosen.writes > 1'), 'one write at most')
@@ -132,7 +132,7 @@ class Conversions(PrivateFilesTest):
         self.assertEqual(self.run_here(SIZE), discs.SCRATCHED_SECTORS * common.SECTOR_SIZE)
 
     def test_a_file_that_is_cut_is_not_converted(self) -> None:
-        self.offered('cut.iso', cut(discs.game(), 16, 2064) + b'x', 'an ISO image, 2048 bytes a sector')
+        self.offered('cut.iso', cut(discs.game(), 16, 2064) + b'x', 'an ISO image, 2048 bytes per sector')
         self.press(CONVERT)
         self.browser.wait('#start-message', 'which is not a multiple of 2048')
         self.assertEqual(self.kept(), [])

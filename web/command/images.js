@@ -169,7 +169,7 @@ async function convertibleKind(job, { name, reader }) {
     if (isConvertible(kind)) return kind;
     if (kind === 'audio' || kind === 'unknown') return 'iso';
     const sizes = Object.values(CONVERTIBLE).sort((a, b) => a - b).join(', ').replace(/, (?=\d+$)/, ', or ');
-    throw ownFault(`expected an image of ${sizes} bytes a sector, but ${name} is ${sentenceOf({ code: 'kind/what', facts: { kind } })}`);
+    throw ownFault(`expected an image of ${sizes} bytes per sector, but ${name} is ${sentenceOf({ code: 'kind/what', facts: { kind } })}`);
 }
 
 /** @param {Job} job */

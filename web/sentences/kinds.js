@@ -24,7 +24,7 @@ export const KINDS = {
         'Descramble it with the program that read the disc, such as redumper or DiscImageCreator.',
     ],
     headerless: [
-        'an image of 2336 bytes a sector, Mode 2 without sync fields and headers',
+        'an image of 2336 bytes per sector, Mode 2 without sync fields and headers',
         'Convert it to a raw image with `cdscript raw`, which adds them.',
     ],
     unaligned: [

@@ -58,10 +58,11 @@ function beginRow(app, file, kind, place) {
  * @param {DiscFile} file
  * @param {ConvertibleKind} kind
  * @param {HTMLElement} place of the progress bar
+ * @returns {Promise<void>}
  */
-function saveRaw(app, file, kind, place) {
+async function saveRaw(app, file, kind, place) {
     const name = patchedName(file.name, RAW, ENDING);
-    return jobAt(app, place, {
+    await jobAt(app, place, {
         name: playerTexts.saveSavingImage, saves: true, run: (bar, signal) => {
             const make = (/** @type {TakeBytes} */ take) => convertToRaw(app, file, kind, take, { signal, progress: bar.sectors });
             if (!canStream()) return downloadMade(make, name);
