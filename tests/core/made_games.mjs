@@ -6,7 +6,7 @@ const { encodeText } = await core('encodings/encoding.js');
 const { encodingOf } = await core('encodings/encodings.js');
 
 const bytesOf = (name, text) => Buffer.from(encodeText(encodingOf(name), text));
-const number = (size, value, isBig = false) => {
+export const number = (size, value, isBig = false) => {
     const bytes = Buffer.alloc(size);
     if (isBig) bytes.writeUIntBE(value, 0, size);
     else bytes.writeUIntLE(value, 0, size);
@@ -36,12 +36,12 @@ function lineOf(dice) {
         `${who}さま、どうか${what}を${where}まで届けてください${end}`][dice(4)];
 }
 
-const linesOf = (dice, count) => Array.from({ length: count }, () => lineOf(dice));
-const wordsOf = (dice, count) => Array.from({ length: count }, (_, i) => WORDS[(7 * i + dice(3)) % WORDS.length]);
+export const linesOf = (dice, count) => Array.from({ length: count }, () => lineOf(dice));
+export const wordsOf = (dice, count) => Array.from({ length: count }, (_, i) => WORDS[(7 * i + dice(3)) % WORDS.length]);
 const sentencesOf = (language, dice, count) => Array.from({ length: count }, () => PARTS[language].map(some => some[dice(some.length)]).join(' ').replace(/ ([.?!])/, '$1'));
 
 /** Bytes like code and numbers. */
-const others = (dice, size) => Buffer.from(Array.from({ length: size }, () => [0, 0, 1, 2, 4, 0x89, 0x8B, 0xE8, 0xFF, 0x55, dice(256)][dice(11)]));
+export const others = (dice, size) => Buffer.from(Array.from({ length: size }, () => [0, 0, 1, 2, 4, 0x89, 0x8B, 0xE8, 0xFF, 0x55, dice(256)][dice(11)]));
 
 /** Texts that end with a byte, after a table of pointers. */
 function ended(dice, texts, end, name, encoding) {

@@ -6,7 +6,7 @@ const fs = require('fs');
 const path = require('path');
 
 /** The layers from the lowest up. Below all of them are the helpers, which are the files of web/core itself. */
-const LAYERS = ['', 'readers', 'module', 'sectors', 'pool', 'encodings', 'iso', 'disc', 'script', 'texts', 'tasks', 'jobs'];
+const LAYERS = ['', 'readers', 'module', 'sectors', 'pool', 'encodings', 'iso', 'disc', 'script', 'texts', 'pointers', 'tasks', 'jobs'];
 
 /** Interfaces import the index.js of OPEN. Only the WORKERS, which start workers or run in them, import that of IN_WORKERS. */
 const OPEN = ['module', 'tasks'];

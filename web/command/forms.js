@@ -88,8 +88,8 @@ export const FORMS = {
     },
     'texts': {
         job: textsJob, takes: ['IMAGE'], instead: { file: [] },
-        options: ['encoding', 'table', 'end', 'in', 'min', 'lines', 'every', 'length', 'skip', 'limit', 'csv', 'po', 'list', 'file',
-            'track', 'base', 'output'],
+        options: ['encoding', 'table', 'end', 'in', 'min', 'lines', 'every', 'length', 'skip', 'limit', 'csv', 'po', 'list', 'pointers',
+            'file', 'track', 'base', 'output'],
         own: { limit: 'print the first N records', encoding: 'the encoding of text, as for find, except hex' },
         says: 'Print a table of all text on a disc',
         does: 'Its columns are block, offset, bytes, room, encoding, file, text, and new. Write translations in the column new, for ' +
@@ -118,8 +118,8 @@ export const FORMS = {
     'replace': {
         job: replaceJob, takes: ['IMAGE', '[BLOCK OFFSET]', 'OLD', 'NEW'], words: ['BLOCK', 'OFFSET', 'OLD', 'NEW'],
         instead: { check: ['LIST..'], file: ['OUT'], list: ['IMAGE'] },
-        options: ['encoding', 'table', 'end', 'loose', 'fill', 'all', 'inside', 'list', 'file', 'check', 'partial', 'track', 'base',
-            'output'],
+        options: ['encoding', 'table', 'end', 'loose', 'fill', 'all', 'inside', 'list', 'pointers', 'keep', 'file', 'check', 'partial',
+            'track', 'base', 'output'],
         says: 'Write a script that replaces text',
         does: 'Without BLOCK and OFFSET it searches for OLD, which must occur exactly once unless --all is given. A shorter NEW is ' +
             'padded with spaces (00 for hex) or with --fill. A longer NEW is refused.\n' +
@@ -132,6 +132,7 @@ export const FORMS = {
         own: {
             end: 'the byte that ends each text: --fill end writes it, and no new text replaces the last of it',
             partial: 'leave out the rows of the list that do not fit',
+            pointers: 'move texts that are longer than their room, with the pointers of this list from `texts --pointers`',
         },
     },
     'replace-file': {

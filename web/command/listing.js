@@ -1,12 +1,13 @@
 // The jobs `replace --list`, which writes the script for lists with the new texts of a disc, and `replace --check`, which checks lists.
 
-import { checkLists, importTable } from '../core/tasks/index.js';
+import { checkLists, importMoving, importTable } from '../core/tasks/index.js';
 import { ownFault, sentenceOf } from '../sentences/index.js';
 import { openTrackOf } from './opening.js';
 import { linesOfRuns, sayOfRuns, visible } from './printed.js';
 import { writeFinished } from './scripts.js';
 import { encodingsOf } from './searching.js';
 
+/** @typedef {import('../core/tasks/opened.js').OpenedTrack} OpenedTrack */
 /** @typedef {import('../core/tasks/table.js').ImportedTable} ImportedTable */
 /** @typedef {import('./job.js').Job} Job */
 
@@ -77,13 +78,34 @@ export async function importOptions(job, names) {
 }
 
 /**
+ * Imports lists whose texts may move, and reports those that have moved.
+ * @param {Job} job
+ * @param {OpenedTrack} opened
+ * @param {string[]} names of the lists
+ * @param {string} pointers the name of the list of pointers
+ */
+async function importedMoving(job, opened, names, pointers) {
+    const { keep = [] } = job.options;
+    const [list] = await filesNamed(job, [pointers]);
+    const isKept = (/** @type {{ number: number }} */ { number }) => keep.includes(number);
+    const made = await importMoving(job, opened, { ...await importOptions(job, names), pointers: list, isKept }, job.watch);
+    sayOfRuns(job, made.moved, sentenceOf);
+    sayOfRuns(job, made.few, sentenceOf);
+    sayOfRuns(job, made.sharing, sentenceOf);
+    job.say(`texts moved ${made.moved.length}`);
+    return made;
+}
+
+/**
  * @param {Job} job
  * @param {string[]} names of the lists
  */
 export async function replaceListJob(job, names) {
     const target = await job.target();
     const opened = await openTrackOf(job, job.names[0]);
-    const { script, ...made } = await importTable(job, opened, await importOptions(job, names));
+    const { pointers } = job.options;
+    const { script, ...made } = pointers === undefined ? await importTable(job, opened, await importOptions(job, names))
+        : await importedMoving(job, opened, names, pointers);
     sayOfLists(job, made, 'script');
     if (script === null) throw ownFault('no row fits, so no script was written');
     await writeFinished(job, target, script);

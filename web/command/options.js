@@ -82,6 +82,14 @@ const ROWS = /** @type {const} */ ({
         word: '--list', value: 'FILE', does: 'read translations from this table or PO file; may be repeated', repeated: true,
         excludes: ['all', 'inside', 'loose'],
     },
+    pointers: {
+        word: '--pointers', value: 'FILE', does: 'write the tables of pointers that were found to this new file',
+        excludes: ['file', 'check', 'every', 'lines'], needs: { replace: 'list' },
+    },
+    keep: {
+        word: '--keep', value: 'ROW', does: 'leave the text of this row of the list in place; may be repeated', repeated: true,
+        parse: numberFrom('--keep', 1, LAST_BLOCK), needs: { replace: 'pointers' },
+    },
     file: {
         word: '--file', value: 'FILE', does: 'use this ordinary file instead of an image', excludes: ['base', 'track', 'in'],
         needs: { replace: 'list' },
@@ -139,7 +147,7 @@ const ROWS = /** @type {const} */ ({
 /**
  * The value of an option.
  * @template Row
- * @typedef {Row extends { repeated: true } ? string[] : Row extends { parse: (text: string) => infer Value } ? Value
+ * @typedef {Row extends { repeated: true, parse: (text: string) => infer Value } ? Value[] : Row extends { repeated: true } ? string[] : Row extends { parse: (text: string) => infer Value } ? Value
  *     : Row extends { value: '' } ? boolean : string} ValueOf
  */
 /** @typedef {{ -readonly [Name in OptionName]?: ValueOf<(typeof ROWS)[Name]> }} Options the options that were given */

@@ -4,7 +4,7 @@ import { wholeOf } from '../core/bytes.js';
 import { encodingOf, tableTextOf } from '../core/encodings/views.js';
 import { failedBy } from '../core/faults.js';
 import { hexText } from '../core/hex_digits.js';
-import { exportRecords, exportTable, newTextsOf } from '../core/tasks/index.js';
+import { ListedSpans, exportRecords, exportTable, findPointers, newTextsOf } from '../core/tasks/index.js';
 import { ownFault, rowName, sentenceOf } from '../sentences/index.js';
 import { filesNamed } from './listing.js';
 import { entriesAtPath, sayNoVolume } from './looking.js';
@@ -130,9 +130,22 @@ function endsOfFiles(job) {
     };
 }
 
+/**
+ * Writes the tables of pointers to the listed texts, and reports how many there are.
+ * @param {Job} job
+ * @param {Target} target
+ * @param {Pick<OpenedTrack, 'contents'>} opened
+ * @param {ListedSpans} listed
+ */
+async function writePointers(job, target, opened, listed) {
+    const { text, count } = await findPointers(opened, listed, job.watch);
+    await target.write(new TextEncoder().encode(text));
+    job.say(`tables of pointers ${count}`);
+}
+
 /** @param {Job} job */
 export async function textsJob(job) {
-    const { encoding, table: file, end, csv, po, lines, min: least, in: paths, list, every } = job.options;
+    const { encoding, table: file, end, csv, po, lines, min: least, in: paths, list, every, pointers } = job.options;
     assertRecords(job.options);
     const named = encoding === undefined ? null : encodingOf(encoding);
     if (named !== null && !named.hasCharacters) {
@@ -141,6 +154,7 @@ export async function textsJob(job) {
     const table = file && tableTextOf(await wholeOf((await job.files.image(file)).reader));
     const own = table === undefined ? named : await tableSaid(job, table);
     const target = await job.target();
+    const forPointers = pointers === undefined ? null : await job.files.make(pointers);
     const opened = await openTextsOf(job);
     sayNoVolume(job, await opened.contents());
     const engine = { pool: job.pool.pool(opened.part.sectors) };
@@ -149,11 +163,14 @@ export async function textsJob(job) {
     /** @type {Pick<import('../core/tasks/table.js').ExportOptions, 'form' | 'end' | 'freshOf'>} */
     const how = { form: po ? 'po' : cells, end, freshOf: news && (it => news.of(it)) };
     const ends = endsOfFiles(job);
-    const exported = { encoding, table, lines, least, paths, ended: ends.add, ...how };
+    const listed = new ListedSpans();
+    const seen = forPointers === null ? undefined : (/** @type {import('../core/texts/all_texts.js').ListedText[]} */ some) => listed.add(some);
+    const exported = { encoding, table, lines, least, paths, ended: ends.add, seen, ...how };
     const texts = every === undefined ? await writeTable(target, exportTable(engine, opened, exported)) :
         await writeRecords(job, target, opened, { ...how, encoding: own });
     ends.say();
     job.say(`texts ${texts}`);
+    if (forPointers !== null) await writePointers(job, forPointers, opened, listed);
     if (texts === 0) job.say(nothingFound(encoding !== undefined || table !== undefined));
     if (news) sayUnused(job, news);
     return Number(texts === 0);

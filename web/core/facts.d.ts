@@ -183,6 +183,25 @@ export interface Facts {
     /** The characters that only new texts have; control characters as codes. */
     'list/new-characters': { characters: string[] };
 
+    // Pointers. `row` is the number of a row of the list of tables; places are in a file, sizes in bytes.
+    'pointers/no-column': { columns: string[] };
+    'pointers/cell': { row: number; column: string; cell: string };
+    'pointers/too-large': { size: number; most: number };
+    'pointers/too-many': { most: number };
+    'pointers/none': {};
+    'pointers/no-file': { row: number; path: string; most: number };
+    'pointers/after-file': { row: number; path: string; size: number; after: number };
+    /** Pointers of two rows overlap. */
+    'pointers/over': { row: number; other: number; path: string; at: number };
+    /** A text has bytes of a pointer. */
+    'pointers/overlap': {};
+    /** Why a text that does not fit stays in place. */
+    'pointers/stays': { reason: StayReason; why: Remark };
+    'pointers/no-room': { path: string; missing: number };
+    'pointers/moved': { text: RowName; path: string; from: number; to: number; pointers: number };
+    'pointers/few': { text: RowName; pointers: number; beside: number };
+    'pointers/unproved': { path: string; at: number };
+
     // PO files. `line` is the number of a line of the file.
     'po/line': { line: number };
     'po/escape': { line: number };
@@ -199,6 +218,9 @@ export interface Facts {
  * place, such as 28+26.
  */
 export type RowName = { list: string; unit: 'row' | 'line'; number: number; place: string };
+
+/** Why a text cannot move. */
+export type StayReason = 'kept' | 'no-pointer' | 'no-end' | 'pointed-inside' | 'length' | 'overlap';
 
 export type FileKind = 'raw' | 'audio' | 'subchannels' | 'iso' | 'chd' | 'ecm' | 'archive' | 'wave' | 'cue' | 'empty' | 'unknown' | 'scrambled' | 'unaligned'
     | 'headerless' | 'nrg' | 'mds' | 'ccd' | 'toc' | 'sub' | 'long' | 'text';

@@ -7,6 +7,13 @@ import { KINDS } from './kinds.js';
 
 /** @typedef {import('../core/facts.js').Facts} Facts */
 
+/** Why texts cannot move, by the reason. @type {Record<import('../core/facts.js').StayReason, string>} */
+const STAYS = {
+    'kept': 'it is to stay in place', 'no-pointer': 'no pointer leads to it', 'no-end': 'no known byte ends it',
+    'pointed-inside': 'a pointer or a row leads into its middle', 'length': 'its length is beside its pointer',
+    'overlap': 'a pointer is within its room',
+};
+
 const NO_DAT = 'not a DAT in Logiqx XML';
 
 /** The program's message about an image that is too long, without its `cdpatch: `. */
@@ -281,6 +288,28 @@ export const ENGLISH = {
     'list/code-left': leftCode,
     'list/fuzzy': ({ count }) => count === 1 ? '1 fuzzy entry is not applied' : `${count} fuzzy entries are not applied`,
     'list/new-characters': newCharacters,
+
+    'pointers/no-column': ({ columns }) =>
+        `the first row of the list of pointers lacks the ${columns.length === 1 ? 'column' : 'columns'} ${columns.join(', ')}`,
+    'pointers/cell': ({ row, column, cell }) => `row ${row} of the list of pointers: ${column} cannot be '${cell}'`,
+    'pointers/too-large': ({ size, most }) => `the list of pointers has ${size} bytes, but may have at most ${most}`,
+    'pointers/too-many': ({ most }) => `the tables of the list have more than ${most} pointers`,
+    'pointers/none': () => 'the list of pointers has no table',
+    'pointers/no-file': ({ row, path, most }) =>
+        `row ${row} of the list of pointers: the disc has no file ${path} with at most ${most} bytes`,
+    'pointers/after-file': ({ row, path, size, after }) =>
+        `row ${row} of the list of pointers: its last pointer ends at byte ${after}, but ${path} has only ${size}`,
+    'pointers/over': ({ row, other, path, at }) =>
+        `rows ${other} and ${row} of the list of pointers overlap at byte ${at} of ${path}: delete or correct one`,
+    'pointers/overlap': () => 'some of its bytes belong to a pointer, so it does not change',
+    'pointers/stays': ({ reason, why }, sentence) => `${sentence(why)}. It cannot move: ${STAYS[reason]}`,
+    'pointers/no-room': ({ path, missing }) =>
+        `the texts of ${path} need ${missing} ${missing === 1 ? 'byte' : 'bytes'} more than their room and the free end of the file`,
+    'pointers/moved': ({ text, path, from, to, pointers }) =>
+        `${rowName(text)}: moved in ${path} from ${from} to ${to}; pointers ${pointers}`,
+    'pointers/few': ({ text, pointers, beside }) =>
+        `${rowName(text)}: moved with fewer pointers (${pointers}) than the texts beside it (${beside}): check it in the game, or keep it in place`,
+    'pointers/unproved': ({ path, at }) => `the script would be wrong at byte ${at} of ${path}, so it was not written; please report this`,
 
     'po/line': ({ line }) =>
         `line ${line} of the list is not a line of a PO file: expected a comment, a keyword such as msgid, or a text in quotes`,

@@ -8,6 +8,8 @@ export { CONVERTIBLE, convertToRaw, extractFile, isConvertible, passUser, userRa
 export { examineDisc, examineFile } from './examine.js';
 export { NO_IMAGE, otherSummary, summaryByDat, summaryOf } from './file_summary.js';
 export { findText, findTextAt } from './find.js';
+export { ListedSpans, findPointers } from './find_pointers.js';
+export { importMoving } from './import_moving.js';
 export { CollectedSurvey, foundInFile, foundInSurvey, shiftAt, shiftInFile, surveyedTracks, surveyedWith } from './inform.js';
 export { unsurveyedTracks } from './inform.js';
 export { COLUMN, NOT_TESTED, NO_DAT, lacksHash, listedColumns, saidOfFile } from './listed_line.js';

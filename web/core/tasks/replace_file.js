@@ -31,12 +31,12 @@ import { replaceBytes } from './replace_bytes.js';
  */
 
 /** @param {{ size: number }} extent the extent whose sectors' size in bytes is returned */
-function extentRoom({ size }) {
+export function extentRoom({ size }) {
     return Math.ceil(size / USER_SIZE) * USER_SIZE;
 }
 
 /** @param {FileEntry} extent */
-function extentKey({ block, size }) {
+export function extentKey({ block, size }) {
     return `${block} ${size}`;
 }
 
@@ -100,7 +100,7 @@ function meetingOf(extents) {
  * @param {VolumeNames} names
  * @param {boolean} keeps whether the file keeps its length
  */
-function sharingWith({ path, extents }, { udf, own, tables, entries, files }, keeps) {
+export function sharingWith({ path, extents }, { udf, own, tables, entries, files }, keeps) {
     const meets = meetingOf(extents);
     const mine = [...own.keys(), ...tables].find(block => meets(block, block + 1));
     if (mine !== undefined) throw new Fault('replace/own-block', { path, block: mine, kind: own.get(mine) || 'path table' });
@@ -120,7 +120,7 @@ function sharingWith({ path, extents }, { udf, own, tables, entries, files }, ke
  * @param {FileEntry[]} records
  * @param {number} size
  */
-async function pushSize(calls, image, parts, records, size) {
+export async function pushSize(calls, image, parts, records, size) {
     const fresh = new Uint8Array(SIZE_FIELD.length);
     const inSectorOrder = { ...image, order: undefined };
     [true, false].forEach((little, i) => new DataView(fresh.buffer).setUint32(4 * i, size, little));
@@ -136,7 +136,7 @@ async function pushSize(calls, image, parts, records, size) {
  * @param {FileEntry[]} entries
  * @param {FileEntry[]} extents
  */
-function recordsByKey(entries, extents) {
+export function recordsByKey(entries, extents) {
     /** @type {Map<string, FileEntry[]>} */
     const records = new Map(extents.map(it => [extentKey(it), []]));
     for (const it of entries) records.get(extentKey(it))?.push(it);

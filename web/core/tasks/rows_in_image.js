@@ -17,15 +17,22 @@ import { filledUp } from './replace_bytes.js';
 /** @typedef {import('./fitted_lists.js').RowEncodings} RowEncodings */
 /** @typedef {import('./list_rows.js').ListRow} ListRow */
 /** @typedef {(row: ListRow, image: OrderedImage, old: Uint8Array, bytes: Uint8Array) => unknown} TakeRow */
+/** @typedef {Awaited<ReturnType<typeof foundRow>>} FoundRow where the old text of a row is */
+/**
+ * Takes over a row with its new bytes, so that it is not fitted here. Returns how many bytes it replaces at least, or 0 for a row that is
+ * to be fitted.
+ * @typedef {(row: ListRow, found: FoundRow, fresh: Uint8Array) => number} ClaimRow
+ */
 
 /**
  * An image, or the plain file that it presents, as the place of rows.
  * @param {OrderedImage} image
  * @param {Filler | undefined} fill
  * @param {TakeRow} take receives the old and the new bytes of each row that fits
+ * @param {ClaimRow} [claim]
  * @returns {ListPlace}
  */
-export function placeInImage(image, fill = null, take) {
+export function placeInImage(image, fill = null, take, claim = () => 0) {
     const { reader } = image;
     const ahead = new ReadAhead(reader);
     const read = (/** @type {number} */ at, /** @type {number} */ length) => ahead.bytesAt(at, Math.min(length, reader.size - at));
@@ -35,7 +42,11 @@ export function placeInImage(image, fill = null, take) {
         startOf: row => bytesBefore(image, row),
         assertHas: row => assertHasPlace(image, row),
         async fit(row, encodings, signal) {
-            const { old, fresh } = await fittedRow(window, row, encodings, fill, signal);
+            const found = await foundRow(window, row, encodings, signal);
+            const bytes = await newBytesOf(row, found.encoding, signal);
+            const claimed = claim(row, found, bytes);
+            if (claimed > 0) return claimed;
+            const { old, fresh } = fittedRow(found, bytes, fill);
             await take(row, window, old, fresh);
             return old.length;
         },
@@ -56,17 +67,12 @@ function assertHasPlace({ fileSize }, { block, offset, isInFile }) {
 }
 
 /**
- * The old bytes that a row's new text replaces, and the new bytes. Throws a Fault if the old text is not there, or if the new one does not
- * fit.
- * @param {OrderedImage} image
- * @param {ListRow} row
- * @param {Encoding[]} encodings
+ * The old bytes that a row's new text replaces, and the new bytes with their padding. Throws a Fault if the new text does not fit.
+ * @param {FoundRow} found
+ * @param {Uint8Array} fresh the bytes of the new text
  * @param {Filler} fill
- * @param {Signal} [signal]
  */
-async function fittedRow(image, row, encodings, fill, signal) {
-    const { bytes, at, encoding, known, size, own, filled, room } = await foundRow(image, row, encodings, signal);
-    const fresh = await newBytesOf(row, encoding, signal);
+function fittedRow({ bytes, at, encoding, known, size, own, filled, room }, fresh, fill) {
     assertHasRoom(encoding, fresh, room);
     const filler = fillerOf(encoding, fill || own);
     if (fresh.length < size && filler === null) throw new Fault('list/no-space', { name: encoding.name });

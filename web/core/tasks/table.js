@@ -25,9 +25,9 @@ import { fittingScript } from './script_for.js';
 /**
  * What is exported: the texts of files or directories (`paths`), or all of them; as a table with tabs, a table with commas and a byte order
  * mark, for spreadsheets, or a PO file; with at least a number of characters; and with the new text that `freshOf` finds, or ''. `ended` is
- * called as by allTexts.
+ * called as by allTexts, and `seen` with the texts.
  * @typedef {TextOptions & { paths?: string[], form?: 'tsv' | 'csv' | 'po', least?: number, freshOf?: FreshOf,
- *     ended?: (path: string, end: number) => void }} ExportOptions
+ *     ended?: (path: string, end: number) => void, seen?: (texts: ListedText[]) => void }} ExportOptions
  */
 /** @typedef {(listed: ListedText) => string | Promise<string>} FreshOf */
 /** @typedef {RowEncodings & { fill?: Filler }} RowOptions */
@@ -107,10 +107,23 @@ export async function newTextsOf(lists, watch = {}) {
  * @returns {AsyncGenerator<{ text: string, count: number }>}
  */
 export async function* exportTable({ pool }, opened, exported, watch) {
-    const { paths = [], form = 'tsv', least, freshOf, ended, ...options } = exported;
+    const { paths = [], form = 'tsv', least, freshOf, ended, seen, ...options } = exported;
     const { part, files } = await opened.contents();
     const texts = allTexts(pool, part, stretchesIn(stretchesOf(part, files), paths), { options, least, ended, ...watch });
-    yield* exportedPieces(texts, { form, freshOf, signal: watch && watch.signal });
+    yield* exportedPieces(seen === undefined ? texts : shownTo(seen, texts), { form, freshOf, signal: watch && watch.signal });
+}
+
+/**
+ * Yields listed texts after a function has received them.
+ * @param {(texts: ListedText[]) => void} seen
+ * @param {AsyncGenerator<ListedText[]>} texts
+ * @returns {AsyncGenerator<ListedText[]>}
+ */
+async function* shownTo(seen, texts) {
+    for await (const some of texts) {
+        seen(some);
+        yield some;
+    }
 }
 
 /**

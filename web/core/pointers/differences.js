@@ -1,0 +1,80 @@
+// An index of the distances between neighbouring texts. Three in a row hardly occur by chance, so numbers with the same differences are
+// pointers, whatever place they count from.
+
+/** @typedef {import('./starts.js').TextStarts} TextStarts */
+/** @typedef {{ texts: TextStarts, text: number, unit: number }} Neighbours four texts in a row, from the index `text` on */
+
+const UNITS = [1, 2, 4];
+
+/** The most entries that have the same place in the index: texts at equal distances identify nothing. */
+const MOST_ALIKE = 8;
+
+/** The fewest bits of a place in the index, and how many times as many bits as entries the filter has. */
+const LEAST_BITS = 10;
+const SPARSE = 16;
+
+/**
+ * A number of 32 bits for three differences.
+ * @param {number} a
+ * @param {number} b
+ * @param {number} c
+ */
+export function mixed(a, b, c) {
+    const hash = Math.imul(a, 0x9E3779B1) ^ Math.imul(b, 0x85EBCA6B) ^ Math.imul(c, 0xC2B2AE35);
+    return Math.imul(hash ^ hash >>> 15, 0x2C1B3C6D) >>> 0;
+}
+
+/** The distances of the texts of some files. */
+export class Differences {
+    /** @param {TextStarts[]} files */
+    constructor(files) {
+        const most = files.reduce((sum, { count }) => sum + UNITS.length * count, 1);
+        this.shift = 32 - Math.max(Math.ceil(Math.log2(most * SPARSE)), LEAST_BITS);
+        /** Whether any entry has a hash that begins with these bits. */
+        this.filter = new Uint8Array(2 ** (32 - this.shift));
+        /** @type {Map<number, Neighbours[]>} */
+        this.entries = new Map();
+        for (const texts of files) for (const unit of UNITS) this.addAll(texts, unit);
+    }
+
+    /**
+     * @param {TextStarts} texts
+     * @param {number} unit
+     */
+    addAll(texts, unit) {
+        const { firsts } = texts;
+        if (firsts.some(it => (it - firsts[0]) % unit !== 0)) return;
+        for (let i = 0; i + 3 < firsts.length; i++) {
+            const [a, b, c] = differencesFrom(firsts, i, unit);
+            if (a === b && b === c) continue;
+            const hash = mixed(a, b, c);
+            const alike = this.entries.get(hash) || [];
+            if (alike.length >= MOST_ALIKE) continue;
+            this.entries.set(hash, [...alike, { texts, text: i, unit }]);
+            this.filter[hash >>> this.shift] = 1;
+        }
+    }
+
+    /**
+     * The texts that have three differences.
+     * @param {number} hash
+     * @param {number} a
+     * @param {number} b
+     * @param {number} c
+     */
+    having(hash, a, b, c) {
+        return (this.entries.get(hash) || []).filter(({ texts, text, unit }) => {
+            const own = differencesFrom(texts.firsts, text, unit);
+            return own[0] === a && own[1] === b && own[2] === c;
+        });
+    }
+}
+
+/**
+ * @param {number[]} firsts
+ * @param {number} i
+ * @param {number} unit
+ */
+function differencesFrom(firsts, i, unit) {
+    return [0, 1, 2].map(k => (firsts[i + k + 1] - firsts[i + k]) / unit);
+}

@@ -1,0 +1,151 @@
+// Finds the tables of pointers to the texts of some files, without knowing the format of the files.
+
+import { letOthersIn } from '../turns.js';
+import { Differences } from './differences.js';
+import { runsIn } from './search.js';
+
+/** @typedef {import('../turns.js').Signal} Signal */
+/** @typedef {import('./forms.js').PointerTable} PointerTable */
+/** @typedef {import('./run.js').Hit} Hit */
+/** @typedef {import('./run.js').Run} Run */
+/** @typedef {import('./run.js').Searched} Searched */
+/** @typedef {import('./starts.js').TextStarts} TextStarts */
+
+/** The fewest different texts of a table, by its width; of one in another file; and of these, how many are met at their first bytes. */
+const LEAST_TEXTS = new Map([[2, 6], [3, 6], [4, 5]]);
+const LEAST_ELSEWHERE = 8;
+const LEAST_FIRSTS = 4;
+
+/** The least share of a table's numbers that are pointers; and of these, the least share that lead to first bytes. */
+const SHARE_OF_HITS = 0.75;
+const SHARE_OF_FIRSTS = 0.3;
+const SHARE_ELSEWHERE = 0.75;
+
+/** A table is refused if more than this share of its texts have pointers of a different form, or with a different base. */
+const MOST_CLAIMED = 0.3;
+
+/** How much a table of wider pointers is preferred: a narrower one has only a part of their bytes. */
+const WEIGHTS = new Map([[2, 1], [3, 1.1], [4, 1.25]]);
+
+/** Single pointers at most this many bytes apart are rows of one table if their distances are equal. */
+const MOST_APART = 64;
+
+/** A run with what decides whether it is a table. */
+class Candidate {
+    /** @param {Run} run */
+    constructor(run) {
+        this.run = run;
+        this.distinct = new Set(run.hits.map(({ text }) => text)).size;
+        this.firsts = run.hits.filter(({ isFirst }) => isFirst).length;
+        this.weight = this.distinct * (WEIGHTS.get(run.form.width) || 1);
+    }
+
+    /** @param {Searched} file */
+    isTable(file) {
+        const { hits, distance, form, texts } = this.run;
+        if (hits.length === 0) return false;
+        if (distance === 0) return this.distinct >= LEAST_FIRSTS;
+        const count = (hits[hits.length - 1].at - hits[0].at) / distance + 1;
+        const isElsewhere = texts !== file.own;
+        const least = isElsewhere ? LEAST_ELSEWHERE : LEAST_TEXTS.get(form.width) || LEAST_ELSEWHERE;
+        const share = isElsewhere ? SHARE_ELSEWHERE : SHARE_OF_FIRSTS;
+        return this.distinct >= least && this.firsts >= LEAST_FIRSTS && hits.length >= SHARE_OF_HITS * count
+            && this.firsts >= share * hits.length;
+    }
+}
+
+/** The tables of a file, the best first: none over another one. */
+class Tables {
+    /** @param {Searched} file */
+    constructor(file) {
+        this.file = file;
+        this.taken = new Uint8Array(file.bytes.length);
+        /** @type {Map<string, string>} the form of the pointers to a place in a file */
+        this.claims = new Map();
+        /** @type {PointerTable[]} */
+        this.tables = [];
+    }
+
+    /** @param {Candidate} candidate */
+    add({ run }) {
+        const { form, texts, distance } = run;
+        const hits = run.hits.filter(({ at }) => !this.isTaken(at, form.width));
+        if (hits.length < LEAST_FIRSTS) return;
+        const claim = [form.width, form.big, form.base, form.own].join();
+        const keys = [...new Set(hits.map(({ target }) => `${target} ${texts.path}`))];
+        const claimed = keys.filter(key => (this.claims.get(key) ?? claim) !== claim);
+        if (claimed.length > MOST_CLAIMED * keys.length) return;
+        for (const key of keys) if (!this.claims.has(key)) this.claims.set(key, claim);
+        for (const { at } of hits) this.taken.fill(1, at, at + form.width);
+        for (const part of distance === 0 ? partsOf(hits, form.width) : [{ hits, distance }]) this.tables.push(this.tableOf(run, part));
+    }
+
+    /**
+     * @param {number} at
+     * @param {number} width
+     */
+    isTaken(at, width) {
+        return this.taken[at] === 1 || this.taken[at + width - 1] === 1;
+    }
+
+    /**
+     * @param {Run} run
+     * @param {{ hits: Hit[], distance: number }} part
+     * @returns {PointerTable}
+     */
+    tableOf({ form, texts }, { hits, distance }) {
+        const [first, last] = [hits[0].at, hits[hits.length - 1].at];
+        return {
+            ...form, path: this.file.path, at: first, count: (last - first) / distance + 1, distance, texts: texts.path,
+            begins: hits.filter(({ isFirst }) => isFirst).length,
+        };
+    }
+}
+
+/**
+ * Single pointers as tables with equal distances.
+ * @param {Hit[]} hits in order
+ * @param {number} width
+ */
+function partsOf(hits, width) {
+    /** @type {{ hits: Hit[], distance: number }[]} */
+    const parts = [];
+    for (const hit of hits) {
+        const part = parts[parts.length - 1];
+        const apart = part === undefined ? Infinity : hit.at - part.hits[part.hits.length - 1].at;
+        if (apart < width) continue;
+        if (part !== undefined && apart <= MOST_APART && (part.hits.length === 1 || part.distance === apart)) {
+            part.hits.push(hit);
+            part.distance = apart;
+        } else {
+            parts.push({ hits: [hit], distance: width });
+        }
+    }
+    return parts;
+}
+
+/**
+ * Finds the tables of pointers in some files, in their order. Throws a Fault, `cancelled`, and what `searched` throws.
+ * @param {TextStarts[]} texts of the files with texts
+ * @param {AsyncIterable<Searched>} searched the files that may have pointers
+ * @param {Signal} [signal]
+ * @returns {Promise<PointerTable[]>}
+ */
+export async function findPointerTables(texts, searched, signal) {
+    const differences = new Differences(texts);
+    /** @type {PointerTable[]} */
+    const found = [];
+    for await (const file of searched) {
+        await letOthersIn(signal);
+        const tables = new Tables(file);
+        const candidates = (await runsIn(file, differences, signal)).map(run => new Candidate(run)).filter(it => it.isTable(file));
+        candidates.sort((a, b) => b.weight - a.weight || b.firsts - a.firsts || a.run.form.unit - b.run.form.unit
+            || a.run.distance - b.run.distance);
+        for (const candidate of candidates) {
+            await letOthersIn(signal);
+            tables.add(candidate);
+        }
+        found.push(...tables.tables.sort((a, b) => a.at - b.at));
+    }
+    return found;
+}

@@ -1,0 +1,7 @@
+// Pointers to texts: finding their tables, and laying out texts that are longer than their room.
+
+export { MOST_CODES, numberAt, numberFor, placesOf, putNumber, targetOf } from './forms.js';
+export { findPointerTables } from './find.js';
+export { layOut } from './layout.js';
+export { TextStarts } from './starts.js';
+export { pointerList, tablesOfList } from './tsv.js';

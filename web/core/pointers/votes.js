@@ -1,0 +1,128 @@
+// Finds single pointers of 32 bits, for example in code, by votes: the place from which they count is the one for which most numbers of the
+// file lead to texts.
+
+import { isTurnDue, letOthersIn } from '../turns.js';
+
+/** @typedef {import('../turns.js').Signal} Signal */
+/** @typedef {import('./run.js').Run} Run */
+/** @typedef {import('./run.js').Searched} Searched */
+/** @typedef {import('./starts.js').TextStarts} TextStarts */
+
+/** The largest file that is searched for single pointers: code is not larger. */
+const MOST_BYTES = 1 << 22;
+
+/** How many texts vote, how many of their votes a place needs, and how many places are tried. */
+const VOTERS = 24;
+const LEAST_VOTES = 6;
+const SHARE = 0.5;
+const MOST_TRIED = 3;
+
+/** The share of all texts that have to have a single pointer. */
+const SHARE_OF_TEXTS = 0.4;
+
+/** Votes are first counted by these many bits of a hash. */
+const COUNTER_BITS = 22;
+const VOTED_AT_ONCE = 1 << 10;
+
+/** @param {number} number of 32 bits */
+function counterOf(number) {
+    return Math.imul(number, 0x9E3779B1) >>> 32 - COUNTER_BITS;
+}
+
+/**
+ * The numbers of a file without repeated ones, and without a few more: numbers with the same hash count once.
+ * @param {Uint32Array} numbers
+ * @param {Signal} [signal]
+ */
+async function distinctOf(numbers, signal) {
+    const known = new Uint8Array(2 ** COUNTER_BITS);
+    const distinct = new Uint32Array(numbers.length);
+    let count = 0;
+    for (let i = 0; i < numbers.length; i++) {
+        if (i % VOTED_AT_ONCE === 0 && isTurnDue()) await letOthersIn(signal);
+        const counter = counterOf(numbers[i]);
+        if (known[counter] === 1) continue;
+        known[counter] = 1;
+        distinct[count++] = numbers[i];
+    }
+    return distinct.subarray(0, count);
+}
+
+/**
+ * Texts at equal distances in their list.
+ * @param {TextStarts} texts
+ */
+function votersOf({ firsts }) {
+    const count = Math.min(VOTERS, firsts.length);
+    return Array.from({ length: count }, (_, i) => firsts[Math.floor(i * (firsts.length - 1) / Math.max(count - 1, 1))]);
+}
+
+/**
+ * The places from which most numbers count, each as a number of 32 bits.
+ * @param {Uint32Array} numbers each once
+ * @param {number[]} voters
+ * @param {Signal} [signal]
+ */
+async function basesOf(numbers, voters, signal) {
+    const least = Math.max(LEAST_VOTES, SHARE * voters.length);
+    const counters = new Uint8Array(2 ** COUNTER_BITS);
+    /** @type {Map<number, number>} */
+    const votes = new Map();
+    const each = async (/** @type {(base: number) => void} */ take) => {
+        for (let i = 0; i < numbers.length; i++) {
+            if (i % VOTED_AT_ONCE === 0 && isTurnDue()) await letOthersIn(signal);
+            for (const voter of voters) take(voter - numbers[i] | 0);
+        }
+    };
+    await each(base => { counters[counterOf(base)] += Number(counters[counterOf(base)] < 255); });
+    await each(base => {
+        if (counters[counterOf(base)] >= least) votes.set(base, (votes.get(base) || 0) + 1);
+    });
+    const found = [...votes].filter(([, count]) => count >= least);
+    return found.sort((a, b) => b[1] - a[1]).slice(0, MOST_TRIED).map(([base]) => base);
+}
+
+/**
+ * The single pointers of a file to its own texts, for each place from which many of its numbers count.
+ * @param {Searched} file
+ * @param {Uint32Array} numbers at each place of the file
+ * @param {boolean} big
+ * @param {TextStarts} texts
+ * @param {Signal} [signal]
+ */
+export async function runsByVotes(file, numbers, big, texts, signal) {
+    /** @type {Run[]} */
+    const runs = [];
+    if (file.bytes.length > MOST_BYTES || texts.count < LEAST_VOTES) return runs;
+    const distinct = await distinctOf(numbers, signal);
+    for (const voted of await basesOf(distinct, votersOf(texts), signal)) {
+        // The address at which the file is loaded may have the highest bit.
+        for (const base of voted > 0 ? [voted, voted - 2 ** 32] : [voted]) {
+            const hits = await hitsOf(file, numbers, base, texts, signal);
+            const met = new Set(hits.map(({ text }) => text)).size;
+            const form = { width: 4, big, base, own: false, unit: 1 };
+            if (met >= SHARE_OF_TEXTS * texts.count) runs.push({ form, distance: 0, texts, hits, steps: 0 });
+        }
+    }
+    return runs;
+}
+
+/**
+ * The numbers of a file that lead to the first bytes of texts, without those in texts.
+ * @param {Searched} file
+ * @param {Uint32Array} numbers
+ * @param {number} base
+ * @param {TextStarts} texts
+ * @param {Signal} [signal]
+ */
+async function hitsOf({ own }, numbers, base, texts, signal) {
+    const hits = [];
+    for (let at = 0; at < numbers.length; at++) {
+        if (at % VOTED_AT_ONCE === 0 && isTurnDue()) await letOthersIn(signal);
+        const target = numbers[at] + base;
+        const text = target < 0 || target > texts.size ? -1 : texts.begunBy(target);
+        if (text < 0 || texts.firsts[text] !== target || (own !== null && own.firstAround(at) >= 0)) continue;
+        hits.push({ at, target, text, isFirst: true });
+    }
+    return hits;
+}

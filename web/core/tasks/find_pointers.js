@@ -1,0 +1,109 @@
+// Finds the tables of pointers to the listed texts of a track.
+
+import { wholeOf } from '../bytes.js';
+import { failedBy } from '../faults.js';
+import { readerOfFile, wholeFile } from '../iso/index.js';
+import { TextStarts, findPointerTables, pointerList } from '../pointers/index.js';
+import { visible } from '../texts/index.js';
+import { letOthersIn } from '../turns.js';
+
+/** @typedef {import('../iso/files.js').FileEntry} FileEntry */
+/** @typedef {import('../iso/files.js').WholeFile} WholeFile */
+/** @typedef {import('../pointers/forms.js').Span} Span */
+/** @typedef {import('../pointers/run.js').Searched} Searched */
+/** @typedef {import('../texts/all_texts.js').ListedText} ListedText */
+/** @typedef {import('./engine.js').Watch} Watch */
+/** @typedef {import('./opened.js').OpenedTrack} OpenedTrack */
+
+/** The fewest texts of a file to which pointers are searched. */
+const LEAST_TEXTS = 4;
+
+/** The largest file with texts, and the largest other file, in which pointers are searched: the other ones are mostly sound and pictures. */
+const MOST_BYTES = 1 << 25;
+const MOST_BYTES_WITHOUT_TEXTS = 1 << 20;
+
+/** Collects the ranges of listed texts by their files. */
+export class ListedSpans {
+    constructor() {
+        /** @type {Map<string, Span[]>} by the path of the file, as it is listed */
+        this.spans = new Map();
+    }
+
+    /** @param {ListedText[]} texts */
+    add(texts) {
+        for (const { file, bytes } of texts) {
+            const cut = file.lastIndexOf('+');
+            if (cut < 0) continue;
+            const [path, first] = [file.slice(0, cut), Number(file.slice(cut + 1))];
+            const spans = this.spans.get(path) || [];
+            this.spans.set(path, spans);
+            spans.push({ first, after: first + bytes });
+        }
+    }
+}
+
+/**
+ * The files of a track by their paths as they are listed, without those whose bytes cannot be read as a whole, and those that have one path.
+ * @param {FileEntry[]} entries
+ */
+export function filesByPath(entries) {
+    /** @type {Map<string, FileEntry[]>} */
+    const named = new Map();
+    for (const entry of entries) {
+        const path = visible(entry.path);
+        const known = named.get(path) || [];
+        named.set(path, known);
+        known.push(entry);
+    }
+    /** @type {Map<string, WholeFile>} */
+    const files = new Map();
+    for (const [path, some] of named) {
+        if (some.some(it => it.path !== some[0].path)) continue;
+        try {
+            files.set(path, wholeFile(some));
+        } catch (error) {
+            if (!failedBy(error, 'path', 'extents')) throw error;
+        }
+    }
+    return files;
+}
+
+/**
+ * Yields the files in which pointers are searched.
+ * @param {import('../disc/disc.js').OrderedImage} part
+ * @param {Map<string, WholeFile>} files
+ * @param {Map<string, TextStarts>} starts
+ * @param {Watch} watch
+ * @returns {AsyncGenerator<Searched>}
+ */
+async function* searchedFiles(part, files, starts, { signal, progress }) {
+    let done = 0;
+    for (const [path, file] of files) {
+        await letOthersIn(signal);
+        if (progress) progress(done, files.size);
+        done += 1;
+        const own = starts.get(path) || null;
+        if (file.size > (own === null ? MOST_BYTES_WITHOUT_TEXTS : MOST_BYTES)) continue;
+        yield { path, bytes: await wholeOf(readerOfFile(part, file).reader), own };
+    }
+}
+
+/**
+ * Finds the tables of pointers to listed texts. Returns them as a list that a person may correct, and how many there are. Throws a Fault,
+ * `cancelled`, and what the reader throws.
+ * @param {Pick<OpenedTrack, 'contents'>} opened
+ * @param {ListedSpans} listed
+ * @param {Watch} [watch] receives the number of files
+ */
+export async function findPointers(opened, { spans }, watch = {}) {
+    const { part, files: entries } = await opened.contents();
+    const files = filesByPath(entries);
+    /** @type {Map<string, TextStarts>} */
+    const starts = new Map();
+    for (const [path, texts] of spans) {
+        const file = files.get(path);
+        if (file !== undefined && texts.length >= LEAST_TEXTS) starts.set(path, new TextStarts(path, file.size, texts));
+    }
+    const tables = await findPointerTables([...starts.values()], searchedFiles(part, files, starts, watch), watch.signal);
+    return { text: pointerList(tables), count: tables.length };
+}

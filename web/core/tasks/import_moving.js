@@ -1,0 +1,214 @@
+// Imports lists whose texts may be longer than their room: texts with pointers move, and the pointers lead to their new places.
+
+import { ScriptParts } from '../script/index.js';
+import { Fault, failedBy, remark } from '../faults.js';
+import { layOut, tablesOfList } from '../pointers/index.js';
+import { sortedInTurns } from '../turns.js';
+import { checkMoved } from './check_moved.js';
+import { encodingsOfRows, fittedLists } from './fitted_lists.js';
+import { MovedTexts } from './moved_texts.js';
+import { FreshFiles, pushFreshFiles } from './moving_script.js';
+import { openPointedFiles } from './pointed_file.js';
+import { replaceBytes } from './replace_bytes.js';
+import { sharingWith } from './replace_file.js';
+import { placeInImage } from './rows_in_image.js';
+import { fittingScript } from './script_for.js';
+
+/** @typedef {import('../disc/disc.js').DiscFile} DiscFile */
+/** @typedef {import('../script/script_writer.js').Script} Script */
+/** @typedef {import('./engine.js').Engine} Engine */
+/** @typedef {import('./engine.js').Watch} Watch */
+/** @typedef {import('./fitted_lists.js').FittedLists} FittedLists */
+/** @typedef {import('./fitted_lists.js').LeftRow} LeftRow */
+/** @typedef {import('./fitted_lists.js').ListPlace} ListPlace */
+/** @typedef {import('./list_rows.js').ListRow} ListRow */
+/** @typedef {import('./moved_texts.js').MovableText} MovableText */
+/** @typedef {import('./moved_texts.js').PointedRow} PointedRow */
+/** @typedef {import('./opened.js').OpenedTrack} OpenedTrack */
+/** @typedef {import('./pointed_file.js').PointedFile} PointedFile */
+/** @typedef {import('./pointed_file.js').PointedFiles} PointedFiles */
+/** @typedef {import('./table.js').ImportOptions} ImportOptions */
+/** @typedef {import('../facts.js').Remark<'pointers/moved' | 'pointers/few' | 'replace/shared-blocks'>} MovedRemark */
+/**
+ * An import with the list of pointer tables; `isKept` selects rows that stay in place.
+ * @typedef {Omit<ImportOptions, 'isAlso'> & { pointers: DiscFile, isKept: (row: ListRow) => boolean }} MovingOptions
+ */
+/**
+ * The rows as in other imports, the finished script, and remarks: on each text that has moved, on those with fewer pointers than the texts
+ * beside them, and on other files that change too.
+ * @typedef {FittedLists & { script: Script | null, moved: MovedRemark[], few: MovedRemark[], sharing: MovedRemark[] }} MovingImport
+ */
+
+/** The import of lists into a track, whose texts may move. */
+class MovingRows {
+    /**
+     * @param {Engine} engine
+     * @param {OpenedTrack} opened
+     * @param {PointedFiles} files
+     * @param {MovingOptions} options
+     * @param {Watch} watch
+     */
+    constructor(engine, opened, files, options, watch) {
+        this.engine = engine;
+        this.opened = opened;
+        this.files = files;
+        this.options = options;
+        this.watch = watch;
+        this.parts = new ScriptParts();
+        this.fresh = new FreshFiles();
+        /** @type {Map<PointedFile, PointedRow[]>} the rows that may move */
+        this.rows = new Map(files.files.map(file => [file, []]));
+        /** @type {{ file: PointedFile, first: number, after: number }[]} what rows in place replace in these files */
+        this.inPlace = [];
+        /** @type {{ file: PointedFile, texts: MovedTexts, layout: import('./moving_script.js').TextLayout }[]} */
+        this.layouts = [];
+        /** @type {LeftRow[]} */
+        this.left = [];
+        /** @type {Pick<MovingImport, 'moved' | 'few' | 'sharing'>} */
+        this.remarks = { moved: [], few: [], sharing: [] };
+    }
+
+    /**
+     * The image as the place of rows.
+     * @param {boolean} mayMove whether rows that may move are only collected
+     */
+    async place(mayMove) {
+        const { part } = await this.opened.contents();
+        const { calls } = this.engine;
+        return placeInImage(part, this.options.fill, async (row, window, old, bytes) => {
+            this.parts.push(await replaceBytes(calls, window, row, old, bytes, true));
+            const spot = this.files.spotOf(row);
+            if (spot !== null) this.inPlace.push({ file: spot.file, first: spot.at, after: spot.at + old.length });
+        }, (row, { known, room, size, encoding }, bytes) => {
+            const spot = this.files.spotOf(row);
+            if (spot === null) return 0;
+            const { file, at } = spot;
+            const used = Math.max(known, Math.min(bytes.length, room), size);
+            if (file.hasPointer(at, at + used)) throw new Fault('pointers/overlap', {});
+            if (!mayMove || file.leading.length === 0) return 0;
+            this.rows.get(file)?.push({ row, at, known, room, fresh: bytes, encoding });
+            return used;
+        });
+    }
+
+    /**
+     * Fits a row in place, or leaves it out.
+     * @param {ListPlace} place
+     * @param {PointedRow} text
+     * @param {(why: LeftRow['why']) => LeftRow['why']} whyOf turns the reason why it does not fit into the one that is reported
+     */
+    async fitInPlace(place, { row }, whyOf) {
+        try {
+            await place.fit(row, encodingsOfRows(this.options)(row.encoding), this.watch.signal);
+        } catch (error) {
+            if (!(error instanceof Fault) || failedBy(error, 'cancelled')) throw error;
+            this.left.push({ text: row, why: whyOf(remark(error.code, error.facts)) });
+        }
+    }
+
+    /**
+     * Lays out the texts of a file if some do not fit in place.
+     * @param {PointedFile} file
+     * @param {ListRow[]} others rows without a new text
+     */
+    async layOutFile(file, others) {
+        const rows = await sortedInTurns(this.rows.get(file) || [], ({ at }) => at, this.watch.signal);
+        const place = await this.place(false);
+        if (rows.every(({ fresh, room }) => fresh.length <= room)) {
+            for (const text of rows) await this.fitInPlace(place, text, why => why);
+            return;
+        }
+        const spots = others.map(row => this.files.spotOf(row));
+        const firsts = spots.flatMap(spot => spot !== null && spot.file === file ? [spot.at] : []);
+        const texts = new MovedTexts(file, rows, { firsts, isKept: this.options.isKept });
+        await texts.sort(this.watch.signal);
+        for (const { text, reason } of texts.staying) {
+            await this.fitInPlace(place, text, why => why.code === 'replace/no-room' ? remark('pointers/stays', { reason, why }) : why);
+        }
+        const layout = await layOut(texts.movable, await this.freeEnd(file), this.watch.signal);
+        if (layout.missing === 0) {
+            this.layouts.push({ file, texts, layout });
+            return;
+        }
+        const { path } = file;
+        for (const { text } of texts.movable) {
+            await this.fitInPlace(place, text, why =>
+                why.code === 'replace/no-room' ? remark('pointers/no-room', { path, missing: layout.missing }) : why);
+        }
+    }
+
+    /**
+     * The free end of the last sector of a file: empty if its length cannot change, or if the sector has other data there.
+     * @param {PointedFile} file
+     */
+    async freeEnd({ file, bytes, size }) {
+        const { volume } = await this.opened.contents();
+        const free = { first: size, after: bytes.length };
+        if (volume === null || bytes.subarray(size).some(it => it !== 0)) return { ...free, after: size };
+        try {
+            sharingWith(file, volume, false);
+            return free;
+        } catch (error) {
+            if (!(error instanceof Fault)) throw error;
+            return { ...free, after: size };
+        }
+    }
+
+    /** Writes the layouts, and reports what has moved. */
+    async write() {
+        const { volume, part } = await this.opened.contents();
+        const { signal } = this.watch;
+        for (const { file, texts, layout } of this.layouts) {
+            await this.fresh.write(file, layout, texts.end, signal);
+            this.report(file, texts.movable, layout.places);
+        }
+        if (volume === null || this.layouts.length === 0) return;
+        for (const [{ file, size }, fresh] of this.fresh.files) {
+            const sharing = sharingWith(file, volume, fresh.size === size);
+            this.remarks.sharing.push(...sharing.map(other => remark('replace/shared-blocks', { path: file.path, other })));
+        }
+        await pushFreshFiles(this.engine.calls, part, volume, this.fresh, this.parts, signal);
+    }
+
+    /**
+     * @param {PointedFile} file
+     * @param {MovableText[]} texts in order
+     * @param {Map<MovableText, number>} places
+     */
+    report({ path }, texts, places) {
+        for (const [i, text] of texts.entries()) {
+            const { first, pointers: { length: pointers }, text: { row } } = text;
+            const to = places.get(text) ?? first;
+            if (to === first) continue;
+            this.remarks.moved.push(remark('pointers/moved', { text: row, path, from: first, to, pointers }));
+            const [before, after] = [texts[i - 1], texts[i + 1]].map(it => it === undefined ? Infinity : it.pointers.length);
+            const beside = Math.min(before, after);
+            if (pointers < beside && beside !== Infinity) this.remarks.few.push(remark('pointers/few', { text: row, pointers, beside }));
+        }
+    }
+}
+
+/**
+ * Creates the script of lists with new texts, which may be longer than their room if pointers lead to them. Before it is returned, it is
+ * applied in memory, and all pointers and texts are read again. Throws a Fault if the lists or the tables of pointers cannot be read, if
+ * the result is not as it should be, or `cancelled`.
+ * @param {Engine} engine
+ * @param {OpenedTrack} opened
+ * @param {MovingOptions} options
+ * @param {Watch} [watch] receives the number of rows
+ * @returns {Promise<MovingImport>}
+ */
+export async function importMoving(engine, opened, options, watch = {}) {
+    const { lists, pointers, partial, encodings, isAsked } = options;
+    const files = await openPointedFiles(opened, await tablesOfList(pointers.reader, watch.signal), watch.signal);
+    const moving = new MovingRows(engine, opened, files, options, watch);
+    const fitted = await fittedLists(lists, await moving.place(true), { encodings, isAsked, isAlso: () => true }, watch);
+    if (fitted.count === 0 && fitted.fuzzy === 0) throw new Fault('list/no-new-text', {});
+    for (const file of files.files) await moving.layOutFile(file, fitted.others);
+    await moving.write();
+    const left = [...fitted.left, ...moving.left];
+    const { image } = await opened.contents();
+    const script = partial || left.length === 0 ? await fittingScript(engine.calls, image, moving.parts) : null;
+    if (script !== null) await checkMoved(engine.calls, opened, script, moving, watch.signal);
+    return { ...fitted, left, script, ...moving.remarks };
+}

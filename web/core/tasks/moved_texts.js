@@ -1,0 +1,216 @@
+// Decides which texts of a file may move, and which ranges they leave free.
+
+import { firstAfter, sameBytes } from '../bytes.js';
+import { endOf, fillingAfter, withEnd } from '../encodings/index.js';
+import { MOST_CODES, numberAt } from '../pointers/index.js';
+import { isTurnDue, letOthersIn } from '../turns.js';
+
+/** @typedef {import('../encodings/encoding.js').Encoding} Encoding */
+/** @typedef {import('../facts.js').StayReason} StayReason */
+/** @typedef {import('../pointers/layout.js').Movable} Movable */
+/** @typedef {import('../pointers/tsv.js').ListedTable} ListedTable */
+/** @typedef {import('../turns.js').Signal} Signal */
+/** @typedef {import('./list_rows.js').ListRow} ListRow */
+/** @typedef {import('./pointed_file.js').PointedFile} PointedFile */
+/** @typedef {import('./pointed_file.js').Pointer} Pointer */
+/**
+ * A row with a new text in a file to which pointers lead: the place of its old text in the file, how many bytes that has (`known`), the
+ * room for a new text in place, the bytes of the new text, and the encoding.
+ * @typedef {{ row: ListRow, at: number, known: number, room: number, fresh: Uint8Array, encoding: Encoding }} PointedRow
+ */
+/** @typedef {Movable & { text: PointedRow, pointers: Pointer[] }} MovableText a text that may move with its pointers */
+/** @typedef {{ text: PointedRow, reason: StayReason }} StayingText a text that stays in place, and why */
+
+/** A byte that follows at least this many texts, and more than half of all in a file, ends them. */
+const LEAST_ENDED = 6;
+
+/** The numbers beside pointers are lengths if this share of them is the length of the text, of this many texts at least. */
+const SHARE_OF_LENGTHS = 0.75;
+const LEAST_LENGTHS = 3;
+
+/**
+ * The byte that ends most texts of a file, 0 if none does.
+ * @param {PointedFile} file
+ * @param {PointedRow[]} texts
+ */
+function usualEndOf({ bytes }, texts) {
+    const counts = new Uint32Array(256);
+    for (const { at, known } of texts) counts[bytes[at + known] || 0] += 1;
+    const most = counts.indexOf(Math.max(...counts));
+    return counts[most] >= LEAST_ENDED && 2 * counts[most] > texts.length && (most < 0x20 || most === 0xFF) ? most : 0;
+}
+
+/**
+ * The end of a text with its filling and the bytes that end it, and these; -1 if it has no such bytes.
+ * @param {PointedFile} file
+ * @param {PointedRow} text
+ * @param {number} usual the byte that ends most texts of the file
+ */
+function endWithMark({ bytes, size }, { at, known, row, encoding }, usual) {
+    const ended = withEnd(encoding, encoding.end ?? usual);
+    const mark = endOf(ended);
+    const from = at + known;
+    const limit = row.room < 0 ? size : Math.min(at + Math.max(row.room, known) + mark.length, size);
+    const filled = from + fillingAfter(ended, bytes, from, limit);
+    const isMarked = filled + mark.length <= size && sameBytes(mark, bytes.subarray(filled, filled + mark.length));
+    return { mark, after: isMarked && (row.room < 0 || row.room >= known) ? filled + mark.length : -1 };
+}
+
+/** The texts of a file, which move or stay. */
+export class MovedTexts {
+    /**
+     * @param {PointedFile} file
+     * @param {PointedRow[]} texts in the order of their places
+     * @param {{ firsts: number[], isKept: (row: ListRow) => boolean }} others the places of rows without a new text, and whether a row is
+     *     to stay
+     */
+    constructor(file, texts, { firsts, isKept }) {
+        this.file = file;
+        this.texts = texts;
+        this.firsts = [...new Set([...firsts, ...texts.map(({ at }) => at)])].sort((a, b) => a - b);
+        this.isKept = isKept;
+        this.usual = usualEndOf(file, texts);
+        /** @type {MovableText[]} */
+        this.movable = [];
+        /** @type {StayingText[]} */
+        this.staying = [];
+    }
+
+    /**
+     * Sorts the texts into those that may move and those that stay.
+     * @param {Signal} [signal]
+     */
+    async sort(signal) {
+        const lengths = new LengthTables(this.file, this.texts);
+        let low = 0;
+        for (const text of this.texts) {
+            if (isTurnDue()) await letOthersIn(signal);
+            const i = firstAfter(this.firsts, text.at);
+            const [before = -1, next = this.file.size] = [this.firsts[i - 2], this.firsts[i]];
+            const sorted = this.sortOne(text, Math.max(low, before + 1), next, lengths);
+            if (typeof sorted === 'string') this.staying.push({ text, reason: sorted });
+            else this.movable.push(sorted);
+            low = typeof sorted === 'string' ? text.at + text.known : sorted.after;
+        }
+        this.align();
+    }
+
+    /**
+     * A text as one that may move, or the reason why it stays.
+     * @param {PointedRow} text
+     * @param {number} low the first byte that does not belong to the text before it
+     * @param {number} next where the next row begins
+     * @param {LengthTables} lengths
+     * @returns {MovableText | StayReason}
+     */
+    sortOne(text, low, next, lengths) {
+        const { file } = this;
+        const { at, known, row, fresh } = text;
+        const { mark, after: marked } = endWithMark(file, text, this.usual);
+        const first = this.firstPointed(at, low, mark);
+        const pointers = file.leadingTo(first, at + 1);
+        if (this.isKept(row)) return 'kept';
+        if (pointers.length === 0) return 'no-pointer';
+        if (marked < 0) return 'no-end';
+        const end = at + known + mark.length;
+        if (next < end || file.leadingTo(at + 1, end).length > 0) return 'pointed-inside';
+        if (lengths.have(pointers)) return 'length';
+        // An empty text in the filling has a pointer or a row of its own.
+        const [inside] = file.leadingTo(end, marked);
+        const after = Math.min(marked, next, inside === undefined ? marked : inside.target);
+        if (file.hasPointer(first, after)) return 'overlap';
+        const bytes = new Uint8Array(at - first + fresh.length + mark.length);
+        bytes.set(file.bytes.subarray(first, at));
+        bytes.set(fresh, at - first);
+        bytes.set(mark, at - first + fresh.length);
+        return { first, after, bytes, text, pointers, ...limitsOf(pointers, first) };
+    }
+
+    /**
+     * The place of the first code before a text to which a pointer leads, or the place of the text. No byte that ends texts is between: then
+     * a different text, which has no row, would begin there.
+     * @param {number} at
+     * @param {number} low
+     * @param {Uint8Array} mark
+     */
+    firstPointed(at, low, mark) {
+        const { bytes } = this.file;
+        let first = at;
+        while (first > Math.max(low, at - MOST_CODES) && bytes[first - 1] !== 0 && bytes[first - 1] !== mark[0]) first -= 1;
+        const [pointer] = this.file.leadingTo(first, at + 1);
+        return pointer === undefined ? at : pointer.target;
+    }
+
+    /** The byte that ends the texts. */
+    get end() {
+        const [first] = this.texts;
+        return first.encoding.end ?? this.usual;
+    }
+
+    /** Texts whose places are all multiples of 2 or 4 stay so. */
+    align() {
+        const usual = [4, 2].find(unit => this.movable.every(({ first }) => first % unit === 0)) || 1;
+        for (const text of this.movable) text.align = Math.max(text.align, usual);
+    }
+}
+
+/**
+ * The step, and the first and the last place, that pointers can express for a text.
+ * @param {Pointer[]} pointers
+ * @param {number} first where the text begins now
+ */
+function limitsOf(pointers, first) {
+    let [align, least, most] = [1, 0, Infinity];
+    for (const { table: { width, base, own, unit }, at, target } of pointers) {
+        const from = base + (own ? at : 0) - (target - first);
+        align = Math.max(align, unit);
+        least = Math.max(least, from);
+        most = Math.min(most, from + unit * (256 ** width - 1));
+    }
+    return { align, least, most };
+}
+
+/** Tables that have the length of each text beside its pointer. Such a text cannot have a new length. */
+class LengthTables {
+    /**
+     * @param {PointedFile} file
+     * @param {PointedRow[]} texts
+     */
+    constructor(file, texts) {
+        /** @type {Map<ListedTable, { count: number, equal: Map<string, number> }>} */
+        this.counts = new Map();
+        const known = new Map(texts.map(text => [text.at, text.known]));
+        for (const pointer of file.leading) {
+            const size = known.get(pointer.target);
+            if (size !== undefined && pointer.table.distance > pointer.table.width) this.count(pointer, size);
+        }
+    }
+
+    /**
+     * @param {Pointer} pointer
+     * @param {number} size of its text
+     */
+    count({ table, file: { bytes }, at }, size) {
+        const counts = this.counts.get(table) || { count: 0, equal: new Map() };
+        this.counts.set(table, counts);
+        counts.count += 1;
+        const gap = table.distance - table.width;
+        for (const width of [1, 2, 4]) {
+            for (let shift = -gap; shift + width <= table.distance; shift++) {
+                if (shift + width > 0 && shift < table.width || at + shift < 0 || at + shift + width > bytes.length) continue;
+                const more = numberAt(bytes, at + shift, { width, big: table.big }) - size;
+                if (more < 0 || more > 2) continue;
+                const key = `${shift} ${width} ${more}`;
+                counts.equal.set(key, (counts.equal.get(key) || 0) + 1);
+            }
+        }
+    }
+
+    /** @param {Pointer[]} pointers */
+    have(pointers) {
+        return pointers.some(({ table }) => {
+            const { count, equal } = this.counts.get(table) || { count: 0, equal: new Map() };
+            return count >= LEAST_LENGTHS && Math.max(0, ...equal.values()) >= SHARE_OF_LENGTHS * count;
+        });
+    }
+}
