@@ -192,7 +192,7 @@ export function pointedGames(seed) {
         tabled(dice, 'units of two bytes', lines(), { width: 2, isBig: true, before: 2, align: 2, numberOf: place => place / 2, targetOf: value => 2 * value }),
         tabled(dice, 'letters in the pointers', lines(), { width: 2, before: 2, ...from(0x2400 - 0x60) }),
         tabled(dice, 'letters in the pointers, the greatest byte first', lines(), { width: 2, isBig: true, before: 6, ...from(0x3040) }),
-        tabled(dice, 'words of a character between others', words(60).map((word, i) => i % 3 === 0 ? word.subarray(0, 2) : word), { width: 2, before: 40, ...own }),
+        tabled(dice, 'words of a character between others', words(80).map((word, i) => i % 7 === 0 ? word.subarray(0, 2) : word), { width: 2, before: 40, ...own }),
         coded(dice, 'in code', codedLines(dice, 40), { isBig: false, address: 0x400C00, pool: false }),
         coded(dice, 'in pools of code', codedLines(dice, 60), { isBig: true, address: 0x06010000, pool: true }),
         apart(dice, 'a table in another file', codedLines(dice, 50)), twice(dice, 'two tables', lines()),

@@ -220,7 +220,7 @@ export interface Facts {
 export type RowName = { list: string; unit: 'row' | 'line'; number: number; place: string };
 
 /** Why a text cannot move. */
-export type StayReason = 'kept' | 'no-pointer' | 'no-end' | 'pointed-inside' | 'length' | 'overlap';
+export type StayReason = 'kept' | 'no-pointer' | 'no-end' | 'pointed-inside' | 'length' | 'doubtful' | 'overlap';
 
 export type FileKind = 'raw' | 'audio' | 'subchannels' | 'iso' | 'chd' | 'ecm' | 'archive' | 'wave' | 'cue' | 'empty' | 'unknown' | 'scrambled' | 'unaligned'
     | 'headerless' | 'nrg' | 'mds' | 'ccd' | 'toc' | 'sub' | 'long' | 'text';

@@ -10,7 +10,8 @@ import { KINDS } from './kinds.js';
 /** Why texts cannot move, by the reason. @type {Record<import('../core/facts.js').StayReason, string>} */
 const STAYS = {
     'kept': 'it is to stay in place', 'no-pointer': 'no pointer leads to it', 'no-end': 'no known byte ends it',
-    'pointed-inside': 'a pointer or a row leads into its middle', 'length': 'its length is beside its pointer',
+    'pointed-inside': 'a pointer or a row leads into its middle',
+    'length': 'its length is beside its pointer, or before it', 'doubtful': 'a number beside a table may be one more pointer to it',
     'overlap': 'a pointer is within its room',
 };
 

@@ -57,16 +57,12 @@ export class Differences {
 
     /**
      * The texts that have three differences.
-     * @param {number} hash
-     * @param {number} a
-     * @param {number} b
-     * @param {number} c
+     * @param {number[]} three
      */
-    having(hash, a, b, c) {
-        return (this.entries.get(hash) || []).filter(({ texts, text, unit }) => {
-            const own = differencesFrom(texts.firsts, text, unit);
-            return own[0] === a && own[1] === b && own[2] === c;
-        });
+    having(three) {
+        const [a, b, c] = three;
+        return (this.entries.get(mixed(a, b, c)) || []).filter(({ texts, text, unit }) =>
+            differencesFrom(texts.firsts, text, unit).every((difference, i) => difference === three[i]));
     }
 }
 

@@ -18,8 +18,11 @@ import { numberAt, targetOf } from './forms.js';
 /** After this many numbers in a row that lead to no text, a table has ended. */
 const MOST_MISSES = 2;
 
-/** A pointer at an end of a table that leads to the codes before a text counts only if its neighbour leads to one of the next texts. */
+/** How many texts apart two neighbouring pointers of a table in order may lead. */
 const NEAR_TEXTS = 2;
+
+/** A table has no order if more than this share of its pointers lead back. */
+const SHARE_MIXED = 0.2;
 
 /**
  * The pointer at a place, or null if its number leads to no text, or if it begins in a text.
@@ -82,27 +85,61 @@ function lowestAfter({ bytes }, form, at) {
 }
 
 /**
- * Whether the last pointer of a list is likely to be one: it leads to the first byte of a text, and if all others are in the order of
- * the texts and have few bits, it is in that order too; or it leads to the codes before a text, and its neighbour to one beside it.
+ * Whether the pointers of a table are not in the order of their texts.
  * @param {Hit[]} hits
- * @param {number} width
  */
-function isLikelyLast(hits, width) {
-    const [neighbour, last] = hits.slice(-2);
-    if (neighbour === undefined) return last.isFirst;
-    if (Math.abs(last.text - neighbour.text) <= NEAR_TEXTS) return true;
-    return last.isFirst && (width > 2 || neighbour.isFirst && hits.length > 2 && Math.abs(neighbour.text - hits[hits.length - 3].text) > NEAR_TEXTS);
+function areMixed(hits) {
+    const back = hits.filter(({ text }, i) => i > 0 && text < hits[i - 1].text).length;
+    return back > SHARE_MIXED * hits.length;
 }
 
 /**
- * The pointers without the unlikely ones at the end.
+ * Whether the pointer at an end of a table is likely to be one. It leads to one of the texts beside that of its neighbour. Otherwise it
+ * leads to the first byte of a text, and either is wide, or the table has no order.
+ * @param {Hit} last
+ * @param {Hit | undefined} neighbour
+ * @param {boolean} isSure whether the first byte is enough
+ */
+function isLikelyLast(last, neighbour, isSure) {
+    if (neighbour !== undefined && Math.abs(last.text - neighbour.text) <= NEAR_TEXTS) return true;
+    return last.isFirst && (isSure || neighbour === undefined);
+}
+
+/**
+ * The pointers without those at the beginning whose number is 0 if others lead to the same text: most zeros are not pointers.
+ * @param {Searched} file
+ * @param {PointerForm} form
+ * @param {Hit[]} hits
+ */
+function withoutZeros({ bytes }, form, hits) {
+    let first = 0;
+    const isRepeated = (/** @type {number} */ i) => hits.some(({ text }, k) => k > i && text === hits[i].text);
+    while (first < hits.length && numberAt(bytes, hits[first].at, form) === 0 && isRepeated(first)) first += 1;
+    return hits.slice(first);
+}
+
+/**
+ * The pointers without the unlikely ones at both ends.
  * @param {Hit[]} hits
  * @param {number} width
  */
 function trimmed(hits, width) {
-    let { length } = hits;
-    while (length > 0 && !isLikelyLast(hits.slice(Math.max(length - 3, 0), length), width)) length -= 1;
-    return hits.slice(0, length);
+    const isSure = width > 2 || areMixed(hits);
+    let [first, after] = [0, hits.length];
+    while (after > first && !isLikelyLast(hits[after - 1], after - 1 > first ? hits[after - 2] : undefined, isSure)) after -= 1;
+    while (first < after && !isLikelyLast(hits[first], first + 1 < after ? hits[first + 1] : undefined, isSure)) first += 1;
+    return hits.slice(first, after);
+}
+
+/**
+ * The pointers without those that lead into their own table.
+ * @param {Hit[]} hits
+ * @param {number} width
+ */
+function leadingOut(hits, width) {
+    if (hits.length === 0) return hits;
+    const [first, after] = [hits[0].at, hits[hits.length - 1].at + width];
+    return hits.filter(({ target }) => target < first || target >= after);
 }
 
 /**
@@ -118,6 +155,8 @@ export function runAround(file, form, texts, at, distance) {
     const [before, after] = [-distance, distance].map(step => hitsFrom(file, form, texts, at, step));
     const known = hitAt(file, form, texts, at);
     const all = [...before.hits.reverse(), ...known === null ? [] : [known], ...after.hits];
-    const hits = trimmed(trimmed(all, form.width).reverse(), form.width).reverse();
+    const out = file.own === texts ? leadingOut(all, form.width) : all;
+    const afterZeros = withoutZeros(file, form, out);
+    const hits = trimmed(withoutZeros(file, form, afterZeros.reverse()).reverse(), form.width);
     return { form, distance, texts, hits, steps: before.steps + after.steps + 1 };
 }

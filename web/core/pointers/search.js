@@ -2,7 +2,6 @@
 
 import { isTurnDue, letOthersIn } from '../turns.js';
 import { mixed } from './differences.js';
-import { targetOf } from './forms.js';
 import { hitAt, runAround } from './run.js';
 import { runsByVotes } from './votes.js';
 
@@ -72,21 +71,37 @@ class Search {
      * @param {boolean} own whether the pointers count from their own places
      */
     async byDifferences(numbers, form, distance, own) {
-        const { differences: { filter, shift }, signal } = this;
-        const more = own ? distance : 0;
         const last = numbers.length - 3 * distance;
         for (let from = 0; from < last; from += AT_ONCE) {
-            if (isTurnDue()) await letOthersIn(signal);
+            if (isTurnDue()) await letOthersIn(this.signal);
             const end = Math.min(from + AT_ONCE, last);
-            for (let at = from; at < end; at++) {
-                const [second, third] = [numbers[at + distance], numbers[at + 2 * distance]];
-                const a = second - numbers[at] + more;
-                const b = third - second + more;
-                const c = numbers[at + 3 * distance] - third + more;
-                const hash = mixed(a, b, c);
-                if (filter[hash >>> shift] === 1) this.addRuns(numbers, form, distance, own, at, [hash, a, b, c]);
+            for (let at = this.nextAlike(numbers, distance, own, from, end); at < end;) {
+                this.addRuns(numbers, form, distance, own, at);
+                at = this.nextAlike(numbers, distance, own, at + 1, end);
             }
         }
+    }
+
+    /**
+     * The next number from which on three differences may be those of texts, or `end`.
+     * @param {Uint32Array} numbers
+     * @param {number} distance
+     * @param {boolean} own
+     * @param {number} from
+     * @param {number} end
+     */
+    nextAlike(numbers, distance, own, from, end) {
+        const { filter, shift } = this.differences;
+        const more = own ? distance : 0;
+        for (let at = from; at < end; at++) {
+            const second = numbers[at + distance];
+            const third = numbers[at + 2 * distance];
+            const a = second - numbers[at] + more | 0;
+            const b = third - second + more | 0;
+            const c = numbers[at + 3 * distance] - third + more | 0;
+            if (filter[mixed(a, b, c) >>> shift] === 1) return at;
+        }
+        return end;
     }
 
     /**
@@ -96,12 +111,12 @@ class Search {
      * @param {number} distance
      * @param {boolean} own
      * @param {number} at
-     * @param {[number, number, number, number]} differences their hash, and the three
      */
-    addRuns(numbers, form, distance, own, at, differences) {
+    addRuns(numbers, form, distance, own, at) {
         const { file } = this;
         if (file.own !== null && file.own.firstAround(at) >= 0) return;
-        for (const { texts, text, unit } of this.differences.having(...differences)) {
+        const three = [0, 1, 2].map(i => numbers[at + (i + 1) * distance] - numbers[at + i * distance] + (own ? distance : 0));
+        for (const { texts, text, unit } of this.differences.having(three)) {
             if (own && (unit > 1 || texts !== file.own)) continue;
             const base = texts.firsts[text] - unit * numbers[at] - (own ? at : 0);
             this.addRun({ ...form, base, own, unit }, texts, at, distance);
@@ -135,9 +150,10 @@ class Search {
         for (const fromTable of [false, true]) {
             for (let at = 0; at < numbers.length; at++) {
                 if (at % AT_ONCE === 0 && isTurnDue()) await letOthersIn(this.signal);
-                const wanted = { ...form, base: fromTable ? at : 0, own: false, unit: 1 };
-                if (texts.begunBy(targetOf(wanted, at, numbers[at])) < 0 || !this.areMixed(wanted, texts, at)) continue;
-                this.addRun(wanted, texts, at, form.width);
+                const base = fromTable ? at : 0;
+                if (!texts.isNear(numbers[at] + base)) continue;
+                const wanted = { ...form, base, own: false, unit: 1 };
+                if (this.areMixed(wanted, texts, at)) this.addRun(wanted, texts, at, form.width);
             }
         }
     }

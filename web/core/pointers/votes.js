@@ -12,7 +12,7 @@ import { isTurnDue, letOthersIn } from '../turns.js';
 const MOST_BYTES = 1 << 22;
 
 /** How many texts vote, how many of their votes a place needs, and how many places are tried. */
-const VOTERS = 24;
+const VOTERS = 16;
 const LEAST_VOTES = 6;
 const SHARE = 0.5;
 const MOST_TRIED = 3;
@@ -22,7 +22,8 @@ const SHARE_OF_TEXTS = 0.4;
 
 /** Votes are first counted by these many bits of a hash. */
 const COUNTER_BITS = 22;
-const VOTED_AT_ONCE = 1 << 10;
+const VOTED_AT_ONCE = 1 << 12;
+const MOST_COUNTED = 255;
 
 /** @param {number} number of 32 bits */
 function counterOf(number) {
@@ -54,13 +55,57 @@ async function distinctOf(numbers, signal) {
  */
 function votersOf({ firsts }) {
     const count = Math.min(VOTERS, firsts.length);
-    return Array.from({ length: count }, (_, i) => firsts[Math.floor(i * (firsts.length - 1) / Math.max(count - 1, 1))]);
+    return Int32Array.from({ length: count }, (_, i) => firsts[Math.floor(i * (firsts.length - 1) / Math.max(count - 1, 1))]);
+}
+
+/**
+ * Calls a function with parts of a list. Other tasks get turns in between.
+ * @param {Uint32Array} numbers
+ * @param {(part: Uint32Array) => void} take
+ * @param {Signal} [signal]
+ */
+async function eachPart(numbers, take, signal) {
+    for (let at = 0; at < numbers.length; at += VOTED_AT_ONCE) {
+        if (isTurnDue()) await letOthersIn(signal);
+        take(numbers.subarray(at, at + VOTED_AT_ONCE));
+    }
+}
+
+/**
+ * Counts the votes of texts for the places from which numbers may count, by the hashes of these places.
+ * @param {Uint8Array} counters
+ * @param {Int32Array} voters
+ * @param {Uint32Array} numbers
+ */
+function countVotes(counters, voters, numbers) {
+    for (let i = 0; i < numbers.length; i++) {
+        for (let k = 0; k < voters.length; k++) {
+            const counter = counterOf(voters[k] - numbers[i]);
+            if (counters[counter] < MOST_COUNTED) counters[counter] += 1;
+        }
+    }
+}
+
+/**
+ * Counts the votes exactly for the places whose hashes have enough.
+ * @param {Map<number, number>} votes
+ * @param {{ counters: Uint8Array, least: number }} counted
+ * @param {Int32Array} voters
+ * @param {Uint32Array} numbers
+ */
+function collectVotes(votes, { counters, least }, voters, numbers) {
+    for (let i = 0; i < numbers.length; i++) {
+        for (let k = 0; k < voters.length; k++) {
+            const base = voters[k] - numbers[i] | 0;
+            if (counters[counterOf(base)] >= least) votes.set(base, (votes.get(base) || 0) + 1);
+        }
+    }
 }
 
 /**
  * The places from which most numbers count, each as a number of 32 bits.
  * @param {Uint32Array} numbers each once
- * @param {number[]} voters
+ * @param {Int32Array} voters
  * @param {Signal} [signal]
  */
 async function basesOf(numbers, voters, signal) {
@@ -68,16 +113,8 @@ async function basesOf(numbers, voters, signal) {
     const counters = new Uint8Array(2 ** COUNTER_BITS);
     /** @type {Map<number, number>} */
     const votes = new Map();
-    const each = async (/** @type {(base: number) => void} */ take) => {
-        for (let i = 0; i < numbers.length; i++) {
-            if (i % VOTED_AT_ONCE === 0 && isTurnDue()) await letOthersIn(signal);
-            for (const voter of voters) take(voter - numbers[i] | 0);
-        }
-    };
-    await each(base => { counters[counterOf(base)] += Number(counters[counterOf(base)] < 255); });
-    await each(base => {
-        if (counters[counterOf(base)] >= least) votes.set(base, (votes.get(base) || 0) + 1);
-    });
+    await eachPart(numbers, part => countVotes(counters, voters, part), signal);
+    await eachPart(numbers, part => collectVotes(votes, { counters, least }, voters, part), signal);
     const found = [...votes].filter(([, count]) => count >= least);
     return found.sort((a, b) => b[1] - a[1]).slice(0, MOST_TRIED).map(([base]) => base);
 }
@@ -108,7 +145,7 @@ export async function runsByVotes(file, numbers, big, texts, signal) {
 }
 
 /**
- * The numbers of a file that lead to the first bytes of texts, without those in texts.
+ * The numbers of a file that lead to texts, without those in texts.
  * @param {Searched} file
  * @param {Uint32Array} numbers
  * @param {number} base
@@ -121,8 +158,8 @@ async function hitsOf({ own }, numbers, base, texts, signal) {
         if (at % VOTED_AT_ONCE === 0 && isTurnDue()) await letOthersIn(signal);
         const target = numbers[at] + base;
         const text = target < 0 || target > texts.size ? -1 : texts.begunBy(target);
-        if (text < 0 || texts.firsts[text] !== target || (own !== null && own.firstAround(at) >= 0)) continue;
-        hits.push({ at, target, text, isFirst: true });
+        if (text < 0 || (own !== null && own.firstAround(at) >= 0)) continue;
+        hits.push({ at, target, text, isFirst: texts.firsts[text] === target });
     }
     return hits;
 }

@@ -101,8 +101,10 @@ export async function findPointers(opened, { spans }, watch = {}) {
     /** @type {Map<string, TextStarts>} */
     const starts = new Map();
     for (const [path, texts] of spans) {
+        await letOthersIn(watch.signal);
         const file = files.get(path);
-        if (file !== undefined && texts.length >= LEAST_TEXTS) starts.set(path, new TextStarts(path, file.size, texts));
+        if (file === undefined || file.size > MOST_BYTES || texts.length < LEAST_TEXTS) continue;
+        starts.set(path, new TextStarts(path, await wholeOf(readerOfFile(part, file).reader), texts));
     }
     const tables = await findPointerTables([...starts.values()], searchedFiles(part, files, starts, watch), watch.signal);
     return { text: pointerList(tables), count: tables.length };

@@ -9,6 +9,7 @@ import { encodingsOfRows, fittedLists } from './fitted_lists.js';
 import { MovedTexts } from './moved_texts.js';
 import { FreshFiles, pushFreshFiles } from './moving_script.js';
 import { openPointedFiles } from './pointed_file.js';
+import { assertHasRoom } from './replace.js';
 import { replaceBytes } from './replace_bytes.js';
 import { sharingWith } from './replace_file.js';
 import { placeInImage } from './rows_in_image.js';
@@ -76,18 +77,26 @@ class MovingRows {
         const { part } = await this.opened.contents();
         const { calls } = this.engine;
         return placeInImage(part, this.options.fill, async (row, window, old, bytes) => {
-            this.parts.push(await replaceBytes(calls, window, row, old, bytes, true));
+            const lines = await replaceBytes(calls, window, row, old, bytes, true);
             const spot = this.files.spotOf(row);
-            if (spot !== null) this.inPlace.push({ file: spot.file, first: spot.at, after: spot.at + old.length });
+            if (spot === null) return this.parts.push(lines);
+            const { file, at } = spot;
+            this.fresh.of(file).bytes.set(bytes, at);
+            return this.inPlace.push({ file, first: at, after: at + old.length });
         }, (row, { known, room, size, encoding }, bytes) => {
             const spot = this.files.spotOf(row);
             if (spot === null) return 0;
             const { file, at } = spot;
             const used = Math.max(known, Math.min(bytes.length, room), size);
             if (file.hasPointer(at, at + used)) throw new Fault('pointers/overlap', {});
-            if (!mayMove || file.leading.length === 0) return 0;
-            this.rows.get(file)?.push({ row, at, known, room, fresh: bytes, encoding });
-            return used;
+            if (mayMove && file.leading.length > 0) {
+                this.rows.get(file)?.push({ row, at, known, room, fresh: bytes, encoding });
+                return used;
+            }
+            // The room of a text ends before the next place to which a pointer leads.
+            const [next] = file.leadingTo(at + known, at + used);
+            if (next !== undefined) assertHasRoom(encoding, bytes, Math.max(known, next.target - at - 1));
+            return 0;
         });
     }
 
@@ -162,7 +171,7 @@ class MovingRows {
             await this.fresh.write(file, layout, texts.end, signal);
             this.report(file, texts.movable, layout.places);
         }
-        if (volume === null || this.layouts.length === 0) return;
+        if (volume === null) return;
         for (const [{ file, size }, fresh] of this.fresh.files) {
             const sharing = sharingWith(file, volume, fresh.size === size);
             this.remarks.sharing.push(...sharing.map(other => remark('replace/shared-blocks', { path: file.path, other })));

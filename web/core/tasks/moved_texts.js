@@ -47,11 +47,11 @@ function usualEndOf({ bytes }, texts) {
  * @param {number} usual the byte that ends most texts of the file
  */
 function endWithMark({ bytes, size }, { at, known, row, encoding }, usual) {
-    const ended = withEnd(encoding, encoding.end ?? usual);
+    const ended = withEnd(encoding, encoding.end || usual);
     const mark = endOf(ended);
     const from = at + known;
-    const limit = row.room < 0 ? size : Math.min(at + Math.max(row.room, known) + mark.length, size);
-    const filled = from + fillingAfter(ended, bytes, from, limit);
+    const most = row.room < 0 ? Infinity : Math.max(row.room - known, 0);
+    const filled = from + Math.min(fillingAfter(ended, bytes, from, size), most);
     const isMarked = filled + mark.length <= size && sameBytes(mark, bytes.subarray(filled, filled + mark.length));
     return { mark, after: isMarked && (row.room < 0 || row.room >= known) ? filled + mark.length : -1 };
 }
@@ -115,6 +115,7 @@ export class MovedTexts {
         const end = at + known + mark.length;
         if (next < end || file.leadingTo(at + 1, end).length > 0) return 'pointed-inside';
         if (lengths.have(pointers)) return 'length';
+        if (file.isDoubtful(first, at + 1)) return 'doubtful';
         // An empty text in the filling has a pointer or a row of its own.
         const [inside] = file.leadingTo(end, marked);
         const after = Math.min(marked, next, inside === undefined ? marked : inside.target);
@@ -144,7 +145,7 @@ export class MovedTexts {
     /** The byte that ends the texts. */
     get end() {
         const [first] = this.texts;
-        return first.encoding.end ?? this.usual;
+        return first.encoding.end || this.usual;
     }
 
     /** Texts whose places are all multiples of 2 or 4 stay so. */
@@ -170,19 +171,24 @@ function limitsOf(pointers, first) {
     return { align, least, most };
 }
 
-/** Tables that have the length of each text beside its pointer. Such a text cannot have a new length. */
+/** The widths of lengths in bytes, and how much more than the text they may count: the bytes that end it. */
+const LENGTH_WIDTHS = [1, 2, 4];
+const MOST_MORE = 2;
+
+/** Tables that have the length of each text beside its pointer, or before the text. Such a text cannot have a new length. */
 class LengthTables {
     /**
      * @param {PointedFile} file
      * @param {PointedRow[]} texts
      */
     constructor(file, texts) {
+        this.bytes = file.bytes;
         /** @type {Map<ListedTable, { count: number, equal: Map<string, number> }>} */
         this.counts = new Map();
         const known = new Map(texts.map(text => [text.at, text.known]));
         for (const pointer of file.leading) {
             const size = known.get(pointer.target);
-            if (size !== undefined && pointer.table.distance > pointer.table.width) this.count(pointer, size);
+            if (size !== undefined) this.add(pointer, size);
         }
     }
 
@@ -190,19 +196,35 @@ class LengthTables {
      * @param {Pointer} pointer
      * @param {number} size of its text
      */
-    count({ table, file: { bytes }, at }, size) {
+    add({ table, file: { bytes }, at, target }, size) {
         const counts = this.counts.get(table) || { count: 0, equal: new Map() };
         this.counts.set(table, counts);
         counts.count += 1;
-        const gap = table.distance - table.width;
-        for (const width of [1, 2, 4]) {
-            for (let shift = -gap; shift + width <= table.distance; shift++) {
-                if (shift + width > 0 && shift < table.width || at + shift < 0 || at + shift + width > bytes.length) continue;
-                const more = numberAt(bytes, at + shift, { width, big: table.big }) - size;
-                if (more < 0 || more > 2) continue;
-                const key = `${shift} ${width} ${more}`;
-                counts.equal.set(key, (counts.equal.get(key) || 0) + 1);
+        const { distance, width: own } = table;
+        for (const width of LENGTH_WIDTHS) {
+            this.addIfEqual(counts.equal, this.bytes, target - width, width, `text ${width}`, size);
+            for (let shift = own - distance; shift + width <= distance; shift++) {
+                const isBeside = shift + width <= 0 || shift >= own;
+                if (isBeside) this.addIfEqual(counts.equal, bytes, at + shift, width, `pointer ${shift} ${width}`, size);
             }
+        }
+    }
+
+    /**
+     * Counts a field if it is the length of a text.
+     * @param {Map<string, number>} equal
+     * @param {Uint8Array} bytes
+     * @param {number} at
+     * @param {number} width
+     * @param {string} field
+     * @param {number} size
+     */
+    addIfEqual(equal, bytes, at, width, field, size) {
+        if (at < 0 || at + width > bytes.length) return;
+        for (const big of width === 1 ? [false] : [false, true]) {
+            const more = numberAt(bytes, at, { width, big }) - size;
+            const key = `${field} ${big} ${more}`;
+            if (more >= 0 && more <= MOST_MORE) equal.set(key, (equal.get(key) || 0) + 1);
         }
     }
 

@@ -41,6 +41,17 @@ export class PointedFile {
         this.ownPlaces = [];
         /** @type {number[]} */
         this.targets = [];
+        /** @type {number[]} the places to which numbers beside tables lead, in order */
+        this.doubtful = [];
+    }
+
+    /**
+     * Whether a number beside a table leads to a place of a range.
+     * @param {number} first
+     * @param {number} after
+     */
+    isDoubtful(first, after) {
+        return this.doubtful[firstAfter(this.doubtful, first - 1)] < after;
     }
 
     /**
@@ -153,7 +164,30 @@ export async function openPointedFiles(opened, tables, signal) {
         }
     }
     for (const [file, { own, leading }] of pointers) file.setPointers(own, leading);
+    for (const table of tables) {
+        await letOthersIn(signal);
+        const [file, texts] = [await open(table.row, table.path), await open(table.row, table.texts)];
+        texts.doubtful.push(...doubtfulTargets(table, file));
+    }
+    for (const file of files.values()) file.doubtful.sort((a, b) => a - b);
     return new PointedFiles(files);
+}
+
+/** How many numbers beside each end of a table are looked at: they may be pointers that the table lacks. */
+const BESIDE = 8;
+
+/**
+ * The places to which the numbers before and after a table lead that are not pointers of a table themselves. Zeros are too frequent.
+ * @param {ListedTable} table
+ * @param {PointedFile} file
+ */
+function doubtfulTargets(table, file) {
+    const { at, count, distance, width } = table;
+    if (count === 1) return [];
+    const before = Array.from({ length: BESIDE }, (_, i) => at - (i + 1) * distance);
+    const after = Array.from({ length: BESIDE }, (_, i) => at + (count + i) * distance);
+    const places = [...before, ...after].filter(it => it >= 0 && it + width <= file.size && !file.hasPointer(it, it + width));
+    return places.filter(it => numberAt(file.bytes, it, table) > 0).map(it => targetOf(table, it, numberAt(file.bytes, it, table)));
 }
 
 /**
