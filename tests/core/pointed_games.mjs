@@ -116,7 +116,7 @@ function counted(dice, name, texts) {
         return now.subarray(from + 2, from + 2 + now.readUInt16LE(from));
     });
     return { ...gameOf(name, bytes, places.map((_, text) => ({ at: 2 + 2 * text, text })), { width: 2, targetOf: value => value }), read, isMoving: false,
-        texts: places.map(place => place + 2), isNear: true };
+        texts: places.map(place => place + 2) };
 }
 
 /** Places and lengths of texts, 32 bits each, as in MO files. */
@@ -155,18 +155,19 @@ function pointless(dice, name, bytes, places, end = 0) {
     return { ...made, texts: places, read: ({ 'TEXT.BIN': now }) => places.map(place => now.subarray(place, now.indexOf(end, place))), isMoving: false };
 }
 
+/** Records of 24 bytes, with their own places in them. */
 function records(dice, name) {
-    const all = wordsOf(dice, 80).map((word, i) => Buffer.concat([japanese(word), Buffer.alloc(16)]).subarray(0, 16 * 1) && Buffer.concat([Buffer.concat([japanese(word), Buffer.alloc(16)]).subarray(0, 16),
-        number(2, i * 24), number(2, (i + 1) * 24), number(2, dice(9)), number(2, i)]));
+    const all = wordsOf(dice, 80).map((word, i) => Buffer.concat([japanese(word), Buffer.alloc(16 - japanese(word).length), number(2, i * 24),
+        number(2, (i + 1) * 24), number(2, dice(9)), number(2, i)]));
     return pointless(dice, name, Buffer.concat(all), all.map((_, i) => 24 * i));
 }
 
 const pick = (dice, least, most) => least + dice(most - least);
 
-/** All games. */
-export function pointedGames(seed) {
+/** All games, each with up to `most` texts. */
+export function pointedGames(seed, most = 40) {
     const dice = diceOf(seed);
-    const lines = () => codedLines(dice, pick(dice, 10, 50));
+    const lines = () => codedLines(dice, pick(dice, 10, most));
     const words = count => wordsOf(dice, count).map(japanese);
     const file = { numberOf: place => place, targetOf: value => value };
     const table = { numberOf: (place, { table: at }) => place - at, targetOf: (value, { table: at }) => value + at };

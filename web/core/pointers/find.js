@@ -19,13 +19,17 @@ const LEAST_FIRSTS = 4;
 /** The least share of a table's numbers that are pointers; and of these, the least share that lead to first bytes. */
 const SHARE_OF_HITS = 0.75;
 const SHARE_OF_FIRSTS = 0.3;
-const SHARE_ELSEWHERE = 0.75;
+const SHARE_ELSEWHERE = 0.5;
 
 /** A table is refused if more than this share of its texts have pointers of a different form, or with a different base. */
 const MOST_CLAIMED = 0.3;
 
 /** How much a table of wider pointers is preferred: a narrower one has only a part of their bytes. */
 const WEIGHTS = new Map([[2, 1], [3, 1.1], [4, 1.25]]);
+
+/** Numbers below this one are frequent: single pointers that are so small count only if this many are at equal distances. */
+const LEAST_ADDRESS = 1 << 16;
+const LEAST_IN_PART = 4;
 
 /** Single pointers at most this many bytes apart are rows of one table if their distances are equal. */
 const MOST_APART = 64;
@@ -69,7 +73,11 @@ class Tables {
     /** @param {Candidate} candidate */
     add({ run }) {
         const { form, texts, distance } = run;
-        const hits = run.hits.filter(({ at }) => !this.isTaken(at, form.width));
+        const left = run.hits.filter(({ at }) => !this.isTaken(at, form.width));
+        const isSmall = -form.base < LEAST_ADDRESS;
+        const parts = distance > 0 ? [{ hits: left, distance }]
+            : partsOf(left, form.width).filter(part => !isSmall || part.hits.length >= LEAST_IN_PART);
+        const hits = parts.flatMap(part => part.hits);
         if (hits.length < LEAST_FIRSTS) return;
         const claim = [form.width, form.big, form.base, form.own].join();
         const keys = [...new Set(hits.map(({ target }) => `${target} ${texts.path}`))];
@@ -77,7 +85,7 @@ class Tables {
         if (claimed.length > MOST_CLAIMED * keys.length) return;
         for (const key of keys) if (!this.claims.has(key)) this.claims.set(key, claim);
         for (const { at } of hits) this.taken.fill(1, at, at + form.width);
-        for (const part of distance === 0 ? partsOf(hits, form.width) : [{ hits, distance }]) this.tables.push(this.tableOf(run, part));
+        this.tables.push(...parts.map(part => this.tableOf(run, part)));
     }
 
     /**
