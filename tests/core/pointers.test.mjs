@@ -141,3 +141,131 @@ test('tables of pointers are found, texts move, and games read them; nothing els
     assert.ok(sums.false <= 0.002 * sums.due, `${sums.false} of ${sums.due} pointers are false`);
     assert.ok(sums.moved > 0.15 * sums.due, `${sums.moved} texts moved`);
 });
+
+/** A game whose name begins with these words. */
+const gameNamed = name => pointedGames(5).find(it => it.name.startsWith(name));
+
+/** The rows of a game with new texts, and its tables. */
+async function prepared(game) {
+    const { reader, opened } = await discOf(game.files);
+    const { rows, pointers } = await listed(opened);
+    return { reader, opened, pointers, rows: withNewTexts(game, rows) };
+}
+
+test('rows that are kept stay in place, and have to fit there', async () => {
+    const game = gameNamed('16 bits from the texts');
+    const { opened, rows, pointers } = await prepared(game);
+    const made = await moved(opened, rows, pointers);
+    const [{ facts: { text: { number } } }] = made.moved;
+    const kept = await moved(opened, rows, pointers, { isKept: row => row.number === number });
+    assert.equal(kept.moved.some(({ facts }) => facts.text.number === number), false);
+    assert.deepEqual(kept.left.map(({ text, why: { code, facts: { reason, why } } }) => [text.number, code, reason, why.code]),
+        [[number, 'pointers/stays', 'kept', 'replace/no-room']]);
+    assert.equal((await moved(opened, rows, pointers, { isKept: row => row.number === number, partial: false })).script, null);
+});
+
+test('texts that do not fit name the file and the missing bytes, and others stay in place', async () => {
+    const game = gameNamed('32-bit addresses in records');
+    const { reader, opened, rows, pointers } = await prepared(game);
+    const long = rows.map(row => ({ ...row, new: row.new === '' ? '' : `${row.new}${'x'.repeat(row.number === 3 ? 1 : 200)}` }));
+    const { left, moved: movedRows, script } = await moved(opened, long, pointers);
+    assert.equal(movedRows.length, 0);
+    const [{ why }] = left;
+    assert.deepEqual([why.code, why.facts.path, why.facts.missing > 1000], ['pointers/no-room', '/TEXT.BIN', true]);
+    assert.deepEqual(script === null ? [] : misread(game, await filesAfter(reader, opened, script),
+        long.filter(row => row.new !== '' && !left.some(({ text }) => text.number === row.number))), []);
+});
+
+test('a text goes to the free end of the last sector, and the directory has the new length', async () => {
+    const game = gameNamed('32-bit addresses in records');
+    const { reader, opened, rows, pointers } = await prepared(game);
+    const [long] = rows.filter(row => row.new !== '');
+    const { script, moved: [{ facts }], left } = await moved(opened, [{ ...long, new: 'x'.repeat(long.bytes + 40) }], pointers);
+    const files = await filesAfter(reader, opened, script);
+    const { length } = game.files['TEXT.BIN'];
+    assert.deepEqual([left, facts.to, files['TEXT.BIN'].length], [[], Math.ceil(length / 4) * 4, facts.to + long.bytes + 41]);
+    assert.deepEqual(misread(game, files, [{ ...long, new: 'x'.repeat(long.bytes + 40) }]), []);
+});
+
+test('equal texts have one place', async () => {
+    const game = gameNamed('16 bits from the file');
+    const { reader, opened, rows, pointers } = await prepared(game);
+    const same = rows.map(row => ({ ...row, new: row.new === '' ? '' : 'The same text, which is longer than most of the rooms of the others are' }));
+    const { script, left, moved: all } = await moved(opened, same, pointers);
+    assert.deepEqual([left, new Set(all.map(({ facts }) => facts.to)).size <= all.length / 2], [[], true]);
+    assert.deepEqual(misread(game, await filesAfter(reader, opened, script), same.filter(row => row.new !== '')), []);
+});
+
+test('a range is not free if an unlisted text, a pointer, or a row is in it', async () => {
+    // Before each word is one of a single character, which is not a row, and which its pointers do not make a part of the next text.
+    const game = gameNamed('words of a character');
+    const { reader, opened, rows, pointers } = await prepared(game);
+    const short = game.texts.filter(first => !rows.some(({ at }) => at === first));
+    assert.ok(short.length > 5);
+    const { script } = await moved(opened, rows, pointers);
+    const files = await filesAfter(reader, opened, script);
+    for (const first of short) assert.deepEqual(files[game.file].subarray(first, first + 3), game.files[game.file].subarray(first, first + 3));
+    // A row that begins within a pointer is left out, and the pointer stays.
+    for (const name of ['letters in the pointers', 'letters in the pointers, the greatest']) {
+        const { left } = await played(gameNamed(name));
+        for (const { why } of left) assert.ok(['pointers/overlap', 'pointers/stays'].includes(why.code), why.code);
+    }
+    const [head, line] = pointers.split('\n');
+    const cells = line.split('\t');
+    const [some] = rows.filter(row => row.new !== '');
+    const over = [head, line, [cells[0], some.at, 1, 2, ...cells.slice(4)].join('\t')].join('\n');
+    const { left } = await moved(opened, [some], over);
+    assert.deepEqual(left.map(({ why }) => why.code), ['pointers/overlap']);
+});
+
+test('a text with a number beside a table that leads to it stays', async () => {
+    const game = gameNamed('two tables');
+    const { reader, opened, rows, pointers } = await prepared(game);
+    const [head, line] = pointers.split('\n');
+    const cells = line.split('\t');
+    const last = Number(cells[2]) - 1;
+    const cut = [head, [...cells.slice(0, 2), last, ...cells.slice(3)].join('\t')].join('\n');
+    const { script, left } = await moved(opened, rows, cut);
+    assert.ok(left.some(({ why }) => why.facts.reason === 'doubtful'));
+    const isLeft = new Set(left.map(({ text }) => text.number));
+    const files = script === null ? game.files : await filesAfter(reader, opened, script);
+    assert.deepEqual(misread(game, files, rows.filter(row => row.new !== '' && !isLeft.has(row.number))), []);
+});
+
+test('a list of tables is read as it is written, with corrections, or refused', async () => {
+    const form = { width: 2, big: false, base: 0, own: false, unit: 1 };
+    const tables = [{ ...form, path: '/A', at: 4, count: 9, distance: 2, texts: '/A', begins: 8 },
+        { ...form, path: '/B', at: 0, count: 1, distance: 12, texts: '/A', begins: 0, width: 4, big: true, base: -0x06004000, unit: 4 },
+        ...[0, 2, -2].map(base => ({ ...form, path: '/C', at: 0, count: 3, distance: 3, texts: '/C', begins: 3, width: 3, own: true, base }))];
+    const text = pointerList(tables);
+    assert.deepEqual(await tablesOfList(readerOf(encoded(text))), tables.map((table, i) => ({ ...table, row: i + 2 })));
+    const csv = 'texts,file,offset,count,distance,width,order,base,unit\n\n/A,/B,0x10,2,4,32,BIG,-16,1\n';
+    assert.deepEqual(await tablesOfList(readerOf(encoded(csv))),
+        [{ row: 3, path: '/B', texts: '/A', at: 16, count: 2, distance: 4, width: 4, big: true, base: -16, own: false, unit: 1, begins: 0 }]);
+    const cell = (column, value) => text.split('\n').map((line, i) => i !== 1 ? line
+        : line.split('\t').map((it, k) => text.split('\n')[0].split('\t')[k] === column ? value : it).join('\t')).join('\n');
+    const wrong = [['width', '8'], ['order', 'middle'], ['base', 'x'], ['base', ''], ['base', 'self2'], ['unit', '3'], ['count', '0'], ['count', '99999999'],
+        ['offset', '-1'], ['distance', '1'], ['begins', 'x']];
+    for (const [column, value] of wrong) {
+        await assert.rejects(tablesOfList(readerOf(encoded(cell(column, value)))), { code: 'pointers/cell', facts: { row: 2, column, cell: value } });
+    }
+    await assert.rejects(tablesOfList(readerOf(encoded('file\toffset\n'))), { code: 'pointers/no-column' });
+    await assert.rejects(tablesOfList(readerOf(encoded(text.split('\n')[0]))), { code: 'pointers/none' });
+    await assert.rejects(tablesOfList({ size: 1 << 25, read: null }), { code: 'pointers/too-large' });
+    const many = `${text.split('\n')[0]}\n${'/A\t0\t262144\t2\t16\tlittle\t0\t1\t/A\t0\n'.repeat(2)}`;
+    await assert.rejects(tablesOfList(readerOf(encoded(many))), { code: 'pointers/too-many' });
+});
+
+test('tables that do not belong to the disc are refused, and so are lists without new texts; Cancel ends the work', async () => {
+    const { opened, rows, pointers } = await prepared(gameNamed('16 bits from the file'));
+    const [head, line] = pointers.split('\n');
+    const [, at, count, ...more] = line.split('\t');
+    const withLine = cells => [head, line, cells.join('\t')].join('\n');
+    const refused = [[withLine(['/NONE', at, count, ...more]), 'pointers/no-file'], [withLine(['/TEXT.BIN', 9e6, 1, ...more]), 'pointers/after-file'],
+        [withLine(['/TEXT.BIN', Number(at) + 1, 1, ...more]), 'pointers/over'], [`${head}\n${line}\n${line}`, 'pointers/over']];
+    for (const [text, code] of refused) await assert.rejects(moved(opened, rows, text), { code });
+    await assert.rejects(moved(opened, rows.map(row => ({ ...row, new: '' })), pointers), { code: 'list/no-new-text' });
+    const stopped = { signal: { aborted: true } };
+    const spans = new ListedSpans();
+    await assert.rejects(findPointers(opened, spans, stopped), { code: 'cancelled' });
+});

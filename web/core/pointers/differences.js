@@ -1,6 +1,9 @@
 // An index of the distances between neighbouring texts. Three in a row hardly occur by chance, so numbers with the same differences are
 // pointers, whatever place they count from.
 
+import { isTurnDue, letOthersIn } from '../turns.js';
+
+/** @typedef {import('../turns.js').Signal} Signal */
 /** @typedef {import('./starts.js').TextStarts} TextStarts */
 /** @typedef {{ texts: TextStarts, text: number, unit: number }} Neighbours four texts in a row, from the index `text` on */
 
@@ -9,8 +12,9 @@ const UNITS = [1, 2, 4];
 /** The most entries that have the same place in the index: texts at equal distances identify nothing. */
 const MOST_ALIKE = 8;
 
-/** The fewest bits of a place in the index, and how many times as many bits as entries the filter has. */
+/** The fewest and the most bits of a place in the filter, and how many places it has for each entry. */
 const LEAST_BITS = 10;
+const MOST_BITS = 24;
 const SPARSE = 16;
 
 /**
@@ -26,25 +30,35 @@ export function mixed(a, b, c) {
 
 /** The distances of the texts of some files. */
 export class Differences {
-    /** @param {TextStarts[]} files */
-    constructor(files) {
-        const most = files.reduce((sum, { count }) => sum + UNITS.length * count, 1);
-        this.shift = 32 - Math.max(Math.ceil(Math.log2(most * SPARSE)), LEAST_BITS);
+    /** @param {number} count how many texts the files have */
+    constructor(count) {
+        const bits = Math.ceil(Math.log2(UNITS.length * Math.max(count, 1) * SPARSE));
+        this.shift = 32 - Math.min(Math.max(bits, LEAST_BITS), MOST_BITS);
         /** Whether any entry has a hash that begins with these bits. */
         this.filter = new Uint8Array(2 ** (32 - this.shift));
         /** @type {Map<number, Neighbours[]>} */
         this.entries = new Map();
-        for (const texts of files) for (const unit of UNITS) this.addAll(texts, unit);
+    }
+
+    /**
+     * Adds the texts of a file. Other tasks get turns in between.
+     * @param {TextStarts} texts
+     * @param {Signal} [signal]
+     */
+    async add(texts, signal) {
+        for (const unit of UNITS) await this.addByUnit(texts, unit, signal);
     }
 
     /**
      * @param {TextStarts} texts
      * @param {number} unit
+     * @param {Signal} [signal]
      */
-    addAll(texts, unit) {
+    async addByUnit(texts, unit, signal) {
         const { firsts } = texts;
         if (firsts.some(it => (it - firsts[0]) % unit !== 0)) return;
         for (let i = 0; i + 3 < firsts.length; i++) {
+            if (isTurnDue()) await letOthersIn(signal);
             const [a, b, c] = differencesFrom(firsts, i, unit);
             if (a === b && b === c) continue;
             const hash = mixed(a, b, c);

@@ -140,7 +140,8 @@ function partsOf(hits, width) {
  * @returns {Promise<PointerTable[]>}
  */
 export async function findPointerTables(texts, searched, signal) {
-    const differences = new Differences(texts);
+    const differences = new Differences(texts.reduce((sum, { count }) => sum + count, 0));
+    for (const file of texts) await differences.add(file, signal);
     /** @type {PointerTable[]} */
     const found = [];
     for await (const file of searched) {

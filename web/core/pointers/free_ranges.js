@@ -5,8 +5,9 @@
 /** Ranges of this many bytes or more are in one list. */
 const LARGE = 1 << 12;
 
-/** How many ranges of one size are tried for a text that has to be aligned. */
+/** How many ranges of one size are tried for a text, which may have to be aligned; and how many of the large ones. */
 const MOST_TRIED = 8;
+const MOST_LARGE_TRIED = 256;
 
 /** The free ranges of a file. */
 export class FreeRanges {
@@ -28,8 +29,10 @@ export class FreeRanges {
      * @param {(span: Span) => number} placeIn returns its place in a range, or -1
      */
     use(size, placeIn) {
-        for (const list of this.lists.slice(Math.min(size, LARGE))) {
-            for (let i = list.length - 1; i >= 0 && (list.length - i <= MOST_TRIED || list === this.lists[LARGE]); i--) {
+        for (let length = Math.min(size, LARGE); length <= LARGE; length++) {
+            const list = this.lists[length];
+            const least = Math.max(list.length - (length === LARGE ? MOST_LARGE_TRIED : MOST_TRIED), 0);
+            for (let i = list.length - 1; i >= least; i--) {
                 const place = placeIn(list[i]);
                 if (place < 0) continue;
                 const [{ first, after }] = list.splice(i, 1);

@@ -21,7 +21,7 @@ const BASE = /^(self)?(?:([+-]?)(0x[0-9a-f]{1,12}|\d{1,15}))?$/i;
 
 /** The most bytes of the list, and the most pointers of all its tables. */
 const MOST_BYTES = 1 << 24;
-const MOST_POINTERS = 1 << 22;
+const MOST_POINTERS = 1 << 18;
 
 /**
  * A base in the notation of the list.

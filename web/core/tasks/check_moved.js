@@ -22,6 +22,9 @@ import { validScript } from './script_for.js';
  * @typedef {{ files: { files: PointedFile[] }, layouts: FileLayout[], inPlace: ({ file: PointedFile } & Span)[] }} Planned
  */
 
+/** How many bytes are compared before other tasks get a turn. */
+const COMPARED_AT_ONCE = 1 << 16;
+
 /**
  * The bytes of files on the patched disc, as its own directories name them.
  * @param {Calls} calls
@@ -104,9 +107,11 @@ export async function checkMoved(calls, opened, script, planned, signal) {
     const expected = expectedOf(planned);
     for (const [file, { free, places }] of expected) {
         const bytes = /** @type {Uint8Array} */ (patched.get(file));
-        for (let at = 0; at < Math.max(bytes.length, file.size); at++) {
+        const size = Math.max(bytes.length, file.size);
+        for (let from = 0; from < size; from += COMPARED_AT_ONCE) {
             if (isTurnDue()) await letOthersIn(signal);
-            if (free[at] !== 1) assertRight(bytes[at] === file.bytes[at], file, at);
+            const end = Math.min(from + COMPARED_AT_ONCE, size);
+            for (let at = from; at < end; at++) if (free[at] !== 1) assertRight(bytes[at] === file.bytes[at], file, at);
         }
         for (const { table, file: holder, at, target } of file.leading) {
             if (isTurnDue()) await letOthersIn(signal);

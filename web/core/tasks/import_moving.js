@@ -116,19 +116,31 @@ class MovingRows {
     }
 
     /**
+     * Where rows without a new text are in each file.
+     * @param {ListRow[]} others
+     */
+    placesOfOthers(others) {
+        /** @type {Map<PointedFile, number[]>} */
+        const places = new Map(this.files.files.map(file => [file, []]));
+        for (const row of others) {
+            const spot = row.block < 0 ? null : this.files.spotOf(row);
+            if (spot !== null) places.get(spot.file)?.push(spot.at);
+        }
+        return places;
+    }
+
+    /**
      * Lays out the texts of a file if some do not fit in place.
      * @param {PointedFile} file
-     * @param {ListRow[]} others rows without a new text
+     * @param {number[]} firsts the places of rows without a new text
      */
-    async layOutFile(file, others) {
+    async layOutFile(file, firsts) {
         const rows = await sortedInTurns(this.rows.get(file) || [], ({ at }) => at, this.watch.signal);
         const place = await this.place(false);
         if (rows.every(({ fresh, room }) => fresh.length <= room)) {
             for (const text of rows) await this.fitInPlace(place, text, why => why);
             return;
         }
-        const spots = others.map(row => this.files.spotOf(row));
-        const firsts = spots.flatMap(spot => spot !== null && spot.file === file ? [spot.at] : []);
         const texts = new MovedTexts(file, rows, { firsts, isKept: this.options.isKept });
         await texts.sort(this.watch.signal);
         for (const { text, reason } of texts.staying) {
@@ -213,7 +225,7 @@ export async function importMoving(engine, opened, options, watch = {}) {
     const moving = new MovingRows(engine, opened, files, options, watch);
     const fitted = await fittedLists(lists, await moving.place(true), { encodings, isAsked, isAlso: () => true }, watch);
     if (fitted.count === 0 && fitted.fuzzy === 0) throw new Fault('list/no-new-text', {});
-    for (const file of files.files) await moving.layOutFile(file, fitted.others);
+    for (const [file, firsts] of moving.placesOfOthers(fitted.others)) await moving.layOutFile(file, firsts);
     await moving.write();
     const left = [...fitted.left, ...moving.left];
     const { image } = await opened.contents();

@@ -175,6 +175,9 @@ function limitsOf(pointers, first) {
 const LENGTH_WIDTHS = [1, 2, 4];
 const MOST_MORE = 2;
 
+/** How far from a pointer its length may be, in bytes. */
+const MOST_BESIDE = 32;
+
 /** Tables that have the length of each text beside its pointer, or before the text. Such a text cannot have a new length. */
 class LengthTables {
     /**
@@ -203,7 +206,8 @@ class LengthTables {
         const { distance, width: own } = table;
         for (const width of LENGTH_WIDTHS) {
             this.addIfEqual(counts.equal, this.bytes, target - width, width, `text ${width}`, size);
-            for (let shift = own - distance; shift + width <= distance; shift++) {
+            const near = Math.min(distance, MOST_BESIDE);
+            for (let shift = own - near; shift + width <= near; shift++) {
                 const isBeside = shift + width <= 0 || shift >= own;
                 if (isBeside) this.addIfEqual(counts.equal, bytes, at + shift, width, `pointer ${shift} ${width}`, size);
             }

@@ -18,6 +18,9 @@ import { extentKey, pushSize, recordsByKey } from './replace_file.js';
 /** Differing bytes with at most this many equal ones between them are replaced together. */
 const JOINED = 8;
 
+/** How many bytes are compared before other tasks get a turn. */
+const COMPARED_AT_ONCE = 1 << 16;
+
 /** The byte that fills ranges that no text has any more. */
 const FILLER = 0x00;
 
@@ -64,15 +67,20 @@ export class FreshFiles {
  * The ranges of bytes that differ. Those that are close together are joined.
  * @param {Uint8Array} old
  * @param {Uint8Array} fresh as many bytes
+ * @param {Signal} [signal]
  */
-function differingSpans(old, fresh) {
+async function differingSpans(old, fresh, signal) {
     /** @type {import('../pointers/forms.js').Span[]} */
     const spans = [];
-    for (let at = 0; at < old.length; at++) {
-        if (old[at] === fresh[at]) continue;
-        const last = spans[spans.length - 1];
-        if (last !== undefined && at - last.after <= JOINED) last.after = at + 1;
-        else spans.push({ first: at, after: at + 1 });
+    for (let from = 0; from < old.length; from += COMPARED_AT_ONCE) {
+        if (isTurnDue()) await letOthersIn(signal);
+        const end = Math.min(from + COMPARED_AT_ONCE, old.length);
+        for (let at = from; at < end; at++) {
+            if (old[at] === fresh[at]) continue;
+            const last = spans[spans.length - 1];
+            if (last !== undefined && at - last.after <= JOINED) last.after = at + 1;
+            else spans.push({ first: at, after: at + 1 });
+        }
     }
     return spans;
 }
@@ -88,7 +96,7 @@ function differingSpans(old, fresh) {
  */
 export async function pushFreshFiles(calls, image, names, { files }, parts, signal) {
     for (const [{ file, bytes: old, size, placeOf }, fresh] of files) {
-        for (const { first, after } of differingSpans(old, fresh.bytes)) {
+        for (const { first, after } of await differingSpans(old, fresh.bytes, signal)) {
             await letOthersIn(signal);
             parts.push(await replaceBytes(calls, image, placeOf(first), old.subarray(first, after), fresh.bytes.subarray(first, after), true));
         }
