@@ -1,13 +1,18 @@
 // Texts that are longer than their room: tables of pointers are found, texts move, and the game reads them at their new places.
 
 import assert from 'node:assert/strict';
+import { existsSync, readFileSync, readdirSync } from 'node:fs';
+import { join } from 'node:path';
 import { test } from 'node:test';
-import { calls, core, decoded, encoded, joinedPieces, readerOf } from './common.mjs';
+import { calls, core, decoded, diceOf, encoded, joinedPieces, readerOf } from './common.mjs';
+import { linesOf, number } from './made_games.mjs';
 import { localPool } from './pools.mjs';
 import { discOf, pointedGames } from './pointed_games.mjs';
 
 const { ListedSpans, exportTable, findPointers, importMoving, applyInMemory } = await core('tasks/index.js');
-const { layOut, pointerList, tablesOfList, placesOf } = await core('pointers/index.js');
+const { TextStarts, findPointerTables, pointerList, tablesOfList, placesOf } = await core('pointers/index.js');
+const { checkMoved } = await core('tasks/check_moved.js');
+const { openPointedFiles } = await core('tasks/pointed_file.js');
 const { Table, unitsOfCell } = await core('texts/index.js');
 const { readScript } = await core('script/index.js');
 const { filesOf, readerOfFile, wholeFile } = await core('iso/index.js');
@@ -268,4 +273,100 @@ test('tables that do not belong to the disc are refused, and so are lists withou
     const stopped = { signal: { aborted: true } };
     const spans = new ListedSpans();
     await assert.rejects(findPointers(opened, spans, stopped), { code: 'cancelled' });
+});
+
+test('a script that is not as it was planned is refused before it is written', async () => {
+    const game = gameNamed('16 bits from the texts');
+    const { reader, opened, rows, pointers } = await prepared(game);
+    const made = await moved(opened, rows, pointers);
+    const files = await openPointedFiles(opened, await tablesOfList(readerOf(encoded(pointers))));
+    const [file] = files.files;
+    const now = (await filesAfter(reader, opened, made.script))[game.file];
+    const movable = made.moved.map(({ facts: { from, to } }) => ({ first: from, after: from + 2, bytes: now.subarray(to, now.indexOf(0, to) + 1), pointers: file.leadingTo(from, from + 1) }));
+    const places = made.moved.map(({ facts: { to } }) => to);
+    const planned = (texts, places_, free) => ({
+        files, inPlace: free.map(([first, after]) => ({ file, first, after })),
+        layouts: [{ file, texts: { movable: texts }, layout: { places: new Map(texts.map((it, i) => [it, places_[i]])), left: [], end: 0, missing: 0 } }],
+    });
+    const check = plan => checkMoved(calls, opened, made.script, plan);
+    const all = [[0, file.size]];
+    await check(planned(movable, places, all));
+    const wrong = {
+        'a text is elsewhere': planned(movable, places.with(0, places[0] + 1), all), 'a pointer moved that no text has': planned(movable.slice(1), places.slice(1), all),
+        'a text is different': planned(movable.map((it, i) => i === 0 ? { ...it, bytes: Uint8Array.from(it.bytes, byte => byte ^ 1) } : it), places, all),
+        'a byte elsewhere differs': planned(movable, places, []),
+    };
+    for (const [name, plan] of Object.entries(wrong)) await assert.rejects(check(plan), { code: 'pointers/unproved' }, name);
+});
+
+test('a text with fewer pointers than both its neighbours is named', async () => {
+    const game = gameNamed('two tables');
+    const { opened, rows, pointers } = await prepared(game);
+    const [head, line] = pointers.split('\n');
+    const [path, at, , ...more] = line.split('\t');
+    const last = game.pointers.length / 2;
+    // A person has a table of all first pointers, and of all second ones but one in the middle.
+    const middle = last + Math.floor(last / 2);
+    const parts = [[0, last], [last, middle - last], [middle + 1, 2 * last - middle - 1]];
+    const list = [head, ...parts.map(([first, count]) => [path, Number(at) + 2 * first, count, ...more].join('\t'))].join('\n');
+    const { few, left } = await moved(opened, rows.map(row => ({ ...row, new: row.new && `${row.new} and more of it` })), list);
+    const named = [...few.map(({ facts }) => [facts.pointers, facts.beside]), ...left.map(({ why }) => why.facts.reason)];
+    assert.ok(named.some(it => it === 'doubtful' || it[0] === 1 && it[1] === 2), JSON.stringify(named));
+});
+
+test('other tasks get turns within a tenth of a second while a large file is searched, and Cancel ends it', async () => {
+    const dice = diceOf(3);
+    const bytes = Uint8Array.from({ length: 1 << 19 }, () => dice(256));
+    const texts = Array.from({ length: 2000 }, (_, i) => ({ first: 100 * i + dice(50), after: 100 * i + 60 }));
+    const starts = new TextStarts('/A', bytes, texts);
+    const signal = { aborted: false };
+    const [gaps, begun] = [[], performance.now()];
+    let last = begun;
+    const timer = setInterval(() => {
+        gaps.push(performance.now() - last);
+        last = performance.now();
+        signal.aborted = gaps.length === 3;
+    }, 1);
+    await assert.rejects(findPointerTables([starts], (async function* () { yield { path: '/A', bytes, own: starts }; })(), signal), { code: 'cancelled' });
+    clearInterval(timer);
+    assert.ok(gaps.length >= 3);
+});
+
+/** The MO files of this machine, or made ones. */
+function moFiles() {
+    const folder = '/usr/share/locale/ja/LC_MESSAGES';
+    const found = existsSync(folder) ? readdirSync(folder).filter(name => name.endsWith('.mo')).map(name => readFileSync(join(folder, name))) : [];
+    const usable = found.filter(({ length }) => length > 2000 && length < 60000);
+    return usable.length > 0 ? usable.slice(0, process.env.GATE ? 20 : 2) : [madeMo(7), madeMo(8)];
+}
+
+/** An MO file as msgfmt writes it, with Japanese texts in UTF-8. */
+function madeMo(seed) {
+    const news = linesOf(diceOf(seed), 60).map(line => Buffer.from(line));
+    const olds = news.map((_, i) => Buffer.from(`message ${String(i).padStart(3, '0')}`));
+    const count = news.length;
+    let at = 28 + 16 * count;
+    const table = all => Buffer.concat(all.map(text => {
+        const entry = Buffer.concat([number(4, text.length), number(4, at)]);
+        at += text.length + 1;
+        return entry;
+    }));
+    const head = [0x950412DE, 0, count, 28, 28 + 8 * count, 0, 28 + 16 * count].map(it => number(4, it));
+    return Buffer.concat([...head, table(olds), table(news), ...[...olds, ...news].flatMap(text => [text, Buffer.of(0)])]);
+}
+
+test('the tables of MO files are found, and their texts stay, because the lengths are beside the pointers', async () => {
+    for (const bytes of moFiles()) {
+        const { opened } = await discOf({ 'A.MO': bytes });
+        const { rows, pointers, count } = await listed(opened);
+        const places = count === 0 ? [] : (await tablesOfList(readerOf(encoded(pointers)))).flatMap(placesOf);
+        const [all, first] = [bytes.readUInt32LE(8), bytes.readUInt32LE(16)];
+        const [own, other] = [first, bytes.readUInt32LE(12)].map(from => Array.from({ length: all }, (_, i) => from + 8 * i + 4));
+        const named = own.filter(at => rows.some(row => row.at === bytes.readUInt32LE(at)));
+        const found = named.filter(at => places.includes(at));
+        assert.ok(found.length >= 0.9 * named.length, `${found.length} of ${named.length}`);
+        assert.deepEqual(places.filter(at => !own.includes(at) && !other.includes(at)), []);
+        const made = await moved(opened, rows.map(row => ({ ...row, new: row.text.length > 3 && own.includes(row.at) === false && row.encoding === 'UTF-8' ? `${row.text}!` : '' })), pointers);
+        assert.deepEqual([made.moved.length, made.left.every(({ why }) => why.code.startsWith('pointers/'))], [0, true]);
+    }
 });

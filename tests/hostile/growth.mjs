@@ -21,6 +21,8 @@ const { filesOf } = await core('iso/files.js');
 const { Pool, localWorker } = await core('pool/pool.js');
 const { JOBS } = await core('jobs/jobs.js');
 const { replaceFile } = await core('tasks/replace_file.js');
+const { importMoving, openTrack } = await core('tasks/index.js');
+const { TextStarts, findPointerTables } = await core('pointers/index.js');
 const { readScript } = await core('script/script.js');
 const { codesLeftOut } = await core('texts/codes.js');
 const { encodingOf } = await core('encodings/encodings.js');
@@ -233,6 +235,44 @@ function replacedParts(count) {
     };
 }
 
+/** Finds the pointers of a file of numbers to texts of a few distances. */
+function searched(bytes, texts, numberAt) {
+    const held = new Uint8Array(Math.max(4 * bytes, 16 * texts) + 64);
+    const view = new DataView(held.buffer);
+    for (let i = 0; i < bytes; i++) view.setUint32(4 * i, numberAt(i), true);
+    const spans = Array.from({ length: texts }, (_, i) => ({ first: 16 * i + i % 3, after: 16 * i + 9 }));
+    return () => {
+        const path = '/A';
+        const starts = new TextStarts('/B', held, spans);
+        return findPointerTables([starts], (async function* () { yield { path, bytes: held, own: null }; })());
+    };
+}
+
+/** Imports rows of a file, with tables of one pointer or of many. */
+function movingRows(tables, rows, tableOf_) {
+    const first = 4 * tables;
+    const file = new Uint8Array(first + 8 * rows);
+    for (let i = 0; i < rows; i++) file.set(encoded('AAAA'), first + 8 * i);
+    for (let i = 0; i < tables; i++) new DataView(file.buffer).setUint32(4 * i, first + 8 * (i % rows), true);
+    const sectors = 22 + Math.ceil(file.length / USER);
+    const user = volumeOf(sectors, sector => sector === 18 ? [recordOf('A', 20, file.length, { flags: 0 })] : []);
+    user.set(file, 20 * USER);
+    const reader = readerOfUser(user);
+    const list = listFile('a.tsv', table(times(rows, i => {
+        const at = first + 8 * i;
+        return `${20 + Math.floor(at / USER)}\t${at % USER}\tAAAA\tBBBBB${i}\n`;
+    })));
+    const head = 'file\toffset\tcount\tdistance\twidth\torder\tbase\tunit\ttexts\n';
+    const pointers = listFile('p.tsv', head + tableOf_(tables));
+    return async () => {
+        const opened = openTrack(await openDisc(calls, [{ name: 'game.bin', reader }]));
+        const options = { lists: [list], pointers, encodings: [CP932], isAsked: true, partial: true, isKept: () => false };
+        return importMoving({ calls, pool: new Pool([localWorker(calls, JOBS)]) }, opened, options);
+    };
+}
+
+const pointerRow = (i, count) => `/A\t${4 * i}\t${count}\t4\t32\tlittle\t0\t1\t/A\n`;
+
 const dump = i => `<game name="g${i}"><rom name="a${i}.bin" size="2352" sha1="${'a'.repeat(40)}"/></game>`;
 
 /** @type {Record<string, (size: number) => () => any>} */
@@ -304,6 +344,10 @@ const PAIRS = [
         const script = new ScriptModel(calls, `cdpatch 1\n${times(lines / 2, i => `set ${i % 1000} 0 41 was 00\n`)}`);
         return () => mergedInTurns(script, Array.from({ length: added / 2 }, (_, i) => `set ${i % 1000} 0 42 was 00`), () => true);
     }],
+    [['numbers of a file', 'texts to which they lead'], (numbers, texts) => searched(numbers, texts / 8, i => 16 * i + i % 3)],
+    [['numbers of a pattern', 'texts of the same one'], (numbers, texts) => searched(numbers, texts / 8, i => 16 * (i % 7) + i % 3)],
+    [['tables of pointers', 'rows whose texts move'], (tables, rows) => movingRows(tables / 8, rows / 8, count => times(count, i => pointerRow(i, 1)))],
+    [['pointers of a table', 'rows whose texts move'], (count, rows) => movingRows(count / 8, rows / 8, all => pointerRow(0, all))],
     [['files over one another', 'places in them'], (files, places) => () => {
         const along = new FilesAlong(Array.from({ length: files }, (_, i) => ({ path: `/${i}`, block: 20, size: 1e9, before: 0 })));
         for (let i = 0; i < places; i++) along.with({ block: 20 + i, offset: 0 });

@@ -147,7 +147,8 @@ const ROWS = /** @type {const} */ ({
 /**
  * The value of an option.
  * @template Row
- * @typedef {Row extends { repeated: true, parse: (text: string) => infer Value } ? Value[] : Row extends { repeated: true } ? string[] : Row extends { parse: (text: string) => infer Value } ? Value
+ * @typedef {Row extends { repeated: true, parse: (text: string) => infer Value } ? Value[]
+ *     : Row extends { repeated: true } ? string[] : Row extends { parse: (text: string) => infer Value } ? Value
  *     : Row extends { value: '' } ? boolean : string} ValueOf
  */
 /** @typedef {{ -readonly [Name in OptionName]?: ValueOf<(typeof ROWS)[Name]> }} Options the options that were given */

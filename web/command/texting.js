@@ -14,6 +14,7 @@ import { tableSaid } from './searching.js';
 
 /** @typedef {import('../core/tasks/opened.js').OpenedTrack} OpenedTrack */
 /** @typedef {import('../core/tasks/records.js').RecordOptions} RecordOptions */
+/** @typedef {import('../core/texts/all_texts.js').ListedText} ListedText */
 /** @typedef {import('./job.js').Job} Job */
 /** @typedef {import('./job.js').Target} Target */
 
@@ -164,7 +165,7 @@ export async function textsJob(job) {
     const how = { form: po ? 'po' : cells, end, freshOf: news && (it => news.of(it)) };
     const ends = endsOfFiles(job);
     const listed = new ListedSpans();
-    const seen = forPointers === null ? undefined : (/** @type {import('../core/texts/all_texts.js').ListedText[]} */ some) => listed.add(some);
+    const seen = forPointers === null ? undefined : (/** @type {ListedText[]} */ some) => listed.add(some);
     const exported = { encoding, table, lines, least, paths, ended: ends.add, seen, ...how };
     const texts = every === undefined ? await writeTable(target, exportTable(engine, opened, exported)) :
         await writeRecords(job, target, opened, { ...how, encoding: own });

@@ -38,8 +38,10 @@ function baseText({ base, own }) {
  * @param {PointerTable[]} tables
  */
 export function pointerList(tables) {
-    const rows = tables.map(it => [visible(it.path), it.at, it.count, it.distance, 8 * it.width, ORDERS[Number(it.big)], baseText(it), it.unit,
-        visible(it.texts), it.begins]);
+    const rows = tables.map(it => {
+        const form = [8 * it.width, ORDERS[Number(it.big)], baseText(it), it.unit];
+        return [visible(it.path), it.at, it.count, it.distance, ...form, visible(it.texts), it.begins];
+    });
     return [COLUMNS, ...rows].map(cells => rowText(cells, '\t')).join('');
 }
 
@@ -102,9 +104,10 @@ class Cells {
 
     base() {
         const found = BASE.exec(this.cell('base'));
-        const [, self, sign, digits] = found || [];
-        if (self === undefined && digits === undefined || self !== undefined && digits !== undefined && sign === '') throw this.fault('base');
-        return { own: self !== undefined, base: (sign === '-' ? -1 : 1) * Number(digits || 0) };
+        const [, self = '', sign = '', digits = ''] = found || [];
+        const isRunTogether = self !== '' && digits !== '' && sign === '';
+        if (found === null || `${self}${digits}` === '' || isRunTogether) throw this.fault('base');
+        return { own: self !== '', base: (sign === '-' ? -1 : 1) * Number(digits) };
     }
 
     /** @returns {ListedTable} */

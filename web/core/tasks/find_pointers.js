@@ -18,7 +18,7 @@ import { letOthersIn } from '../turns.js';
 /** The fewest texts of a file to which pointers are searched. */
 const LEAST_TEXTS = 4;
 
-/** The largest file with texts, and the largest other file, in which pointers are searched: the other ones are mostly sound and pictures. */
+/** The largest file with texts, and the largest other file, in which pointers are searched: larger ones are mostly sound and pictures. */
 const MOST_BYTES = 1 << 25;
 const MOST_BYTES_WITHOUT_TEXTS = 1 << 20;
 
@@ -43,7 +43,7 @@ export class ListedSpans {
 }
 
 /**
- * The files of a track by their paths as they are listed, without those whose bytes cannot be read as a whole, and those that have one path.
+ * The files of a track by their paths as they are listed, without those that cannot be read as a whole, and those that share such a path.
  * @param {FileEntry[]} entries
  */
 export function filesByPath(entries) {

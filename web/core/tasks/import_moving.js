@@ -184,11 +184,16 @@ class MovingRows {
             this.report(file, texts.movable, layout.places);
         }
         if (volume === null) return;
+        this.reportSharing(volume);
+        await pushFreshFiles(this.engine.calls, part, volume, this.fresh, this.parts, signal);
+    }
+
+    /** @param {import('./replace_file.js').VolumeNames} names */
+    reportSharing(names) {
         for (const [{ file, size }, fresh] of this.fresh.files) {
-            const sharing = sharingWith(file, volume, fresh.size === size);
+            const sharing = sharingWith(file, names, fresh.size === size);
             this.remarks.sharing.push(...sharing.map(other => remark('replace/shared-blocks', { path: file.path, other })));
         }
-        await pushFreshFiles(this.engine.calls, part, volume, this.fresh, this.parts, signal);
     }
 
     /**

@@ -128,8 +128,8 @@ export class MovedTexts {
     }
 
     /**
-     * The place of the first code before a text to which a pointer leads, or the place of the text. No byte that ends texts is between: then
-     * a different text, which has no row, would begin there.
+     * The place of the first code before a text to which a pointer leads, or the place of the text. No byte that ends texts is between
+     * them, because a different text, which has no row, begins after it.
      * @param {number} at
      * @param {number} low
      * @param {Uint8Array} mark

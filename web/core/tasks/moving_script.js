@@ -95,10 +95,11 @@ async function differingSpans(old, fresh, signal) {
  * @param {Signal} [signal]
  */
 export async function pushFreshFiles(calls, image, names, { files }, parts, signal) {
-    for (const [{ file, bytes: old, size, placeOf }, fresh] of files) {
-        for (const { first, after } of await differingSpans(old, fresh.bytes, signal)) {
+    for (const [{ file, bytes, size, placeOf }, fresh] of files) {
+        for (const { first, after } of await differingSpans(bytes, fresh.bytes, signal)) {
             await letOthersIn(signal);
-            parts.push(await replaceBytes(calls, image, placeOf(first), old.subarray(first, after), fresh.bytes.subarray(first, after), true));
+            const [old, own] = [bytes, fresh.bytes].map(it => it.subarray(first, after));
+            parts.push(await replaceBytes(calls, image, placeOf(first), old, own, true));
         }
         if (fresh.size === size) continue;
         const last = file.extents[file.extents.length - 1];
