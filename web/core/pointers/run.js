@@ -119,6 +119,18 @@ function withoutZeros({ bytes }, form, hits) {
 }
 
 /**
+ * The pointers of a table without an order, without the first and the last one if they have few bits: a number beside the table may lead
+ * to a text by chance. The first one is sure if the pointers count from it.
+ * @param {Hit[]} hits
+ * @param {PointerForm} form
+ */
+function withoutEnds(hits, { width, base, own }) {
+    if (width > 2 || !areMixed(hits)) return hits;
+    const first = own ? -1 : hits.findIndex(({ at }) => at === base);
+    return hits.slice(first < 0 ? 1 : first, -1);
+}
+
+/**
  * The pointers without the unlikely ones at both ends.
  * @param {Hit[]} hits
  * @param {number} width
@@ -157,6 +169,6 @@ export function runAround(file, form, texts, at, distance) {
     const all = [...before.hits.reverse(), ...known === null ? [] : [known], ...after.hits];
     const out = file.own === texts ? leadingOut(all, form.width) : all;
     const afterZeros = withoutZeros(file, form, out);
-    const hits = trimmed(withoutZeros(file, form, afterZeros.reverse()).reverse(), form.width);
+    const hits = withoutEnds(trimmed(withoutZeros(file, form, afterZeros.reverse()).reverse(), form.width), form);
     return { form, distance, texts, hits, steps: before.steps + after.steps + 1 };
 }
