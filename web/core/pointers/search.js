@@ -114,7 +114,7 @@ class Search {
      */
     addRuns(numbers, form, distance, own, at) {
         const { file } = this;
-        if (file.own !== null && file.own.firstAround(at) >= 0) return;
+        if (this.steps < 0 || file.own !== null && file.own.firstAround(at) >= 0) return;
         const three = [0, 1, 2].map(i => numbers[at + (i + 1) * distance] - numbers[at + i * distance] + (own ? distance : 0));
         for (const { texts, text, unit } of this.differences.having(three)) {
             if (own && (unit > 1 || texts !== file.own)) continue;
@@ -133,6 +133,7 @@ class Search {
     addRun(form, texts, at, distance) {
         const { width, big, base, own, unit } = form;
         const key = [texts.path, width, big, base, own, unit, distance, at % distance].join();
+        this.steps -= 1;
         if ((this.ends.get(key) ?? -1) >= at || this.steps < 0) return;
         const run = runAround(this.file, form, texts, at, distance);
         this.steps -= run.steps;

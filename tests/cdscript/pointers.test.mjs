@@ -1,0 +1,97 @@
+// A whole translation whose texts are longer than their room: `texts --pointers` and `replace --pointers`.
+
+import assert from 'node:assert/strict';
+import { test } from 'node:test';
+import { mkdirSync, writeFileSync } from 'node:fs';
+import { join } from 'node:path';
+import { encoded } from './discs.mjs';
+import { inDirectory, read, run, sameFile, tool, write } from './common.mjs';
+
+const FILES = 10;
+const TEXTS = 30;
+const PEOPLE = ['勇者', '村人', '王様', '魔王', '盗賊', '戦士', '老人', '商人', '兵士', '神父さま'];
+const PLACES = ['北の塔', '東の洞窟', '城の地下', '海の向こう', '森の奥', '西の港町'];
+
+/** An event file: 16-bit pointers from the beginning of the file, and texts that end with 00. */
+function eventFile(file) {
+    const texts = Array.from({ length: TEXTS }, (_, i) => `${PEOPLE[(file + i) % 10]}は${PLACES[(file * i + i) % 6]}で${file * TEXTS + i}番目の薬草を手に入れた`);
+    const bytes = texts.map(text => Buffer.concat([encoded(text, 'CP932'), Buffer.of(0)]));
+    const head = Buffer.alloc(2 + 2 * TEXTS);
+    let at = head.length;
+    head.writeUInt16LE(TEXTS, 0);
+    bytes.forEach((it, i) => {
+        head.writeUInt16LE(at, 2 + 2 * i);
+        at += it.length;
+    });
+    return Buffer.concat([head, ...bytes]);
+}
+
+/** The texts of an event file as its game reads them. */
+const textsIn = bytes => Array.from({ length: bytes.readUInt16LE(0) }, (_, i) => {
+    const at = bytes.readUInt16LE(2 + 2 * i);
+    return bytes.subarray(at, bytes.indexOf(0, at)).toString('latin1').trimEnd();
+});
+
+/** The English text of a row. */
+const english = (text, i) => `The hero found herb number ${/\d+/.exec(text)[0]}${i % 3 === 0 ? ', and took it home to the castle' : ''}.`;
+
+/** A directory with the disc and the lists of its texts and pointers; null if genisoimage or iconv is not installed. */
+async function madeDisc(room) {
+    if (tool('genisoimage', ['--version']) === null || encoded('', 'CP932') === null) return null;
+    for (let i = 0; i < FILES; i++) {
+        mkdirSync(join(room, 'tree'), { recursive: true });
+        writeFileSync(join(room, 'tree', `EVENT${i}.DAT`), eventFile(i));
+    }
+    tool('genisoimage', ['-quiet', '-R', '-J', '-o', 'disc.iso', 'tree'], { cwd: room });
+    await run(['raw', 'disc.iso', 'disc.bin'], { cwd: room });
+    return run(['texts', 'disc.bin', '-o', 'texts.tsv', '--pointers', 'pointers.tsv'], { cwd: room });
+}
+
+test('a translation of 300 texts that are longer than their room is on the patched disc, and undo takes it back', async context => inDirectory(async room => {
+    const listed = await madeDisc(room);
+    if (listed === null) return context.skip("Debian's packages genisoimage and libc-bin are needed");
+    assert.deepEqual([listed.status, listed.errors], [0, `cdscript: texts ${FILES * TEXTS}\ncdscript: tables of pointers ${FILES}\n`]);
+    const lines = read(room, 'texts.tsv').toString().split('\n').slice(0, -1);
+    const rows = lines.map((line, i) => i === 0 ? line : line + english(line.split('\t')[6], i));
+    write(room, { 'new.tsv': `${rows.join('\n')}\n` });
+    const short = await run(['replace', 'disc.bin', '--list', 'new.tsv', '-o', 'short'], { cwd: room });
+    assert.equal(short.status, 2);
+    const made = await run(['replace', 'disc.bin', '--list', 'new.tsv', '--pointers', 'pointers.tsv', '-o', 'story'], { cwd: room });
+    assert.equal(made.status, 0, made.errors);
+    assert.match(made.errors, /^cdscript: row \d+: moved in \/EVENT0\.DAT from \d+ to \d+; pointers 1$/m);
+    assert.match(made.errors, /^cdscript: texts moved \d{3}$/m);
+    assert.equal((await run(['apply', 'disc.bin', 'story', 'story.bin'], { cwd: room })).status, 0);
+    const due = new Map(rows.slice(1).map(row => [row.split('\t')[5], row.split('\t')[7]]));
+    for (let i = 0; i < FILES; i++) {
+        assert.equal((await run(['extract', 'story.bin', `/EVENT${i}.DAT`, `${i}`], { cwd: room })).status, 0);
+        const old = eventFile(i);
+        const wanted = Array.from({ length: TEXTS }, (_, k) => due.get(`/EVENT${i}.DAT+${old.readUInt16LE(2 + 2 * k)}`));
+        assert.deepEqual(textsIn(read(room, String(i))), wanted);
+    }
+    assert.equal((await run(['undo', 'disc.bin', 'story', '-o', 'back'], { cwd: room })).status, 0);
+    assert.equal((await run(['apply', 'story.bin', 'back', 'back.bin'], { cwd: room })).status, 0);
+    sameFile(read(room, 'back.bin'), read(room, 'disc.bin'), 'the disc after undo');
+}));
+
+test('--keep leaves rows in place, tables that cannot be read are messages, and options need one another', async context => inDirectory(async room => {
+    const listed = await madeDisc(room);
+    if (listed === null) return context.skip("Debian's packages genisoimage and libc-bin are needed");
+    const lines = read(room, 'texts.tsv').toString().split('\n').slice(0, -1);
+    const rows = lines.map((line, i) => i === 0 ? line : line + english(line.split('\t')[6], i));
+    write(room, { 'new.tsv': `${rows.join('\n')}\n`, 'wrong.tsv': read(room, 'pointers.tsv').toString().replace('\tlittle\t', '\tmiddle\t') });
+    const words = ['replace', 'disc.bin', '--list', 'new.tsv', '-o'];
+    const kept = await run([...words, 'kept', '--pointers', 'pointers.tsv', '--keep', '4', '--keep', '7', '--partial'], { cwd: room });
+    assert.equal(kept.status, 1, kept.errors);
+    assert.match(kept.errors, /^cdscript: row 4: the new text has \d+ bytes in CP932, .* It cannot move: it is to stay in place$/m);
+    assert.equal(/row (4|7): moved/.test(kept.errors), false);
+    const wrong = await run([...words, 'wrong', '--pointers', 'wrong.tsv'], { cwd: room });
+    assert.deepEqual([wrong.status, wrong.errors], [2, "cdscript: row 2 of the list of pointers: order cannot be 'middle'\n"]);
+    assert.equal(read(room, 'wrong'), null);
+    for (const [more, message] of [[['--keep', '4'], '--keep needs --pointers'], [['--keep', 'x'], /--keep/]]) {
+        const { status, errors } = await run([...words, 'none', ...more], { cwd: room });
+        assert.equal(status, 2);
+        assert.match(errors, new RegExp(message));
+    }
+    const again = await run(['texts', 'disc.bin', '-o', 'more.tsv', '--pointers', 'pointers.tsv'], { cwd: room });
+    assert.deepEqual([again.status, again.errors], [2, 'cdscript: cannot create pointers.tsv: it already exists\n']);
+}));
