@@ -24,6 +24,6 @@ export { assertHasRoom, replaceHits } from './replace.js';
 export { filledUp, replaceBytes, replaceRange, sectorsOfRange, untriedLines } from './replace_bytes.js';
 export { patchedExtents, placeOfLength, placesOfFile, replaceFile } from './replace_file.js';
 export { assertBase, validScript } from './script_for.js';
-export { exportTable, importRows, importTable, leftTable, newTextsOf, roomInTrack } from './table.js';
+export { exportTable, exportedPieces, importRows, importTable, leftTable, listTexts, newTextsOf, roomInTrack } from './table.js';
 export { undoScript } from './undo.js';
 export { verdictOf } from './verdict.js';

@@ -23,11 +23,14 @@ import { fittingScript } from './script_for.js';
 /** @typedef {import('./list_rows.js').ListRow} ListRow */
 /** @typedef {import('./opened.js').OpenedTrack} OpenedTrack */
 /**
- * What is exported: the texts of files or directories (`paths`), or all of them; as a table with tabs, a table with commas and a byte order
- * mark, for spreadsheets, or a PO file; with at least a number of characters; and with the new text that `freshOf` finds, or ''. `ended` is
- * called as by allTexts, and `seen` with the texts.
- * @typedef {TextOptions & { paths?: string[], form?: 'tsv' | 'csv' | 'po', least?: number, freshOf?: FreshOf,
- *     ended?: (path: string, end: number) => void, seen?: (texts: ListedText[]) => void }} ExportOptions
+ * What is listed: the texts of files or directories (`paths`), or all of them; with at least a number of characters. `ended` is called as
+ * by allTexts.
+ * @typedef {TextOptions & { paths?: string[], least?: number, ended?: (path: string, end: number) => void }} ListOptions
+ */
+/**
+ * What is exported: the listed texts, as a table with tabs, a table with commas and a byte order mark, for spreadsheets, or a PO file; with
+ * the new text that `freshOf` finds, or ''. `seen` is called with the texts.
+ * @typedef {ListOptions & { form?: 'tsv' | 'csv' | 'po', freshOf?: FreshOf, seen?: (texts: ListedText[]) => void }} ExportOptions
  */
 /** @typedef {(listed: ListedText) => string | Promise<string>} FreshOf */
 /** @typedef {RowEncodings & { fill?: Filler }} RowOptions */
@@ -99,18 +102,28 @@ export async function newTextsOf(lists, watch = {}) {
 }
 
 /**
+ * Lists the texts of a track. Throws a Fault, `no-file` or `cancelled`.
+ * @param {Pick<Engine, 'pool'>} engine
+ * @param {Pick<OpenedTrack, 'contents'>} opened
+ * @param {ListOptions} listed
+ * @param {Watch} [watch]
+ * @returns {AsyncGenerator<ListedText[]>}
+ */
+export async function* listTexts({ pool }, opened, { paths = [], least, ended, ...options }, watch) {
+    const { part, files } = await opened.contents();
+    yield* allTexts(pool, part, stretchesIn(stretchesOf(part, files), paths), { options, least, ended, ...watch });
+}
+
+/**
  * Exports the texts of a track, in pieces, each with its number of texts. Throws a Fault, `no-file` or `cancelled`.
  * @param {Pick<Engine, 'pool'>} engine
  * @param {Pick<OpenedTrack, 'contents'>} opened
  * @param {ExportOptions} exported
  * @param {Watch} [watch]
- * @returns {AsyncGenerator<{ text: string, count: number }>}
  */
-export async function* exportTable({ pool }, opened, exported, watch) {
-    const { paths = [], form = 'tsv', least, freshOf, ended, seen, ...options } = exported;
-    const { part, files } = await opened.contents();
-    const texts = allTexts(pool, part, stretchesIn(stretchesOf(part, files), paths), { options, least, ended, ...watch });
-    yield* exportedPieces(seen === undefined ? texts : shownTo(seen, texts), { form, freshOf, signal: watch && watch.signal });
+export function exportTable(engine, opened, { form = 'tsv', freshOf, seen, ...listed }, watch = {}) {
+    const listing = listTexts(engine, opened, listed, watch);
+    return exportedPieces(seen === undefined ? listing : shownTo(seen, listing), { form, freshOf, signal: watch.signal });
 }
 
 /**
@@ -128,7 +141,7 @@ async function* shownTo(seen, texts) {
 
 /**
  * Yields listed texts as a table or a PO file, in pieces, each with its number of texts. Other tasks get turns between new texts.
- * @param {AsyncGenerator<ListedText[]>} texts
+ * @param {AsyncIterable<ListedText[]>} texts
  * @param {Pick<ExportOptions, 'form' | 'freshOf'> & Pick<Watch, 'signal'>} options
  * @param {boolean} [areRecords] whether a table has the column of the filler
  */
@@ -141,7 +154,7 @@ export function exportedPieces(texts, { form, freshOf = () => '', signal }, areR
 }
 
 /**
- * @param {AsyncGenerator<ListedText[]>} texts
+ * @param {AsyncIterable<ListedText[]>} texts
  * @param {FreshOf} freshOf
  * @param {boolean} isCsv
  * @param {boolean} areRecords
@@ -163,7 +176,7 @@ async function* tablePieces(texts, freshOf, isCsv, areRecords) {
 
 /**
  * The entries of a PO file come when all texts are known.
- * @param {AsyncGenerator<ListedText[]>} texts
+ * @param {AsyncIterable<ListedText[]>} texts
  * @param {FreshOf} freshOf
  * @param {Watch['signal']} signal
  * @returns {AsyncGenerator<{ text: string, count: number }>}

@@ -100,6 +100,14 @@ function* partsOfCell(encoding, cell) {
 }
 
 /**
+ * The parts of a cell: every second one, from the second on, is a code.
+ * @param {string} cell
+ */
+export function partsWithCodes(cell) {
+    return cell.split(CODE).map((part, i) => i % 2 === 1 ? `{${part}}` : part);
+}
+
+/**
  * The bytes of a cell that is one code, or null.
  * @param {string} cell
  */

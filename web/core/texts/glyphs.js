@@ -7,6 +7,11 @@ const CODE_IN_TEXT = /\{(?:[0-9A-Fa-f]{2})+\}/g;
 /** Characters without a picture: spaces, controls, and marks that belong to the character before them. */
 const WITHOUT_PICTURE = /^[\s\p{C}\p{M}]$/u;
 
+/** @param {string} cell */
+function besideCodes(cell) {
+    return cell.includes('{') ? cell.replace(CODE_IN_TEXT, '') : cell;
+}
+
 /** Collects the characters of old and new texts. */
 export class Glyphs {
     constructor() {
@@ -23,12 +28,25 @@ export class Glyphs {
         const { text, fresh } = row;
         if (Math.max(text.length, fresh.length) > LONGEST_TEXT || (text === this.last.text && fresh === this.last.fresh)) return;
         this.last = { text, fresh };
-        for (const character of text.includes('{') ? text.replace(CODE_IN_TEXT, '') : text) this.old.add(character);
-        for (const character of fresh.includes('{') ? fresh.replace(CODE_IN_TEXT, '') : fresh) this.fresh.add(character);
+        for (const character of besideCodes(text)) this.old.add(character);
+        for (const character of besideCodes(fresh)) this.fresh.add(character);
     }
 
     /** The characters that only new texts have, in the order in which they occur. */
     missing() {
-        return [...this.fresh].filter(character => !this.old.has(character) && !WITHOUT_PICTURE.test(character));
+        return this.newIn(this.fresh);
+    }
+
+    /**
+     * The characters of a new text that no old text has, each once, in the order in which they occur.
+     * @param {string} fresh
+     */
+    missingIn(fresh) {
+        return fresh.length > LONGEST_TEXT ? [] : this.newIn(new Set(besideCodes(fresh)));
+    }
+
+    /** @param {Set<string>} characters of new texts */
+    newIn(characters) {
+        return [...characters].filter(character => !this.old.has(character) && !WITHOUT_PICTURE.test(character));
     }
 }

@@ -3,6 +3,7 @@
 export { unitsAlike } from './alike.js';
 export { shownPlace } from './all_texts.js';
 export { LONGEST_CHARACTER, LOOKED_BACK, bytesInside, charactersFrom } from './boundaries.js';
-export { shownCell } from './codes.js';
+export { partsWithCodes, shownCell } from './codes.js';
 export { FilesAlong, bytesAround, contextOf, contextsOf, filesWith } from './context.js';
+export { Glyphs } from './glyphs.js';
 export { visible } from './visible.js';

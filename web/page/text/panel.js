@@ -54,7 +54,7 @@ class TextPanel {
         this.texts = new TextsTable(app);
         this.results = element('div', { class: 'two even', hidden: true }, element('div', { class: 'side' }, this.hits.card),
             element('div', { class: 'side' }, this.replace.card, this.around.card));
-        panel.append(this.askCard(), this.state, this.texts.left.part, this.results, this.table);
+        panel.append(this.askCard(), this.state, this.texts.left.part, this.results, this.texts.known.card, this.table);
         app.addTaker(tableTaker(app, words => fill(this.state, words)));
         this.listen();
         this.drawHint();

@@ -3,7 +3,7 @@
 import { SEARCHED, withEnd } from '../../core/encodings/views.js';
 import { hexText } from '../../core/hex_digits.js';
 import { linesMade } from '../../core/script/views.js';
-import { exportTable, importTable, patchedTexts } from '../../core/tasks/index.js';
+import { exportTable, exportedPieces, importTable, listTexts, patchedTexts } from '../../core/tasks/index.js';
 import { jobAt } from '../app/index.js';
 import { fileReader } from '../open/index.js';
 import { downloadBytes, patchedWork } from '../save/index.js';
@@ -11,8 +11,10 @@ import * as texts from '../texts/index.js';
 import { format, remarkText, say } from '../texts/index.js';
 import { announce, button, capital, element, failureNotice, fill, nameOf, notice } from '../ui/index.js';
 import { chosenEncoding, tableSource } from './encodings.js';
+import { KnownTexts } from './known_texts.js';
 import { LeftRows, reasonWords } from './left_rows.js';
 import { mergedWords, rowsMerged } from './merged_rows.js';
+import { TextsCard } from './texts_card.js';
 import { isWritten, withdrawnLines } from './withdrawn.js';
 
 /** @typedef {import('../app/jobs.js').Bar} Bar */
@@ -51,8 +53,10 @@ export class TextsTable {
         this.job = element('div', { class: 'stack' });
         this.message = element('div', { role: 'status' });
         this.left = new LeftRows(app, () => this.ended());
+        this.known = new TextsCard(app, { newTextOf: image => this.newTextOf(image), save: (list, form) => this.saveKnown(list, form) });
         this.part = element('div', { class: 'stack tight' }, element('div', { class: 'row texts-table' },
             element('span', { class: 'small quiet' }, texts.textAllTextsAsTable),
+            button('slim', () => void this.list(), texts.textShowAllTexts),
             button('slim', () => void this.save('csv'), texts.textExportTexts),
             button('slim', () => void this.save('po'), texts.textExportPo),
             button('slim', () => this.input.click(), texts.textImportTable),
@@ -99,6 +103,46 @@ export class TextsTable {
     /** The byte that ends texts, if one was entered. */
     endByte() {
         return /^[0-9A-Fa-f]{2}$/.test(this.end.value) ? parseInt(this.end.value, 16) : undefined;
+    }
+
+    /** In which encodings the rows of lists are read: in the game's own table, if one is chosen; else in the chosen and the usual ones. */
+    rowOptions() {
+        const { app } = this;
+        const encoding = chosenEncoding(app);
+        const isAsked = app.tables.has(app.encoding);
+        const encodings = isAsked ? [encoding] : [...new Set([...encoding.hasCharacters ? [encoding] : [], ...SEARCHED])];
+        return { encodings: encodings.map(it => withEnd(it, this.endByte())), isAsked };
+    }
+
+    /** Lists all texts of the disc in the table, with the new texts of the script. */
+    list() {
+        return this.work(texts.textLookingForTexts, '', texts.textNotListed, async (image, bar, signal) => {
+            const found = new KnownTexts();
+            const [options, ends] = [this.rowOptions(), /** @type {Set<string>} */ (new Set())];
+            const ended = (/** @type {string} */ _, /** @type {number} */ byte) => void ends.add(hexText(Uint8Array.of(byte)));
+            const how = { ...this.textOptions(), end: this.endByte(), ended };
+            const watch = { signal, progress: bar.sectors };
+            for await (const some of listTexts(this.app, image.opened, how, watch)) await found.add(some, signal);
+            if (found.all.length === 0) return notice('plain', texts.textNoTextFound, texts.textAnotherEncoding);
+            const newTextOf = await this.newTextOf(image);
+            if (newTextOf !== null) await found.readNews(newTextOf, signal);
+            this.known.take({ image, texts: found, options, ends: [...ends] });
+            return newTextOf === null ? notice('warn', texts.textTableLacksScript) : null;
+        });
+    }
+
+    /**
+     * Saves the texts of the table, with the new texts that were typed.
+     * @param {import('./texts_card.js').List} list
+     * @param {import('./texts_card.js').Form} form
+     */
+    async saveKnown({ image, texts: { listed, news } }, form) {
+        const all = (async function* () { yield listed; })();
+        const pieces = [];
+        for await (const { text } of exportedPieces(all, { form, freshOf: it => news.get(it) || '' })) pieces.push(text);
+        const name = `${image.name.replace(/\.[^.]*$/, '')} (texts).${form}`;
+        downloadBytes(pieces, name);
+        fill(this.message, notice('good', say(texts.discFileSaved, { name: nameOf(name) })));
     }
 
     /**
@@ -171,13 +215,11 @@ export class TextsTable {
     take(file) {
         const { app } = this;
         return this.work(texts.discMakingLines, texts.textMakingOfRows, texts.discNothingAdded, async (image, bar, signal) => {
-            const encoding = chosenEncoding(app);
-            const isAsked = app.tables.has(app.encoding);
-            const encodings = isAsked ? [encoding] : [...new Set([...encoding.hasCharacters ? [encoding] : [], ...SEARCHED])];
-            const options = { encodings: encodings.map(it => withEnd(it, this.endByte())), isAsked, partial: true };
+            const options = this.rowOptions();
             const lists = [{ name: file.name, reader: fileReader(file) }];
             const isAlso = (/** @type {ListRow} */ row) => isWritten(app, row);
-            const made = await importTable(app, image.opened, { ...options, lists, isAlso }, { signal, progress: bar.things });
+            const imported = { ...options, lists, isAlso, partial: true };
+            const made = await importTable(app, image.opened, imported, { signal, progress: bar.things });
             const lines = await rowsMerged(app, image, made.script, signal);
             if (lines === null) return null;
             app.checkAfterChange();

@@ -694,6 +694,35 @@ export const textAddOnlyRow = 'Only this row';
 export const textEqualRowsLeft = '{n} equal row still does not fit:|{n} equal rows still do not fit:';
 export const textAllRowsAdded = 'All translations are in the script now.';
 
+// the table of all texts
+export const textShowAllTexts = 'Show all texts';
+export const textNotListed = 'The texts are not listed.';
+export const textAllTexts = 'All texts';
+export const textFindInTexts = 'Find in the texts';
+export const textWhichShown = 'Which texts are shown';
+export const textKindAll = 'All {n}';
+export const textKindEmpty = 'Empty {n}';
+export const textKindLeft = 'Do not fit {n}';
+export const textKindSigns = 'New characters {n}';
+export const textKindDone = 'Done {n}';
+export const textDoneOfAll = '{done} of {all} done';
+export const textColumnOld = 'Text on the disc';
+export const textColumnRoom = 'Bytes of room';
+export const textTimes = '{n} time|{n} times';
+export const textNewTextFor = 'New text for {text}';
+export const textOfRoom = '{n} of {room}';
+export const textTooMany = '{n} byte too many.|{n} bytes too many.';
+export const textPutsInAll = 'Enter puts it in all {n} places.';
+export const textInSomePlaces = 'In {written} of {n} places.';
+export const textScriptKeeps = 'The script keeps the earlier text.';
+export const textNoneShown = 'No text is shown. Choose All, or find other words.';
+export const textLastTyped = 'the text that was typed last';
+export const textTypedAreLost = 'Typed texts that do not fit are not in the script.';
+export const textSaveTextsAs = 'Save all texts and translations as';
+export const textAsCsv = 'A table for spreadsheets (CSV)';
+export const textAsTsv = 'A table with tabs (TSV)';
+export const textAsPo = 'A PO file for PO editors';
+
 // ---- script: editor and check
 
 // the script's head

@@ -1,0 +1,132 @@
+"""The table of all texts in the panel Text: what is typed in it is in the script at once, and nothing that is typed is lost."""
+
+from pathlib import Path
+
+import common
+import discs
+from keys import Keys
+from pages import PageTest
+from states import SENTENCES, spoken_texts, with_new
+
+# The cells of the drawn rows: the file and places, the old text, the new one, the remark on it, and its room.
+ROWS = '''return [...document.querySelectorAll('.all-texts tbody tr:not(.gap)')].map(({ cells: [file, old, fresh, room] }) =>
+    [file.innerText.replace(/\\s+/g, ' ').trim(), old.innerText.trim(), fresh.querySelector('input').value, fresh.querySelector('p').innerText, room.innerText.trim()])'''
+
+
+class TypedTexts(PageTest):
+    def begin(self, image: bytes) -> Path:
+        """Opens an image, and shows its texts."""
+        path = discs.written(game=image)['game']
+        self.open_image(path)
+        self.browser.click('#tab-text')
+        self.show()
+        return path
+
+    def show(self) -> None:
+        self.press('Show all texts')
+        self.browser.wait('.all-texts tbody input')
+
+    def cells(self) -> list[list[str]]:
+        return list(self.browser.run(ROWS))
+
+    def row(self, number: int) -> list[str]:
+        return self.cells()[number - 1]
+
+    def field(self, number: int) -> str:
+        return f'.all-texts tbody tr[aria-rowindex="{number + 1}"] input'
+
+    def becomes(self, number: int, column: int, text: str) -> None:
+        """Waits until a cell contains a text."""
+        common.waited(lambda: text in self.row(number)[column], f'row {number} does not say {text}')
+
+    def written(self, image: Path, fresh: dict[str, str]) -> str:
+        """The script that cdscript writes for new texts at all places of old ones."""
+        rows = [line.split('\t') for line in common.cdscript_prints('texts', image).splitlines()]
+        table = common.folder('table') / 'mine.tsv'
+        table.write_text(with_new('\n'.join(map('\t'.join, rows)), {number + 1: fresh[row[6]] for number, row in enumerate(rows) if row[6] in fresh}))
+        return common.cdscript_prints('replace', image, '--list', table)
+
+    def same_lines(self, script: str) -> None:
+        """Compares the script of the page with another one whose lines may be in a different order."""
+        self.browser.click('#tab-script')
+        self.assertEqual(sorted(self.script_text().splitlines()), sorted(script.splitlines()))
+
+    def test_each_text_is_listed_once_and_a_typed_one_is_in_the_script_at_all_its_places(self) -> None:
+        image = self.begin(spoken_texts())
+        self.assertEqual([(file, old, room) for file, old, _, _, room in self.cells()],
+                         [('MSG00.DAT 6 times', text, f'0 of {len(text.encode("cp932"))}') for text in SENTENCES])
+        self.browser.click(self.field(1))
+        self.browser.press('The game starts.')
+        self.assertEqual(self.row(1)[3:], ['Enter puts it in all 6 places.', '16 of 34'])
+        self.browser.press(Keys.ENTER)
+        self.wait_for_focus(self.field(2))
+        self.browser.press('Save?', Keys.ARROW_DOWN)
+        self.wait_for_focus(self.field(3))
+        self.browser.wait('#count-script', '12')
+        self.same_lines(self.written(image, {SENTENCES[0]: 'The game starts.', SENTENCES[1]: 'Save?'}))
+
+    def test_a_text_that_does_not_fit_is_counted_kept_and_lost_only_if_the_user_wants_it(self) -> None:
+        self.begin(spoken_texts())
+        self.browser.click(self.field(2))
+        self.browser.press('Save?', Keys.ENTER)
+        self.becomes(2, 4, '5 of 38')
+        self.browser.wait('#panel-text .meter', '1 of 4 done')
+        self.browser.press(Keys.ARROW_UP, 'much too long ' * 4)
+        self.assertEqual(self.row(2)[3:], ['18 bytes too many.', '56 of 38'])
+        self.browser.press(Keys.ENTER)
+        self.browser.wait('#panel-text [aria-pressed]:nth-child(3)', 'Do not fit 1')
+        self.browser.wait('#count-script', '6')
+        self.press('Do not fit')
+        self.assertEqual([cells[1] for cells in self.cells()], [SENTENCES[1]])
+        self.press('Close')
+        self.browser.wait('#sheet', common.text('textTypedAreLost'))
+        self.browser.answer('Cancel')
+        self.press('Undo')
+        self.becomes(1, 2, 'Save?')
+        self.browser.wait('#panel-text [aria-pressed]:nth-child(3)', 'Do not fit 0')
+        self.press('Close')
+        self.browser.wait('#sheet')
+        self.assertNotIn(common.text('textTypedAreLost'), self.browser.text('#sheet'))
+
+    def test_a_removed_text_is_removed_from_the_script(self) -> None:
+        image = self.begin(spoken_texts())
+        for number, text in ((1, 'Start'), (2, 'Save?')):
+            self.browser.click(self.field(number))
+            self.browser.press(text, Keys.ENTER)
+        self.browser.wait('#count-script', '12')
+        self.browser.type(self.field(1), '')
+        self.browser.press(Keys.ENTER)
+        self.becomes(1, 4, '0 of 34')
+        self.browser.wait('#count-script', '6')
+        self.same_lines(self.written(image, {SENTENCES[1]: 'Save?'}))
+
+    def test_the_table_follows_the_script_and_a_saved_list_gives_its_texts_again(self) -> None:
+        image = self.begin(spoken_texts())
+        self.browser.click(self.field(1))
+        self.browser.press('The game starts.', Keys.ENTER)
+        self.browser.press('much too long ' * 4, Keys.ENTER)
+        self.browser.wait('#panel-text [aria-pressed]:nth-child(3)', 'Do not fit 1')
+        self.browser.wait('#count-script', '6')
+        saved = {}
+        for form, label in (('csv', 'textAsCsv'), ('tsv', 'textAsTsv'), ('po', 'textAsPo')):
+            self.browser.run('document.querySelector("[aria-labelledby=all-texts-title] header > .btn:last-child").click()')
+            self.browser.answer(common.text(label))
+            path = self.browser.downloaded(f'game (texts).{form}')
+            saved[form] = common.waited(path.read_bytes, 'the list is empty').decode()
+        mine = common.folder('table') / 'mine.tsv'
+        mine.write_text(saved['tsv'])
+        for form in ('csv', 'po'):
+            self.assertEqual(saved[form], common.cdscript_prints('texts', f'--{form}', '--list', mine, image))
+        self.assertEqual(saved['tsv'], common.cdscript_prints('texts', '--list', mine, image))
+        self.assertEqual(saved['tsv'].count('much too long'), 6 * 4)
+        # A list that is imported changes the table.
+        mine.write_text(saved['tsv'].replace('The game starts.', 'Start!'))
+        self.browser.give('#panel-text input[accept^=".tsv"]', [mine])
+        self.becomes(1, 2, 'Start!')
+        self.becomes(1, 4, '6 of 34')
+        # So does an edit of the script.
+        self.browser.click('#tab-script')
+        self.browser.click('.editor textarea')
+        self.browser.press('z', held=Keys.CONTROL)
+        self.browser.click('#tab-text')
+        self.becomes(1, 2, 'The game starts.')

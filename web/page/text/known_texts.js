@@ -1,0 +1,187 @@
+// The texts of a disc as the page shows them: each distinct text once, with its places and its new text.
+
+import { Glyphs } from '../../core/texts/views.js';
+import { isTurnDue, letOthersIn } from '../../core/turns.js';
+
+/** @typedef {import('../../core/texts/all_texts.js').ListedText} ListedText */
+/** @typedef {import('../../core/turns.js').Signal} Signal */
+/** How a new text fits at the smallest of its places: the most bytes that it may have there, and what encodes it. */
+/** @typedef {Awaited<ReturnType<typeof import('../../core/tasks/index.js').roomInTrack>>} Fit */
+/** @typedef {'all' | 'empty' | 'left' | 'signs' | 'done'} Kind */
+
+/** The kinds of texts that a filter shows. */
+export const KINDS = /** @type {Kind[]} */ (['all', 'empty', 'left', 'signs', 'done']);
+
+/** A text of the disc. Equal texts in different encodings are different texts, since a new text has different bytes in each. */
+export class KnownText {
+    /** @param {ListedText} first its first place */
+    constructor({ text, encoding }) {
+        this.text = text;
+        this.encoding = encoding;
+        /** @type {ListedText[]} */
+        this.places = [];
+        /** The new text, or ''. */
+        this.fresh = '';
+        /** At how many places the script writes the new text. */
+        this.written = 0;
+        /** Why the script does not write the new text at all places, as a sentence; '' if it does. */
+        this.why = '';
+        /** The characters of the new text that no old text has. */
+        this.signs = '';
+        /** How a new text fits, or the error that says why none does; undefined until it was read. */
+        this.fit = /** @type {Fit | Error | undefined} */ (undefined);
+    }
+
+    /** The place with the smallest room. */
+    get tightest() {
+        return this.places.reduce((least, it) => it.room < least.room ? it : least);
+    }
+
+    /**
+     * Whether a filter shows the text.
+     * @param {Kind} kind
+     */
+    is(kind) {
+        switch (kind) {
+            case 'empty': return this.fresh === '';
+            case 'left': return this.why !== '';
+            case 'signs': return this.signs !== '';
+            case 'done': return this.fresh !== '' && this.written === this.places.length;
+            default: return true;
+        }
+    }
+}
+
+/** All texts of a disc. */
+export class KnownTexts {
+    constructor() {
+        /** @type {KnownText[]} */
+        this.all = [];
+        /** @type {ListedText[]} the places of all texts, in the order of the disc */
+        this.listed = [];
+        /** @type {Map<string, KnownText>} by encoding and text */
+        this.byText = new Map();
+        /** @type {Map<ListedText, string>} the new texts, for each place that has one */
+        this.news = new Map();
+        this.glyphs = new Glyphs();
+        /** How many texts each filter shows. */
+        this.counts = { all: 0, empty: 0, left: 0, signs: 0, done: 0 };
+        /** @type {Map<string, number>} how many new texts have each character that no old text has */
+        this.signs = new Map();
+    }
+
+    /** @param {{ encoding: string, text: string }} listed */
+    of({ encoding, text }) {
+        return this.byText.get(`${encoding} ${text}`);
+    }
+
+    /**
+     * @param {ListedText[]} some
+     * @param {Signal} signal
+     */
+    async add(some, signal) {
+        for (const listed of some) {
+            if (isTurnDue()) await letOthersIn(signal);
+            const known = this.of(listed) || new KnownText(listed);
+            if (known.places.push(listed) === 1) {
+                this.byText.set(`${listed.encoding} ${listed.text}`, known);
+                this.all.push(known);
+                this.count(known, 1);
+                this.glyphs.add({ text: listed.text, fresh: '' });
+            }
+            this.listed.push(listed);
+        }
+    }
+
+    /**
+     * Reads the new texts that the script writes. A new text that does not fit, or is not in the script yet, is kept.
+     * @param {import('../../core/tasks/table.js').FreshOf} newTextOf
+     * @param {Signal} signal
+     */
+    async readNews(newTextOf, signal) {
+        /** @type {Map<ListedText, string>} */
+        const found = new Map();
+        for (const listed of this.listed) {
+            if (isTurnDue()) await letOthersIn(signal);
+            const fresh = await newTextOf(listed);
+            if (fresh !== '') found.set(listed, fresh);
+        }
+        for (const known of this.all) {
+            if (known.why === '') this.setNews(known, found);
+            if (isTurnDue()) await letOthersIn(signal);
+        }
+    }
+
+    /**
+     * Sets the new text of a text to the most frequent one of its places.
+     * @param {KnownText} known
+     * @param {Map<ListedText, string>} found
+     */
+    setNews(known, found) {
+        /** @type {Map<string, number>} */
+        const counts = new Map();
+        for (const place of known.places) {
+            const fresh = found.get(place);
+            if (fresh === undefined) this.news.delete(place);
+            else {
+                this.news.set(place, fresh);
+                counts.set(fresh, (counts.get(fresh) || 0) + 1);
+            }
+        }
+        const [[fresh, written]] = [...counts, /** @type {[string, number]} */ (['', 0])].sort(([, a], [, b]) => b - a);
+        this.note(known, fresh, { written, why: '' });
+    }
+
+    /**
+     * Sets the new text that was typed for all places of a text.
+     * @param {KnownText} known
+     * @param {string} fresh
+     */
+    type(known, fresh) {
+        for (const place of known.places) {
+            if (fresh === '') this.news.delete(place);
+            else this.news.set(place, fresh);
+        }
+        this.note(known, fresh, known);
+    }
+
+    /**
+     * Notes at how many places the script writes a new text, and why not at all of them.
+     * @param {KnownText} known
+     * @param {string} fresh
+     * @param {{ written: number, why: string }} outcome
+     */
+    note(known, fresh, { written, why }) {
+        this.count(known, -1);
+        known.fresh = fresh;
+        known.written = written;
+        known.why = why;
+        known.signs = fresh === '' ? '' : this.glyphs.missingIn(fresh).join('');
+        this.count(known, 1);
+    }
+
+    /**
+     * Adds a text to the counts, or removes it from them.
+     * @param {KnownText} known
+     * @param {1 | -1} step
+     */
+    count(known, step) {
+        for (const kind of KINDS) this.counts[kind] += known.is(kind) ? step : 0;
+        for (const sign of known.signs) {
+            const count = (this.signs.get(sign) || 0) + step;
+            if (count === 0) this.signs.delete(sign);
+            else this.signs.set(sign, count);
+        }
+    }
+
+    /**
+     * The texts that a filter shows and that contain some words, in the old or in the new text, in capital or small letters.
+     * @param {Kind} kind
+     * @param {string} words
+     */
+    shown(kind, words) {
+        const sought = words.toLowerCase();
+        const isSought = (/** @type {string} */ text) => text.toLowerCase().includes(sought);
+        return this.all.filter(known => known.is(kind) && (sought === '' || isSought(known.text) || isSought(known.fresh)));
+    }
+}
