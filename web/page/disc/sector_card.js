@@ -44,14 +44,11 @@ export class SectorCard {
         this.message = element('div');
         this.fields = element('div', { class: 'fields', role: 'group', 'aria-label': texts.sectorPressFieldToGo });
         this.keys = element('p', { class: 'small quiet keys-line if-mouse' });
-        const copies = element('div', { class: 'row copies' },
-            copyButton('slim bare tiny', () => this.edit.selectedHex(), texts.sectorCopyAsHex),
-            copyButton('slim bare tiny', () => this.edit.selectedText(), texts.sectorCopyAsText));
         this.goTo = element('input', { type: 'text', id: 'go-to', class: 'num slim', inputmode: 'numeric', autocomplete: 'off' });
         this.noBlock = element('div');
         this.choice = element('select', { class: 'slim' });
         bindEncodings(app, this.choice, ({ hasCharacters }) => hasCharacters);
-        this.body = element('div', {}, this.message, this.fields, this.keys, this.view.part, copies, this.field.part, this.foot,
+        this.body = element('div', {}, this.message, this.fields, this.keys, this.view.part, this.copies(), this.field.part, this.foot,
             this.spoken.part);
         this.empty = element('p', { class: 'pad quiet' }, ...say(texts.sectorHowToOpenSector,
             { tab: element('kbd', {}, texts.sectorTabKey), enter: element('kbd', {}, texts.sectorEnterKey) }));
@@ -63,6 +60,13 @@ export class SectorCard {
         }
         app.on('files', () => this.drawFoot());
         this.close();
+    }
+
+    /** The buttons that copy the selected bytes. */
+    copies() {
+        return element('div', { class: 'row copies' },
+            copyButton('slim bare tiny', () => this.edit.selectedHex(), texts.sectorCopyAsHex),
+            copyButton('slim bare tiny', () => this.edit.selectedText(), texts.sectorCopyAsText));
     }
 
     /** The row of tools: a field to go to a block, and choices of how bytes and offsets are shown. */
