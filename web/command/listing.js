@@ -89,9 +89,7 @@ async function importedMoving(job, opened, names, pointers) {
     const [list] = await filesNamed(job, [pointers]);
     const isKept = (/** @type {{ number: number }} */ { number }) => keep.includes(number);
     const made = await importMoving(job, opened, { ...await importOptions(job, names), pointers: list, isKept }, job.watch);
-    sayOfRuns(job, made.moved, sentenceOf);
-    sayOfRuns(job, made.few, sentenceOf);
-    sayOfRuns(job, made.sharing, sentenceOf);
+    for (const remarks of [made.moved, made.few, made.sharing]) sayOfRuns(job, remarks, it => sentenceOf(it));
     job.say(`texts moved ${made.moved.length}`);
     return made;
 }
