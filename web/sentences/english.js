@@ -309,8 +309,7 @@ export const ENGLISH = {
     'pointers/moved': ({ text, path, from, to, pointers }) =>
         `${rowName(text)}: moved in ${path} from ${from} to ${to}; pointers ${pointers}`,
     'pointers/few': ({ text, pointers, beside }) =>
-        `${rowName(text)}: moved with fewer pointers (${pointers}) than the texts beside it (${beside}); check it in the game, or keep it ` +
-        'in place',
+        `${rowName(text)}: moved with fewer pointers (${pointers}) than the texts beside it (${beside}); check it in the game`,
     'pointers/unproved': ({ path, at }) => `the script would be wrong at byte ${at} of ${path}, so it was not written; please report this`,
 
     'po/line': ({ line }) =>

@@ -141,7 +141,7 @@ function partsOf(hits, width) {
  */
 export async function findPointerTables(texts, searched, signal) {
     const differences = new Differences(texts.reduce((sum, { count }) => sum + count, 0));
-    for (const file of texts) await differences.add(file, signal);
+    for (const some of texts) await differences.add(some, signal);
     /** @type {PointerTable[]} */
     const found = [];
     for await (const file of searched) {

@@ -29,15 +29,17 @@ const SHARE_OF_LENGTHS = 0.75;
 const LEAST_LENGTHS = 3;
 
 /**
- * The byte that ends most texts of a file, 0 if none does.
+ * The byte that ends most texts of a file, 0 if none does. If the list has few texts, it is the byte before most places to which pointers
+ * lead.
  * @param {PointedFile} file
  * @param {PointedRow[]} texts
  */
-function usualEndOf({ bytes }, texts) {
+function usualEndOf({ bytes, targets }, texts) {
+    const places = texts.length < LEAST_ENDED ? targets.map(target => target - 1) : texts.map(({ at, known }) => at + known);
     const counts = new Uint32Array(256);
-    for (const { at, known } of texts) counts[bytes[at + known] || 0] += 1;
+    for (const at of places) counts[bytes[at] || 0] += 1;
     const most = counts.indexOf(Math.max(...counts));
-    return counts[most] >= LEAST_ENDED && 2 * counts[most] > texts.length && (most < 0x20 || most === 0xFF) ? most : 0;
+    return counts[most] >= LEAST_ENDED && 2 * counts[most] > places.length && (most < 0x20 || most === 0xFF) ? most : 0;
 }
 
 /**
