@@ -88,7 +88,7 @@ enum cdpatch_status { CDPATCH_STATUS_DONE, CDPATCH_STATUS_FOUND, CDPATCH_STATUS_
 /** Kinds of sectors, by sync field and mode byte; CDPATCH_KIND_OTHER is a mode byte above 2. */
 enum cdpatch_sector_kind { CDPATCH_KIND_NOSYNC, CDPATCH_KIND_MODE0, CDPATCH_KIND_MODE1, CDPATCH_KIND_MODE2, CDPATCH_KIND_OTHER };
 /** Whether a copy replaces a sector, and what both have in common: the header and the user data, or the EDC field, whatever else. */
-enum cdpatch_fit { CDPATCH_FIT_NO_COPY, CDPATCH_FIT_NEITHER, CDPATCH_FIT_DATA, CDPATCH_FIT_EDC };
+enum cdpatch_fit { CDPATCH_FIT_NONE, CDPATCH_FIT_NEITHER, CDPATCH_FIT_DATA, CDPATCH_FIT_EDC };
 /** What a patch does. */
 enum cdpatch_verb { CDPATCH_VERB_SET, CDPATCH_VERB_FILL, CDPATCH_VERB_REBUILD, CDPATCH_VERB_ADDRESS };
 /** What a line of a script has: nothing (blank or a comment), a head line, a patch, or an error. Errors are 4 to 14 in every release. A
@@ -208,7 +208,7 @@ enum cdpatch_result cdpatch_carry_address(uint8_t sector[CDPATCH_AT_LEAST 2352],
  * @{ */
 
 /** Chooses, among `count` copies of a sector in other dumps, the one that replaces it. Those that are consistent and have the address can:
- * the first of them that fits best, with the highest number. Writes its place among the copies, from 0 on. For CDPATCH_FIT_NO_COPY, also if
+ * the first of them that fits best, with the highest number. Writes its place among the copies, from 0 on. For CDPATCH_FIT_NONE, also if
  * the sector is consistent, writes nothing. For CDPATCH_FIT_NEITHER nothing in the sector confirms the copy. */
 CDPATCH_NODISCARD
 enum cdpatch_fit cdpatch_merge_sector(const uint8_t address[CDPATCH_AT_LEAST 3], const uint8_t sector[CDPATCH_AT_LEAST 2352],

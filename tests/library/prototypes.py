@@ -129,7 +129,7 @@ def exports(source):
     contents += [(f'VERSION_{place}', number) for place, number in enumerate(re.findall(r'Version::\w+ => (\d+),', source), 1)]
     contents += [pair for pair in constants if pair[0] in ('PATCH', 'NO_VERSION')]
     fits = [(name, number) for name, number in re.findall(r'Fit::(\w+) => (\d+),', source)]
-    fits += [pair for pair in constants if pair[0] == 'NO_COPY']
+    fits += [('NONE', number) for name, number in constants if name == 'NO_FIT']
     numbers = {'result': results, 'content': contents, 'fit': fits}
     for name, found in (('status', ('DONE', 'FOUND', 'FAILED')), ('verb', ('SET', 'FILL', 'REBUILD', 'ADDRESS')), ('sector_kind', KINDS),
                         ('step_kind', ('END', 'READ', 'COPY', 'WRITE', 'LOG')), ('run_flag', ('CARRY', 'NO_COPY', 'WITHOUT_OLD'))):

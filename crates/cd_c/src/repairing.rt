@@ -11,7 +11,7 @@ use cd_repair::{correct_sector, merge_sector};
 use cd_sector::Sector;
 
 /// No copy replaces the sector: the first number of `enum cdpatch_fit`.
-pub(crate) const NO_COPY: u32 = 0;
+pub(crate) const NO_FIT: u32 = 0;
 
 /// Chooses the copy that replaces a sector, as [`merge_sector`]: writes its place among the copies
 /// to `place`, and returns a number of `enum cdpatch_fit`. If no copy does, `place` does not change.
@@ -22,19 +22,19 @@ pub extern "C" fn cdpatch_merge_sector(
     copies: &[Sector],
     place: &mut usize,
 ) -> u32
-    ensures keeps { consistent sector.now ≡ true → result ≡ NO_COPY }
-    ensures choice { result ≢ NO_COPY
+    ensures keeps { consistent sector.now ≡ true → result ≡ NO_FIT }
+    ensures choice { result ≢ NO_FIT
         → IsChoice bcd.now sector.now copies.now place.new result }
-    ensures all { result ≡ NO_COPY → consistent sector.now ≡ false
+    ensures all { result ≡ NO_FIT → consistent sector.now ≡ false
         → All (λ copy. serves bcd.now copy ≡ false) copies.now }
-    ensures stays { result ≡ NO_COPY → place.new ≡ place.old }
+    ensures stays { result ≡ NO_FIT → place.new ≡ place.old }
 {
     match merge_sector(*bcd, sector, copies) {
         Some(choice) => {
             *place = choice.place;
             choice.fit.number()
         }
-        None => NO_COPY,
+        None => NO_FIT,
     }
 }
 

@@ -140,7 +140,7 @@ export class SectorCalls extends Arena {
         const places = this.put(...sectors, sized(address, ADDRESS_SIZE));
         const [own, from] = places.slice(copies.length);
         const fit = this.exports.cdpatch_merge_sector(from, own, places[0], BigInt(copies.length), this.answer);
-        return fit === FIT.NO_COPY ? null : { place: this.view.getUint32(this.answer, true), fit };
+        return fit === FIT.NONE ? null : { place: this.view.getUint32(this.answer, true), fit };
     }
 
     /**
