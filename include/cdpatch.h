@@ -204,7 +204,8 @@ enum cdpatch_result cdpatch_carry_address(uint8_t sector[CDPATCH_AT_LEAST 2352],
 
 /** @}
  * @name Repairs of a Mode 1 sector
- * A consistent sector stays, and what comes in place of a damaged one is consistent. Damage may be deliberate, so ask before you repair it.
+ * A consistent sector stays as it is, and a damaged one becomes a consistent one, or stays. Damage may be deliberate, so ask before you
+ * repair it.
  * @{ */
 
 /** Chooses, among `count` copies of a sector in other dumps, the one that replaces it. Those that are consistent and have the address can:
