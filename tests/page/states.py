@@ -377,6 +377,17 @@ class States(PageTest):
         self.press('Export a table')
         self.browser.wait('#panel-text .say.good', 'Saved: ')
 
+    def to_texts_typed(self) -> None:
+        """All texts of the disc in the table: one is translated, one does not fit, and one is being typed."""
+        self.begin(spoken_texts())
+        self.browser.click('#tab-text')
+        self.press('Show all texts')
+        self.browser.wait('.all-texts tbody input')
+        self.browser.click('.all-texts tbody tr[aria-rowindex="2"] input')
+        self.browser.press('The game starts.', Keys.ENTER, 'much too long ' * 4, Keys.ENTER)
+        self.browser.wait('#panel-text [aria-pressed]:nth-child(3)', 'Do not fit 1')
+        self.browser.press('It is lo')
+
     def to_texts_taken(self) -> None:
         """A table was imported, and all of its texts fit."""
         self.table({2: 'The game starts.', 3: 'Save?', 5: 'The end.'})

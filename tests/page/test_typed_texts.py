@@ -107,7 +107,7 @@ class TypedTexts(PageTest):
         self.browser.press('much too long ' * 4, Keys.ENTER)
         self.browser.wait('#panel-text [aria-pressed]:nth-child(3)', 'Do not fit 1')
         self.browser.wait('#count-script', '6')
-        saved = {}
+        saved: dict[str, str] = {}
         for form, label in (('csv', 'textAsCsv'), ('tsv', 'textAsTsv'), ('po', 'textAsPo')):
             self.browser.run('document.querySelector("[aria-labelledby=all-texts-title] header > .btn:last-child").click()')
             self.browser.answer(common.text(label))
@@ -124,9 +124,55 @@ class TypedTexts(PageTest):
         self.browser.give('#panel-text input[accept^=".tsv"]', [mine])
         self.becomes(1, 2, 'Start!')
         self.becomes(1, 4, '6 of 34')
+        self.assertEqual(self.row(2)[2], 'much too long ' * 4)
         # So does an edit of the script.
         self.browser.click('#tab-script')
         self.browser.click('.editor textarea')
         self.browser.press('z', held=Keys.CONTROL)
         self.browser.click('#tab-text')
         self.becomes(1, 2, 'The game starts.')
+
+    def test_words_are_found_and_replaced_in_the_new_texts_that_are_shown(self) -> None:
+        image = self.begin(spoken_texts())
+        for number, text in ((1, 'The Hero starts.'), (2, 'Hero, save?'), (3, 'A door.')):
+            self.browser.click(self.field(number))
+            self.browser.press(text, Keys.ENTER)
+        self.browser.wait('#count-script', '18')
+        self.browser.type('#texts-find', 'Hero')
+        self.assertEqual([cells[1] for cells in self.cells()], SENTENCES[:2])
+        self.browser.type('#texts-others', 'Lady')
+        self.press('Replace in all shown')
+        self.browser.wait('#panel-text .say.good', 'Replaced in 2 new texts.')
+        self.becomes(1, 2, 'The Lady starts.')
+        self.browser.type('#texts-find', SENTENCES[3][:4])
+        self.assertEqual([cells[1] for cells in self.cells()], [SENTENCES[3]])
+        self.browser.wait('#panel-text .meter', '3 of 4 done')
+        self.same_lines(self.written(image, {SENTENCES[0]: 'The Lady starts.', SENTENCES[1]: 'Lady, save?', SENTENCES[2]: 'A door.'}))
+        self.browser.click('#tab-text')
+        self.press('Undo')
+        self.browser.wait('#panel-text .meter', '3 of 4 done')
+        self.same_lines(self.written(image, {SENTENCES[0]: 'The Hero starts.', SENTENCES[1]: 'Hero, save?', SENTENCES[2]: 'A door.'}))
+
+    def test_only_the_rows_on_the_screen_are_drawn_and_the_row_that_is_typed_in_stays(self) -> None:
+        count = 3000
+        texts = [f'ゲームを始める場面{number:06}'.encode('cp932').ljust(32, b'\0') for number in range(count)]
+        self.begin(common.image_of([b''.join(texts[at:at + 64]) for at in range(0, count, 64)]))
+        drawn = 'return document.querySelectorAll(".all-texts tbody input").length'
+        self.assertLess(self.browser.run(drawn), 40)
+        self.browser.click(self.field(3))
+        self.browser.press('Half a te')
+        for share, due in ((1, count), (0.5, count // 2), (0, 1)):
+            self.browser.run('''const box = document.querySelector('.scroll.texts');
+                box.scrollTop = (box.scrollHeight - box.clientHeight) * arguments[0];''', share)
+            self.browser.wait(f'.all-texts tbody tr[aria-rowindex="{due + 1}"]')
+            self.assertLess(self.browser.run(drawn), 40)
+            seen = '''const { top, bottom } = document.querySelector(arguments[0]).getBoundingClientRect(), box = document.querySelector('.scroll.texts').getBoundingClientRect();
+                return bottom > box.top && top < box.bottom'''
+            self.assertTrue(self.browser.run(seen, f'.all-texts tbody tr[aria-rowindex="{due + 1}"]'), due)
+        self.browser.press('xt', Keys.ENTER)
+        self.becomes(3, 2, 'Half a text')
+        self.wait_for_focus(self.field(4))
+        # The keys reach each row, and each is visible then.
+        self.browser.press(*[Keys.ARROW_DOWN] * 30)
+        self.wait_for_focus(self.field(34))
+        self.assertTrue(self.browser.run(seen, '.all-texts tbody :focus'))

@@ -7,6 +7,8 @@ import { isTurnDue, letOthersIn } from '../../core/turns.js';
 /** @typedef {import('../../core/turns.js').Signal} Signal */
 /** How a new text fits at the smallest of its places: the most bytes that it may have there, and what encodes it. */
 /** @typedef {Awaited<ReturnType<typeof import('../../core/tasks/index.js').roomInTrack>>} Fit */
+/** At how many places the script writes a new text, and why not at all of them, as a sentence, or ''. */
+/** @typedef {{ written: number, why: string }} Outcome */
 /** @typedef {'all' | 'empty' | 'left' | 'signs' | 'done'} Kind */
 
 /** The kinds of texts that a filter shows. */
@@ -26,6 +28,8 @@ export class KnownText {
         this.written = 0;
         /** Why the script does not write the new text at all places, as a sentence; '' if it does. */
         this.why = '';
+        /** The new text that the script had before the one that was typed and does not fit. */
+        this.before = '';
         /** The characters of the new text that no old text has. */
         this.signs = '';
         /** How a new text fits, or the error that says why none does; undefined until it was read. */
@@ -61,7 +65,9 @@ export class KnownTexts {
         this.listed = [];
         /** @type {Map<string, KnownText>} by encoding and text */
         this.byText = new Map();
-        /** @type {Map<ListedText, string>} the new texts, for each place that has one */
+        /** @type {Map<string, KnownText>} by place, filled when it is first needed */
+        this.byPlace = new Map();
+        /** @type {Map<ListedText, string>} the new texts of places, or '' */
         this.news = new Map();
         this.glyphs = new Glyphs();
         /** How many texts each filter shows. */
@@ -94,7 +100,7 @@ export class KnownTexts {
     }
 
     /**
-     * Reads the new texts that the script writes. A new text that does not fit, or is not in the script yet, is kept.
+     * Reads the new texts that the script writes. A new text that does not fit is kept, unless the script has a different one now.
      * @param {import('../../core/tasks/table.js').FreshOf} newTextOf
      * @param {Signal} signal
      */
@@ -107,7 +113,7 @@ export class KnownTexts {
             if (fresh !== '') found.set(listed, fresh);
         }
         for (const known of this.all) {
-            if (known.why === '') this.setNews(known, found);
+            this.setNews(known, found);
             if (isTurnDue()) await letOthersIn(signal);
         }
     }
@@ -122,13 +128,11 @@ export class KnownTexts {
         const counts = new Map();
         for (const place of known.places) {
             const fresh = found.get(place);
-            if (fresh === undefined) this.news.delete(place);
-            else {
-                this.news.set(place, fresh);
-                counts.set(fresh, (counts.get(fresh) || 0) + 1);
-            }
+            if (fresh !== undefined) counts.set(fresh, (counts.get(fresh) || 0) + 1);
         }
         const [[fresh, written]] = [...counts, /** @type {[string, number]} */ (['', 0])].sort(([, a], [, b]) => b - a);
+        if (known.why !== '' && [known.fresh, known.before, ''].includes(fresh)) return;
+        for (const place of known.places) this.news.set(place, found.get(place) || '');
         this.note(known, fresh, { written, why: '' });
     }
 
@@ -138,18 +142,28 @@ export class KnownTexts {
      * @param {string} fresh
      */
     type(known, fresh) {
-        for (const place of known.places) {
-            if (fresh === '') this.news.delete(place);
-            else this.news.set(place, fresh);
-        }
+        if (known.why === '') known.before = known.written > 0 ? known.fresh : '';
+        for (const place of known.places) this.news.set(place, fresh);
         this.note(known, fresh, known);
+    }
+
+    /**
+     * The text at a place.
+     * @param {{ block: number, offset: number, isInFile: boolean, text: string }} row of a list
+     */
+    at({ block, offset, isInFile, text }) {
+        if (this.byPlace.size === 0) {
+            for (const known of this.all) for (const it of known.places) this.byPlace.set(`${it.block}+${it.offset}`, known);
+        }
+        const known = this.byPlace.get(`${isInFile ? '-' : block}+${offset}`);
+        return known && known.text === text ? known : undefined;
     }
 
     /**
      * Notes at how many places the script writes a new text, and why not at all of them.
      * @param {KnownText} known
      * @param {string} fresh
-     * @param {{ written: number, why: string }} outcome
+     * @param {Outcome} outcome
      */
     note(known, fresh, { written, why }) {
         this.count(known, -1);

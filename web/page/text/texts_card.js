@@ -4,12 +4,12 @@ import { roomInTrack } from '../../core/tasks/index.js';
 import * as texts from '../texts/index.js';
 import { format, remarkText } from '../texts/index.js';
 import {
-    askBeforeLeaving, askUser, button, capital, element, fill, keyed, messageArea, notice, sentence, setDisabled,
+    askBeforeLeaving, askUser, button, capital, element, fill, keyed, messageArea, notice, oneTabStop, sentence, setDisabled,
 } from '../ui/index.js';
 import { encodingLabel } from './encodings.js';
 import { KINDS } from './known_texts.js';
 import { TextRow, placeWords, withCodes } from './text_row.js';
-import { putIntoScript, removeFromScript, rowOfListed } from './typed_text.js';
+import { leftWords, putIntoScript, rowOfListed } from './typed_text.js';
 import { VirtualRows } from './virtual_rows.js';
 
 /** @typedef {import('../app/state.js').App} App */
@@ -21,6 +21,7 @@ import { VirtualRows } from './virtual_rows.js';
 /** The texts of an image; how new ones are fitted; and the bytes that were found to end texts. */
 /** @typedef {{ image: Image, texts: KnownTexts, options: RowOptions, ends: string[] }} List */
 /** @typedef {'csv' | 'tsv' | 'po'} Form */
+/** @typedef {{ known: KnownText, fresh: string }} Change */
 /** @typedef {import('../../core/tasks/table.js').FreshOf} FreshOf */
 /**
  * The callbacks to the panel: the function that finds the new texts of the script, as TextsTable returns it; and saving of the list.
@@ -56,7 +57,7 @@ export class TextsCard {
         this.drawn = new Map();
         /** The index of the row that has the focus, or gets it by the Tab key. */
         this.chosen = 0;
-        /** @type {{ known: KnownText, fresh: string }[]} the earlier new texts of those that were typed */
+        /** @type {Change[][]} the earlier new texts of those that were typed, or replaced together */
         this.done = [];
         /** Ends when all typed texts are in the script. */
         this.queue = Promise.resolve();
@@ -69,6 +70,8 @@ export class TextsCard {
         this.isSaved = true;
         this.find = element('input', { type: 'text', id: 'texts-find', class: 'slim', autocomplete: 'off', spellcheck: 'false',
             placeholder: texts.textFindInTexts, 'aria-label': texts.textFindInTexts, input: () => this.filter() });
+        this.others = element('input', { type: 'text', id: 'texts-others', class: 'slim', autocomplete: 'off', spellcheck: 'false',
+            placeholder: texts.textReplaceWith, 'aria-label': texts.textReplaceWith });
         this.filters = element('div', { class: 'seg', role: 'group', 'aria-label': texts.textWhichShown });
         this.meter = element('span', { class: 'meter small quiet' });
         this.back = button('slim bare', () => this.undo(), texts.undo, element('span', { class: 'hide' }, ` ${texts.textLastTyped}`));
@@ -79,14 +82,26 @@ export class TextsCard {
         this.message = messageArea('pad');
         this.strip = element('div', { class: 'foot pad small stack tight' });
         this.signs = element('p', { class: 'foot pad small quiet' });
-        this.card = element('section', { class: 'card', 'aria-labelledby': 'all-texts-title', hidden: true }, element('header', {},
-            element('h2', { id: 'all-texts-title' }, texts.textAllTexts), this.find, this.filters, this.meter, this.back,
-            button('slim', () => void this.save(), texts.discSaveReport)), this.message, this.box, this.strip, this.signs);
+        this.card = element('section', { class: 'card', 'aria-labelledby': 'all-texts-title', hidden: true }, this.header(), this.changer(),
+            this.message, this.box, this.strip, this.signs);
         this.listen();
+    }
+
+    header() {
+        return element('header', {}, element('h2', { id: 'all-texts-title' }, texts.textAllTexts), this.filters, this.meter, this.back,
+            button('slim', () => void this.save(), texts.discSaveReport));
+    }
+
+    /** The search, and the replacement of what it finds. */
+    changer() {
+        return element('div', { class: 'row pad in-texts' }, this.find, this.others,
+            button('slim', () => this.replace(), texts.textReplaceInTexts));
     }
 
     listen() {
         const { app } = this;
+        oneTabStop(this.filters, 'button');
+        oneTabStop(this.strip, 'button');
         askBeforeLeaving(() => this.isLost(), texts.textTypedAreLost, () => this.saveAs('csv'));
         app.on('image', () => this.take(null));
         app.on('script', () => {
@@ -115,6 +130,7 @@ export class TextsCard {
         this.isOld = false;
         this.kind = 'all';
         this.find.value = '';
+        this.others.value = '';
         fill(this.message);
         this.filter();
     }
@@ -157,7 +173,7 @@ export class TextsCard {
         const known = this.shown[index];
         const row = this.drawn.get(known) || new TextRow(known, {
             focused: () => this.choose(this.shown.indexOf(known)),
-            typed: fresh => this.typed(known, fresh),
+            typed: fresh => this.typed([{ known, fresh }]),
             move: step => this.move(step),
             readFit: () => this.readFit(known),
             drawn: () => {
@@ -206,22 +222,23 @@ export class TextsCard {
     }
 
     /**
-     * Notes a text that was typed, and puts it into the script.
-     * @param {KnownText} known
-     * @param {string} fresh
+     * Notes new texts that were typed, and puts them into the script.
+     * @param {Change[]} changes
      */
-    typed(known, fresh) {
-        if (fresh === known.fresh || this.list === null) return;
-        this.done.push({ known, fresh: known.fresh });
-        this.put(this.list, known, fresh);
+    typed(changes) {
+        const { list } = this;
+        const others = changes.filter(({ known, fresh }) => fresh !== known.fresh);
+        if (others.length === 0 || list === null) return;
+        this.done.push(others.map(({ known }) => ({ known, fresh: known.fresh })));
+        this.put(list, others);
     }
 
-    /** Brings the new text back that was typed over last. */
+    /** Brings the new texts back that were typed over last. */
     undo() {
         const last = this.done.pop();
         if (last === undefined || this.list === null) return;
-        this.put(this.list, last.known, last.fresh);
-        const index = this.shown.indexOf(last.known);
+        this.put(this.list, last);
+        const index = this.shown.indexOf(last[0].known);
         if (index < 0) return;
         this.choose(index);
         this.rows.reveal(index);
@@ -229,42 +246,60 @@ export class TextsCard {
 
     /**
      * @param {List} list
-     * @param {KnownText} known
-     * @param {string} fresh
+     * @param {Change[]} changes
      */
-    put(list, known, fresh) {
-        list.texts.type(known, fresh);
+    put(list, changes) {
+        for (const { known, fresh } of changes) list.texts.type(known, fresh);
         this.isSaved = false;
         this.waiting += 1;
-        this.drawn.get(known)?.draw(this.shown.indexOf(known), known === this.shown[this.chosen]);
-        this.drawHead();
-        this.queue = this.queue.then(() => this.write(list, known)).finally(() => {
+        this.redraw();
+        this.queue = this.queue.then(() => this.write(list, changes)).finally(() => {
             this.waiting -= 1;
             this.update();
         });
     }
 
     /**
-     * Puts the new text of a text into the script, or removes it there.
+     * Puts new texts into the script, or removes those that are empty now.
      * @param {List} list
-     * @param {KnownText} known
+     * @param {Change[]} changes
      */
-    async write(list, known) {
+    async write(list, changes) {
         const { app } = this;
-        const { fresh, places } = known;
         if (app.image !== list.image) return;
         this.changes = 0;
-        let outcome = { written: 0, why: '' };
-        try {
-            if (fresh === '') await removeFromScript(app, list.image, places, list.options);
-            else outcome = await putIntoScript(app, list.image, places, fresh, list.options);
-        } catch (error) {
-            outcome.why = `${sentence(error)}.`;
+        const some = changes.flatMap(({ known, fresh }) => known.fresh === fresh ? [known] : []);
+        const failed = (/** @type {unknown} */ error) => new Map(some.map(known => [known, { written: 0, why: `${sentence(error)}.` }]));
+        const outcomes = await putIntoScript(app, list.image, some, list.options).catch(failed);
+        if (this.list !== list) return;
+        for (const { known, fresh } of changes) {
+            if (known.fresh === fresh) list.texts.note(known, fresh, outcomes.get(known) || { written: 0, why: '' });
         }
-        if (known.fresh !== fresh || this.list !== list) return;
-        list.texts.note(known, fresh, outcome);
-        this.drawn.get(known)?.drawSize();
-        this.drawHead();
+        this.redraw();
+    }
+
+    /**
+     * Shows the new texts of an imported list that do not fit.
+     * @param {import('../../core/tasks/fitted_lists.js').LeftRow[]} left
+     */
+    takeLeft(left) {
+        const { list } = this;
+        for (const { text: row, why } of list === null ? [] : left) {
+            const known = list?.texts.at(row);
+            if (known === undefined || row.fresh === '') continue;
+            list?.texts.type(known, row.fresh);
+            list?.texts.note(known, row.fresh, { written: 0, why: leftWords(why) });
+        }
+        this.redraw();
+    }
+
+    /** Replaces the words that are sought by others, in all new texts that are shown. */
+    replace() {
+        const [words, others] = [this.find.value, this.others.value];
+        const changes = this.shown.flatMap(known => words !== '' && known.fresh.includes(words)
+            ? [{ known, fresh: known.fresh.split(words).join(others) }] : []);
+        this.typed(changes);
+        fill(this.message, notice(changes.length > 0 ? 'good' : 'plain', format(texts.textReplacedIn, { n: changes.length })));
     }
 
     /** Reads the new texts of the script again after it was changed elsewhere, if the table is seen. */

@@ -224,6 +224,7 @@ export class TextsTable {
             if (lines === null) return null;
             app.checkAfterChange();
             const withdrawn = await withdrawnLines(app, linesMade(made.old), lines.incoming, signal);
+            this.known.takeLeft(made.left);
             await this.left.show({ image, name: file.name, rows: made.left, options });
             return this.madeNotice(made, lines.merged, withdrawn);
         });

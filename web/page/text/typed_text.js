@@ -1,4 +1,4 @@
-// Puts a new text that was typed in the table of texts into the script, at all places of the old text, and removes it again.
+// Puts new texts that were typed in the table of texts into the script, at all places of the old texts, and removes them again.
 
 import { linesMade } from '../../core/script/views.js';
 import { importRows } from '../../core/tasks/index.js';
@@ -13,6 +13,8 @@ import { isWritten, withdrawnLines } from './withdrawn.js';
 /** @typedef {import('../../core/texts/all_texts.js').ListedText} ListedText */
 /** @typedef {import('../../core/tasks/list_rows.js').ListRow} ListRow */
 /** @typedef {import('../../core/tasks/table.js').RowOptions} RowOptions */
+/** @typedef {import('./known_texts.js').KnownText} KnownText */
+/** @typedef {import('./known_texts.js').Outcome} Outcome */
 
 /**
  * The row of a list that gives a listed text a new text.
@@ -29,32 +31,65 @@ export function rowOfListed({ block, offset, room, encoding, text, fill = '' }, 
 }
 
 /**
- * Puts the lines of a new text into the script, at the places of the old text where it fits. Returns at how many it does, and why not at
- * the others.
+ * Puts the new texts of some texts into the script, at the places where they fit, and removes the lines of those that have none any more.
+ * Returns at how many places each is written, and why not at the others.
  * @param {App} app
  * @param {Image} image
- * @param {ListedText[]} places
- * @param {string} fresh
+ * @param {KnownText[]} some
  * @param {RowOptions} options
  */
-export async function putIntoScript(app, image, places, fresh, options) {
-    const { script, left } = await importRows(app, image.opened, places.map(it => rowOfListed(it, fresh)), options);
-    const line = lineBeside(app, script);
-    if (line > 0) return { written: 0, why: format(texts.textLineWritesHere, { line: String(line) }) };
-    await rowsMerged(app, image, script);
-    const before = left.some(({ text }) => isWritten(app, text)) ? ` ${texts.textScriptKeeps}` : '';
-    return { written: places.length - left.length, why: left.length === 0 ? '' : `${capital(remarkText(left[0].why))}.${before}` };
+export async function putIntoScript(app, image, some, options) {
+    await removeFromScript(app, image, some.filter(({ fresh }) => fresh === ''), options);
+    return putNewTexts(app, image, some.filter(({ fresh }) => fresh !== ''), options);
 }
 
 /**
- * Removes the lines from the script that write a new text at the places of an old one.
+ * Like putIntoScript, for texts with new ones. If a line that begins elsewhere writes at one of their places, each is put by itself.
  * @param {App} app
  * @param {Image} image
- * @param {ListedText[]} places
+ * @param {KnownText[]} some
+ * @param {RowOptions} options
+ * @returns {Promise<Map<KnownText, Outcome>>}
+ */
+async function putNewTexts(app, image, some, options) {
+    const owners = new Map(some.flatMap(known => known.places.map(place => [rowOfListed(place, known.fresh), known])));
+    const outcomes = new Map(some.map(known => [known, { written: known.places.length, why: '' }]));
+    const { script, left } = await importRows(app, image.opened, [...owners.keys()], options);
+    const line = lineBeside(app, script);
+    if (line > 0 && some.length > 1) {
+        const each = [];
+        for (const known of some) each.push(...await putNewTexts(app, image, [known], options));
+        return new Map(each);
+    }
+    if (line > 0) return new Map([[some[0], { written: 0, why: format(texts.textLineWritesHere, { line: String(line) }) }]]);
+    if (some.length > 0) await rowsMerged(app, image, script);
+    for (const { text: row, why } of left) {
+        const outcome = outcomes.get(/** @type {KnownText} */ (owners.get(row)));
+        if (outcome === undefined) continue;
+        outcome.written -= 1;
+        outcome.why = outcome.why || leftWords(why) + (isWritten(app, row) ? ` ${texts.textScriptKeeps}` : '');
+    }
+    return outcomes;
+}
+
+/**
+ * The sentence on why a row does not fit.
+ * @param {import('../../core/facts.js').Remark} why
+ */
+export function leftWords(why) {
+    return `${capital(remarkText(why))}.`;
+}
+
+/**
+ * Removes the lines from the script that write new texts at the places of some texts.
+ * @param {App} app
+ * @param {Image} image
+ * @param {KnownText[]} some
  * @param {RowOptions} options
  */
-export async function removeFromScript(app, image, places, options) {
-    const { script } = await importRows(app, image.opened, places.map(it => rowOfListed(it, it.text)), options);
+async function removeFromScript(app, image, some, options) {
+    const rows = some.flatMap(({ places }) => places.map(it => rowOfListed(it, it.text)));
+    const { script } = await importRows(app, image.opened, rows, options);
     if (script === null) return;
     const lines = await withdrawnLines(app, linesMade(script), [], app.closing.signal);
     if (app.image === image) app.changeScript(own => own.remove(new Set(lines.map(({ text }) => text))));
