@@ -203,9 +203,8 @@ fn no_step() -> RunStep {
 ///
 /// `image_size` is the number of bytes of the image, or `UNKNOWN_SIZE`: then the image is read until
 /// it ends. `entries` has room for as many entries as the script has patches, and `hand` for three
-/// sectors.
-/// For a text that is not a script, `log` gets the line for its error, nothing is read, and the
-/// status is 2. The status is also 2 if there is not enough room for all entries.
+/// sectors. For a text that is not a script, `log` gets the line for its error, nothing is read, and
+/// the status is 2. The status is also 2 if there is not enough room for all entries.
 ///
 /// # Errors
 ///
