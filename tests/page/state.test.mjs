@@ -132,7 +132,7 @@ test('each change is told to who listens, after it', () => {
     assert.equal(after(() => app.goToLine(4)), 'panel line');
     assert.deepEqual([reported[0][6], reported[1][1]], ['script', 4]);
     assert.equal(after(() => app.goTo(5, 6, true)), 'panel place');
-    assert.deepEqual([reported[1][1], app.place], [{ show: true, comes: true }, { block: 5, offset: 6 }]);
+    assert.deepEqual([reported[1][1], app.place], [{ show: true, wasHidden: true }, { block: 5, offset: 6 }]);
     app.setImage(null);
     assert.deepEqual([app.image, app.second, app.survey, app.files, app.place], [null, null, null, null, { block: -1, offset: -1 }]);
 });
