@@ -16,7 +16,7 @@ fn filled(address: [u8; 3], byte: u8) -> Sector {
     encode(address, &[byte; USER_SIZE])
 }
 
-/// A sector whose bytes from `first` on, `count` of them, are the bytes that are not there.
+/// A sector whose `count` bytes from `first` on are inverted.
 fn harmed(sector: &Sector, first: usize, count: usize) -> Sector
     requires { first + count ≤ 2352 }
 {
