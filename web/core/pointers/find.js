@@ -2,6 +2,7 @@
 
 import { letOthersIn } from '../turns.js';
 import { Differences } from './differences.js';
+import { placesOf } from './forms.js';
 import { runsIn } from './search.js';
 
 /** @typedef {import('../turns.js').Signal} Signal */
@@ -15,6 +16,9 @@ import { runsIn } from './search.js';
 const LEAST_TEXTS = new Map([[2, 6], [3, 6], [4, 5]]);
 const LEAST_ELSEWHERE = 8;
 const LEAST_FIRSTS = 4;
+
+/** How many more a table needs whose pointers are farther apart than two of them: there are many such rows of numbers in any file. */
+const MORE_IF_APART = 3;
 
 /** The least share of a table's numbers that are pointers; and of these, the least share that lead to first bytes. */
 const SHARE_OF_HITS = 0.75;
@@ -53,7 +57,8 @@ class Candidate {
         const isElsewhere = texts !== file.own;
         const least = isElsewhere ? LEAST_ELSEWHERE : LEAST_TEXTS.get(form.width) || LEAST_ELSEWHERE;
         const share = isElsewhere ? SHARE_ELSEWHERE : SHARE_OF_FIRSTS;
-        return this.distinct >= least && this.firsts >= LEAST_FIRSTS && hits.length >= SHARE_OF_HITS * count
+        const more = distance > 2 * form.width ? MORE_IF_APART : 0;
+        return this.distinct >= least + more && this.firsts >= LEAST_FIRSTS && hits.length >= SHARE_OF_HITS * count
             && this.firsts >= share * hits.length;
     }
 }
@@ -73,10 +78,10 @@ class Tables {
     /** @param {Candidate} candidate */
     add({ run }) {
         const { form, texts, distance } = run;
-        const left = run.hits.filter(({ at }) => !this.isTaken(at, form.width));
         const isSmall = -form.base < LEAST_ADDRESS;
-        const parts = distance > 0 ? [{ hits: left, distance }]
-            : partsOf(left, form.width).filter(part => !isSmall || part.hits.length >= LEAST_IN_PART);
+        const parts = distance > 0 ? this.freeParts(run)
+            : partsOf(run.hits.filter(({ at }) => !this.isTaken(at, form.width)), form.width)
+                .filter(part => !isSmall || part.hits.length >= LEAST_IN_PART);
         const hits = parts.flatMap(part => part.hits);
         if (hits.length < LEAST_FIRSTS) return;
         const claim = [form.width, form.big, form.base, form.own].join();
@@ -84,8 +89,29 @@ class Tables {
         const claimed = keys.filter(key => (this.claims.get(key) ?? claim) !== claim);
         if (claimed.length > MOST_CLAIMED * keys.length) return;
         for (const key of keys) if (!this.claims.has(key)) this.claims.set(key, claim);
-        for (const { at } of hits) this.taken.fill(1, at, at + form.width);
-        this.tables.push(...parts.map(part => this.tableOf(run, part)));
+        for (const part of parts) {
+            const table = this.tableOf(run, part);
+            for (const at of placesOf(table)) this.taken.fill(1, at, at + form.width);
+            this.tables.push(table);
+        }
+    }
+
+    /**
+     * The parts of a run between the numbers of other tables.
+     * @param {Run} run
+     */
+    freeParts({ hits, distance, form: { width } }) {
+        /** @type {{ hits: Hit[], distance: number }[]} */
+        const parts = [];
+        let next = -1;
+        for (const hit of hits) {
+            let isFree = next >= 0;
+            for (let at = next; isFree && at <= hit.at; at += distance) isFree = !this.isTaken(at, width);
+            if (isFree) parts[parts.length - 1].hits.push(hit);
+            else if (!this.isTaken(hit.at, width)) parts.push({ hits: [hit], distance });
+            next = this.isTaken(hit.at, width) ? -1 : hit.at + distance;
+        }
+        return parts;
     }
 
     /**

@@ -24,9 +24,12 @@ import { isTurnDue, letOthersIn } from '../turns.js';
 /** A byte that follows at least this many texts, and more than half of all in a file, ends them. */
 const LEAST_ENDED = 6;
 
-/** The numbers beside pointers are lengths if this share of them is the length of the text, of this many texts at least. */
-const SHARE_OF_LENGTHS = 0.75;
+/** The numbers beside pointers are lengths if this share of them is that of their texts; numbers of a byte only with this many texts. */
+const SHARE_OF_LENGTHS = 0.6;
 const LEAST_LENGTHS = 3;
+
+/** The most bytes of a text whose length is looked for. */
+const MOST_MEASURED = 1024;
 
 /**
  * The byte that ends most texts of a file, 0 if none does. If the list has few texts, it is the byte before most places to which pointers
@@ -83,7 +86,8 @@ export class MovedTexts {
      * @param {Signal} [signal]
      */
     async sort(signal) {
-        const lengths = new LengthTables(this.file, this.texts);
+        const lengths = new LengthTables(this.file);
+        await lengths.read(this.end, signal);
         let low = 0;
         for (const text of this.texts) {
             if (isTurnDue()) await letOthersIn(signal);
@@ -177,23 +181,31 @@ function limitsOf(pointers, first) {
 const LENGTH_WIDTHS = [1, 2, 4];
 const MOST_MORE = 2;
 
-/** How far from a pointer its length may be, in bytes. */
+/** How far from a pointer its length may be, in bytes: within the distance of the pointers of its table, but not less or more. */
+const LEAST_BESIDE = 8;
 const MOST_BESIDE = 32;
 
 /** Tables that have the length of each text beside its pointer, or before the text. Such a text cannot have a new length. */
 class LengthTables {
-    /**
-     * @param {PointedFile} file
-     * @param {PointedRow[]} texts
-     */
-    constructor(file, texts) {
-        this.bytes = file.bytes;
+    /** @param {PointedFile} file */
+    constructor(file) {
+        this.file = file;
         /** @type {Map<ListedTable, { count: number, equal: Map<string, number> }>} */
         this.counts = new Map();
-        const known = new Map(texts.map(text => [text.at, text.known]));
-        for (const pointer of file.leading) {
-            const size = known.get(pointer.target);
-            if (size !== undefined) this.add(pointer, size);
+    }
+
+    /**
+     * Reads the texts of all pointers.
+     * @param {number} end the byte that ends texts
+     * @param {Signal} [signal]
+     */
+    async read(end, signal) {
+        const { bytes, size, leading } = this.file;
+        for (const pointer of leading) {
+            if (isTurnDue()) await letOthersIn(signal);
+            const { target } = pointer;
+            const length = target < 0 ? -1 : bytes.subarray(target, Math.min(target + MOST_MEASURED, size)).indexOf(end);
+            if (length > 0) this.add(pointer, length);
         }
     }
 
@@ -207,11 +219,11 @@ class LengthTables {
         counts.count += 1;
         const { distance, width: own } = table;
         for (const width of LENGTH_WIDTHS) {
-            this.addIfEqual(counts.equal, this.bytes, target - width, width, `text ${width}`, size);
-            const near = Math.min(distance, MOST_BESIDE);
+            this.addIfEqual(counts.equal, this.file.bytes, target - width, width, `text ${width} at`, size);
+            const near = Math.max(Math.min(distance, MOST_BESIDE), LEAST_BESIDE);
             for (let shift = own - near; shift + width <= near; shift++) {
                 const isBeside = shift + width <= 0 || shift >= own;
-                if (isBeside) this.addIfEqual(counts.equal, bytes, at + shift, width, `pointer ${shift} ${width}`, size);
+                if (isBeside) this.addIfEqual(counts.equal, bytes, at + shift, width, `pointer ${shift}: ${width} at`, size);
             }
         }
     }
@@ -238,7 +250,9 @@ class LengthTables {
     have(pointers) {
         return pointers.some(({ table }) => {
             const { count, equal } = this.counts.get(table) || { count: 0, equal: new Map() };
-            return count >= LEAST_LENGTHS && Math.max(0, ...equal.values()) >= SHARE_OF_LENGTHS * count;
+            // One byte may be equal by chance.
+            const isSure = (/** @type {string} */ field) => count >= LEAST_LENGTHS || !field.includes(' 1 ');
+            return Array.from(equal).some(([field, found]) => isSure(field) && found >= SHARE_OF_LENGTHS * count);
         });
     }
 }
