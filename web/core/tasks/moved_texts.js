@@ -23,6 +23,10 @@ import { isTurnDue, letOthersIn } from '../turns.js';
 
 /** A byte that follows at least this many texts, and more than half of all in a file, ends them. */
 const LEAST_ENDED = 6;
+const FULL = 0xFF;
+
+/** A control code does not end texts if it is before a 00 in more than this share of them. */
+const SHARE_BEFORE_ZERO = 0.1;
 
 /** The numbers beside pointers are lengths if this share of them is that of their texts; numbers of a byte only with this many texts. */
 const SHARE_OF_LENGTHS = 0.6;
@@ -42,7 +46,15 @@ function usualEndOf({ bytes, targets }, texts) {
     const counts = new Uint32Array(256);
     for (const at of places) counts[bytes[at] || 0] += 1;
     const most = counts.indexOf(Math.max(...counts));
-    return counts[most] >= LEAST_ENDED && 2 * counts[most] > places.length && (most < 0x20 || most === 0xFF) ? most : 0;
+    if (counts[most] < LEAST_ENDED || 2 * counts[most] <= places.length) return 0;
+    // A code before a 00 belongs to the text, as the end of a line does.
+    const beforeZero = places.filter(at => bytes[at] === most && bytes[at + 1] === 0).length;
+    return most === FULL || isCodeByte(most) && beforeZero <= SHARE_BEFORE_ZERO * places.length ? most : 0;
+}
+
+/** @param {number} byte whether it is a control code other than a tab or a line end */
+function isCodeByte(byte) {
+    return byte < 0x20 && ![0x09, 0x0A, 0x0D].includes(byte);
 }
 
 /**
