@@ -340,7 +340,8 @@ test('other tasks get turns within a tenth of a second while a large file is sea
 function moFiles() {
     const folder = '/usr/share/locale/ja/LC_MESSAGES';
     const found = existsSync(folder) ? readdirSync(folder).filter(name => name.endsWith('.mo')).map(name => readFileSync(join(folder, name))) : [];
-    const usable = found.filter(({ length }) => length > 2000 && length < 60000);
+    // Those of revision 1 also have texts in parts, whose lengths are beside the pointers.
+    const usable = found.filter(it => it.length > 2000 && it.length < 60000 && it.readUInt32LE(4) === 0);
     return usable.length > 0 ? usable.slice(0, process.env.GATE ? 20 : 2) : [madeMo(7), madeMo(8)];
 }
 
