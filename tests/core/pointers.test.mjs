@@ -373,7 +373,9 @@ test('the tables of MO files are found, and their texts stay, because the length
         sums.named += named.length;
         sums.found += found.length;
         sums.false += places.filter(at => !own.includes(at) && !other.includes(at)).length;
-        const made = await moved(opened, rows.map(row => ({ ...row, new: row.text.length > 3 && own.includes(row.at) === false && row.encoding === 'UTF-8' ? `${row.text}!` : '' })), pointers);
+        const news = rows.map(row => ({ ...row, new: row.text.length > 3 && row.encoding === 'UTF-8' ? `${row.text}!` : '' }));
+        if (places.length === 0 || news.every(row => row.new === '')) continue;
+        const made = await moved(opened, news, pointers);
         assert.deepEqual([made.moved.length, made.left.every(({ why }) => why.code.startsWith('pointers/'))], [0, true]);
     }
     assert.ok(sums.found >= 0.9 * sums.named && sums.false <= 0.01 * sums.found, JSON.stringify(sums));
