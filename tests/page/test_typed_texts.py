@@ -176,3 +176,10 @@ class TypedTexts(PageTest):
         self.browser.press(*[Keys.ARROW_DOWN] * 30)
         self.wait_for_focus(self.field(34))
         self.assertTrue(self.browser.run(seen, '.all-texts tbody :focus'))
+
+    def test_codes_have_a_different_colour(self) -> None:
+        text = '勇者は村人と\n話した。長い旅がはじまる。'
+        self.begin(common.image_of([b'', b'\0'.join(it.encode('cp932') for it in (text, SENTENCES[0], text, SENTENCES[0])) + b'\0']))
+        colours = '''return [...document.querySelectorAll('.all-texts tbody .old')].map(it =>
+            [it.innerText, ...Array.from(it.querySelectorAll('.code'), code => [code.innerText, getComputedStyle(code).color === getComputedStyle(it).color])])'''
+        self.assertEqual(self.browser.run(colours), [[text.replace('\n', '{0A}'), ['{0A}', False]], [SENTENCES[0]]])

@@ -42,6 +42,20 @@ function ownName(file) {
     return file === '-' ? texts.sectorInNoFile : seen(file.replace(/\+\d+$/, '').replace(/^.*\//, ''));
 }
 
+/** How many rows were made, from which their ids come. */
+const made = { count: 0 };
+
+/**
+ * Makes a remark the description of a field for screen readers.
+ * @param {HTMLElement} field
+ * @param {HTMLElement} remark
+ */
+function describe(field, remark) {
+    made.count += 1;
+    remark.id = `text-remark-${made.count}`;
+    field.setAttribute('aria-describedby', remark.id);
+}
+
 /** The row of a text, for as long as it is drawn. */
 export class TextRow {
     /**
@@ -59,6 +73,7 @@ export class TextRow {
             'aria-label': format(texts.textNewTextFor, { text: shownText(known.text) }), focus: () => owner.focused(),
             input: () => this.drawSize(), change: () => owner.typed(this.input.value), keydown: event => this.pressed(event) });
         this.words = element('p', { class: 'small words' });
+        describe(this.input, this.words);
         this.size = element('span', {});
         this.bar = element('i');
         this.room = element('td', { class: 'room' }, this.size, element('span', { class: 'filled', 'aria-hidden': 'true' }, this.bar));
