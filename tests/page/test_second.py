@@ -258,7 +258,7 @@ class Second(PageTest):
                 files = discs.written(game=image_of(users), other=image_of([b'new', *users[1:]], first))
                 self.open_image(files['game'])
                 self.browser.wait('.sha1', sha1(files['game'].read_bytes()))
-                self.press('Details')
+                self.browser.click('#disc-line .unfold')
                 self.browser.click('#disc-line .change')
                 self.browser.type('#base', '1000')
                 self.browser.press(Keys.ENTER)
