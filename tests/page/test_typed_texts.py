@@ -120,11 +120,11 @@ class TypedTexts(PageTest):
         self.assertEqual(saved['tsv'], common.cdscript_prints('texts', '--list', mine, image))
         self.assertEqual(saved['tsv'].count('much too long'), 6 * 4)
         # A list that is imported changes the table.
-        mine.write_text(saved['tsv'].replace('The game starts.', 'Start!'))
+        mine.write_text(saved['tsv'].replace('The game starts.', 'Start!').replace('much too', 'also too'))
         self.browser.give('#panel-text input[accept^=".tsv"]', [mine])
         self.becomes(1, 2, 'Start!')
         self.becomes(1, 4, '6 of 34')
-        self.assertEqual(self.row(2)[2], 'much too long ' * 4)
+        self.becomes(2, 2, 'also too long ' * 4)
         # So does an edit of the script.
         self.browser.click('#tab-script')
         self.browser.click('.editor textarea')
