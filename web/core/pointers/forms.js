@@ -22,7 +22,7 @@ export const MOST_CODES = 8;
  * @param {number} at
  * @param {Pick<PointerForm, 'width' | 'big'>} form
  */
-export function numberAt(bytes, at, { width, big }) {
+export function storedAt(bytes, at, { width, big }) {
     let number = 0;
     for (let i = 0; i < width; i++) number = number * 256 + bytes[at + (big ? i : width - 1 - i)];
     return number;

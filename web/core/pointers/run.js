@@ -1,6 +1,6 @@
 // A run of pointers: from one that is known, as far as the numbers at equal distances before and after it lead to texts.
 
-import { numberAt, targetOf } from './forms.js';
+import { storedAt, targetOf } from './forms.js';
 
 /** @typedef {import('./forms.js').PointerForm} PointerForm */
 /** @typedef {import('./starts.js').TextStarts} TextStarts */
@@ -34,7 +34,7 @@ const SHARE_MIXED = 0.2;
  */
 export function hitAt(file, form, texts, at) {
     if (at < 0 || at + form.width > file.bytes.length) return null;
-    const target = targetOf(form, at, numberAt(file.bytes, at, form));
+    const target = targetOf(form, at, storedAt(file.bytes, at, form));
     const text = texts.begunBy(target);
     return text < 0 ? null : { at, target, text, isFirst: texts.firsts[text] === target };
 }
@@ -80,7 +80,7 @@ function hitsFrom(file, form, texts, from, step) {
  * @param {number} at
  */
 function lowestAfter({ bytes }, form, at) {
-    const target = targetOf(form, at, numberAt(bytes, at, form));
+    const target = targetOf(form, at, storedAt(bytes, at, form));
     return target > at ? target : Infinity;
 }
 
@@ -114,7 +114,7 @@ function isLikelyLast(last, neighbour, isSure) {
 function withoutZeros({ bytes }, form, hits) {
     let first = 0;
     const isRepeated = (/** @type {number} */ i) => hits.some(({ text }, k) => k > i && text === hits[i].text);
-    while (first < hits.length && numberAt(bytes, hits[first].at, form) === 0 && isRepeated(first)) first += 1;
+    while (first < hits.length && storedAt(bytes, hits[first].at, form) === 0 && isRepeated(first)) first += 1;
     return hits.slice(first);
 }
 

@@ -3,7 +3,7 @@
 import { wholeOf } from '../bytes.js';
 import { Fault } from '../faults.js';
 import { filesOf, readerOfFile, wholeFile } from '../iso/index.js';
-import { numberAt, targetOf } from '../pointers/index.js';
+import { storedAt, targetOf } from '../pointers/index.js';
 import { pieceReader, sliceOf } from '../readers/index.js';
 import { isTurnDue, letOthersIn } from '../turns.js';
 import { applyInMemory } from './apply.js';
@@ -115,7 +115,7 @@ export async function checkMoved(calls, opened, script, planned, signal) {
         }
         for (const { table, file: holder, at, target } of file.leading) {
             if (isTurnDue()) await letOthersIn(signal);
-            const now = targetOf(table, at, numberAt(/** @type {Uint8Array} */ (patched.get(holder)), at, table));
+            const now = targetOf(table, at, storedAt(/** @type {Uint8Array} */ (patched.get(holder)), at, table));
             assertRight(now === (places.get(target) ?? target), holder, at);
         }
     }

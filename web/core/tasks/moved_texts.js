@@ -2,7 +2,7 @@
 
 import { firstAfter, sameBytes } from '../bytes.js';
 import { endOf, fillingAfter, withEnd } from '../encodings/index.js';
-import { MOST_CODES, numberAt } from '../pointers/index.js';
+import { MOST_CODES, storedAt } from '../pointers/index.js';
 import { isTurnDue, letOthersIn } from '../turns.js';
 
 /** @typedef {import('../encodings/encoding.js').Encoding} Encoding */
@@ -252,7 +252,7 @@ class LengthTables {
     addIfEqual(equal, bytes, at, width, field, size) {
         if (at < 0 || at + width > bytes.length) return;
         for (const big of width === 1 ? [false] : [false, true]) {
-            const more = numberAt(bytes, at, { width, big }) - size;
+            const more = storedAt(bytes, at, { width, big }) - size;
             const key = `${field} ${big} ${more}`;
             if (more >= 0 && more <= MOST_MORE) equal.set(key, (equal.get(key) || 0) + 1);
         }

@@ -4,7 +4,7 @@ import { firstAfter, wholeOf } from '../bytes.js';
 import { Fault } from '../faults.js';
 import { readerOfFile } from '../iso/index.js';
 import { USER_SIZE } from '../module/index.js';
-import { numberAt, placesOf, targetOf } from '../pointers/index.js';
+import { storedAt, placesOf, targetOf } from '../pointers/index.js';
 import { letOthersIn } from '../turns.js';
 import { filesByPath } from './find_pointers.js';
 import { extentRoom } from './replace_file.js';
@@ -187,7 +187,7 @@ function doubtfulTargets(table, file) {
     const before = Array.from({ length: BESIDE }, (_, i) => at - (i + 1) * distance);
     const after = Array.from({ length: BESIDE }, (_, i) => at + (count + i) * distance);
     const places = [...before, ...after].filter(it => it >= 0 && it + width <= file.size && !file.hasPointer(it, it + width));
-    return places.filter(it => numberAt(file.bytes, it, table) > 0).map(it => targetOf(table, it, numberAt(file.bytes, it, table)));
+    return places.filter(it => storedAt(file.bytes, it, table) > 0).map(it => targetOf(table, it, storedAt(file.bytes, it, table)));
 }
 
 /**
@@ -200,5 +200,5 @@ function pointersIn(table, file) {
     const { row, at, count, distance, width } = table;
     const after = at + (count - 1) * distance + width;
     if (after > file.size) throw new Fault('pointers/after-file', { row, path: file.path, size: file.size, after });
-    return placesOf(table).map(place => ({ table, file, at: place, target: targetOf(table, place, numberAt(file.bytes, place, table)) }));
+    return placesOf(table).map(place => ({ table, file, at: place, target: targetOf(table, place, storedAt(file.bytes, place, table)) }));
 }
