@@ -1,6 +1,6 @@
 // Pointers to texts: finding their tables, and laying out texts that are longer than their room.
 
-export { MOST_CODES, storedAt, numberFor, placesOf, putNumber, targetOf } from './forms.js';
+export { MOST_CODES, numberFor, placesOf, putNumber, storedAt, targetOf } from './forms.js';
 export { findPointerTables } from './find.js';
 export { layOut } from './layout.js';
 export { TextStarts } from './starts.js';

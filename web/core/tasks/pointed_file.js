@@ -4,7 +4,7 @@ import { firstAfter, wholeOf } from '../bytes.js';
 import { Fault } from '../faults.js';
 import { readerOfFile } from '../iso/index.js';
 import { USER_SIZE } from '../module/index.js';
-import { storedAt, placesOf, targetOf } from '../pointers/index.js';
+import { placesOf, storedAt, targetOf } from '../pointers/index.js';
 import { letOthersIn } from '../turns.js';
 import { filesByPath } from './find_pointers.js';
 import { extentRoom } from './replace_file.js';
