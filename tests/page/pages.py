@@ -124,7 +124,9 @@ class PageTest(unittest.TestCase):
         self.wait_for_hash()
 
     def wait_for_hash(self) -> None:
-        self.browser.wait('#disc-line .sha1')
+        """Waits until an image has been read completely. A phone folds its hash."""
+        if not self.browser.awaited("document.querySelector('#disc-line .sha1') !== null"):
+            raise AssertionError('the image has no hash')
 
     def open_script(self, file: Path) -> None:
         self.open_files(file)

@@ -186,7 +186,8 @@ class Disc(PageTest):
             with self.subTest(sheets=len(sheets)):
                 self.setUp()
                 browser = self.opened(file_of(audio), *sheets)
-                browser.wait(VERDICT, 'No Mode 1 sectors: this is audio, or Mode 2')
+                browser.wait(VERDICT, common.text('imageNoModeOne'))
+                browser.wait(VERDICT, common.text('imageCanBeLookedAt'))
                 browser.wait('.sha1', sha1(audio))
                 browser.send('#map', Keys.END)
                 waited(lambda: self.place() == 'Block 499, no sync field: audio, or an unknown format', self.place())
@@ -429,7 +430,7 @@ class Disc(PageTest):
             browser = self.opened(file_of(discs.game() if shown else image_of([b'no volume'] * 30)))
             browser.wait('.sha1')
             waited(lambda: bool(self.pixels('--k-shade')) == shown and self.pixels('--k-mode1'), f'another shade: {not shown}')
-            self.assertEqual('two shades' in browser.text('#panel-disc header'), shown)
+            self.assertEqual('different shades' in browser.text('#panel-disc header'), shown)
             self.setUp()
 
     def test_a_sound_disc_begins_with_the_sector_of_its_first_file(self) -> None:

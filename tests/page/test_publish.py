@@ -474,7 +474,7 @@ class Player(PageTest):
         self.browser.wait('#disc-line .name', 'mine.bin')
         self.wait_for_hash()
         self.browser.click('#tab-publish')
-        self.browser.wait('#panel-publish .mark-row', ' fit')
+        self.browser.wait('#panel-publish .mark-row', ' match')
         self.press('Save as a patcher')
         return self.browser.downloaded('Starlit Detective in English.html').read_bytes()
 

@@ -77,7 +77,7 @@ class Second(PageTest):
                 waited(lambda: self.pressed_entries() == [], 'an entry is pressed')
                 self.browser.click('#tab-script')
                 self.open_files(discs.written(one='cdpatch 1\nrebuild 1\n')['one'])
-                self.browser.wait('#panel-script .side .say', 'fit')
+                self.browser.wait('#panel-script .side .say', ' match')
 
     def test_a_repair_takes_what_is_damaged_here_and_sound_there_and_nothing_else(self) -> None:
         first = bytearray(with_faults((40, 9), (60, 9), (80, 9)))
