@@ -1,6 +1,6 @@
 /** libcdpatch: the codes of CD-ROM sectors (ECMA-130), what cdpatch finds in sectors, scripts of patches, and the commands of cdpatch on
- * images in memory. cc .. -lcdpatch; libcdpatch(3). What each call of libcdpatch for Linux on x86-64 returns and writes is proved; its
- * header and its linking are only tested.
+ * images in memory. cc .. -lcdpatch; libcdpatch(3). The results and the output of each libcdpatch call are proved for Linux on x86-64,
+ * except which bytes cdpatch_correct_sector corrects; the header and the linking are only tested.
  *
  * The simplest program patches an image in memory by one call:
  *
@@ -87,7 +87,8 @@ enum cdpatch_result { CDPATCH_RESULT_OK, CDPATCH_RESULT_NOT_MODE1, CDPATCH_RESUL
 enum cdpatch_status { CDPATCH_STATUS_DONE, CDPATCH_STATUS_FOUND, CDPATCH_STATUS_FAILED };
 /** Kinds of sectors, by sync field and mode byte; CDPATCH_KIND_OTHER is a mode byte above 2. */
 enum cdpatch_sector_kind { CDPATCH_KIND_NOSYNC, CDPATCH_KIND_MODE0, CDPATCH_KIND_MODE1, CDPATCH_KIND_MODE2, CDPATCH_KIND_OTHER };
-/** Whether a copy replaces a sector, and what both have in common: the header and the user data, or the EDC field, whatever else. */
+/** How well the copy that replaces a sector fits it. NONE: there is no such copy. NEITHER: EDC field and data are different. DATA: the header
+ * and the user data are the same, and the EDC field is not. EDC: the EDC field is the same. */
 enum cdpatch_fit { CDPATCH_FIT_NONE, CDPATCH_FIT_NEITHER, CDPATCH_FIT_DATA, CDPATCH_FIT_EDC };
 /** What a patch does. */
 enum cdpatch_verb { CDPATCH_VERB_SET, CDPATCH_VERB_FILL, CDPATCH_VERB_REBUILD, CDPATCH_VERB_ADDRESS };
@@ -204,13 +205,14 @@ enum cdpatch_result cdpatch_carry_address(uint8_t sector[CDPATCH_AT_LEAST 2352],
 
 /** @}
  * @name Repairs of a Mode 1 sector
- * A consistent sector stays as it is, and a damaged one becomes a consistent one, or stays. Damage may be deliberate, so ask before you
- * repair it.
+ * cdpatch_correct_sector changes only a damaged Mode 1 sector. cdpatch_merge_sector chooses a copy for every sector that is not a
+ * consistent Mode 1 sector, also for audio and Mode 2, so call it only for sectors that should be Mode 1. Damage may be deliberate, so ask
+ * before you repair it.
  * @{ */
 
-/** Chooses, among `count` copies of a sector in other dumps, the one that replaces it. Those that are consistent and have the address can:
- * the first of them that fits best, with the highest number. Writes its place among the copies, from 0 on. For CDPATCH_FIT_NONE, also if
- * the sector is consistent, writes nothing. For CDPATCH_FIT_NEITHER nothing in the sector confirms the copy. */
+/** Chooses, among `count` copies of a sector in other dumps, the one that replaces it. A copy can replace it if the copy is consistent and
+ * has the address; of these, the first with the highest fit is chosen. Writes its place among the copies, from 0 on. For CDPATCH_FIT_NONE,
+ * also if the sector is consistent, writes nothing. For CDPATCH_FIT_NEITHER nothing in the sector confirms the copy. */
 CDPATCH_NODISCARD
 enum cdpatch_fit cdpatch_merge_sector(const uint8_t address[CDPATCH_AT_LEAST 3], const uint8_t sector[CDPATCH_AT_LEAST 2352],
                                       const uint8_t *copies, size_t count, size_t place[CDPATCH_AT_LEAST 1]);
@@ -318,7 +320,7 @@ size_t cdpatch_run_begin(struct cdpatch_run run[CDPATCH_AT_LEAST 1], const uint8
  * run with CDPATCH_STATUS_FAILED and the line `cdpatch: reading the image failed`.
  *
  * The script and the entries are those of cdpatch_run_begin. `hand` is a buffer of at least three `sectors`, of which only three are used
- * today. Its bytes must be kept between calls; those of `rooms` need not be. The call returns whatever bytes these buffers contain. It
+ * today. Its bytes must be kept between calls; those of `rooms` need not be. Whatever bytes these buffers contain, the call returns. It
  * writes END with CDPATCH_STATUS_FAILED if there are fewer than three sectors, if more bytes were moved than requested, or if fewer were
  * written or logged. A state of zeros may be that of a finished run: call cdpatch_run_begin first. */
 void cdpatch_run_next(struct cdpatch_run run[CDPATCH_AT_LEAST 1], size_t done, const uint8_t *script, size_t script_size,
