@@ -87,8 +87,8 @@ enum cdpatch_result { CDPATCH_RESULT_OK, CDPATCH_RESULT_NOT_MODE1, CDPATCH_RESUL
 enum cdpatch_status { CDPATCH_STATUS_DONE, CDPATCH_STATUS_FOUND, CDPATCH_STATUS_FAILED };
 /** Kinds of sectors, by sync field and mode byte; CDPATCH_KIND_OTHER is a mode byte above 2. */
 enum cdpatch_sector_kind { CDPATCH_KIND_NOSYNC, CDPATCH_KIND_MODE0, CDPATCH_KIND_MODE1, CDPATCH_KIND_MODE2, CDPATCH_KIND_OTHER };
-/** How well the copy that replaces a sector fits it. NONE: there is no such copy. NEITHER: EDC field and data are different. DATA: the header
- * and the user data are the same, and the EDC field is not. EDC: the EDC field is the same. */
+/** How well the copy that replaces a sector fits it. NONE: there is no such copy. NEITHER: EDC field and data are different. DATA: header
+ * and user data are the same, and the EDC field is not. EDC: the EDC field is the same. */
 enum cdpatch_fit { CDPATCH_FIT_NONE, CDPATCH_FIT_NEITHER, CDPATCH_FIT_DATA, CDPATCH_FIT_EDC };
 /** What a patch does. */
 enum cdpatch_verb { CDPATCH_VERB_SET, CDPATCH_VERB_FILL, CDPATCH_VERB_REBUILD, CDPATCH_VERB_ADDRESS };
