@@ -29,10 +29,12 @@ WHOLE = {'cdpatch', 'carry', 'rebuild', 'was', 'cdpatch check', 'cdpatch apply',
 
 # Parts of texts without marks: names, hashes, lines of a script, the browser's own words, and input from the tests.
 WITHIN = [
-    r'\b(?=[a-f]*\d)[0-9a-f]{8,}\b', r'\b(esbuild|zlib|cdpatch) [\d.]+', '^cdpatch: ', 'Shift-JIS', r'\bWindows-125\d\b', r'\baudit\b', r'\bset \d+ \d+ [0-9A-F]+ was [0-9A-F]+',
+    r'\b[0-9a-f]{8,}\b', r'\b(esbuild|zlib|cdpatch) [\d.]+', '^cdpatch: ', 'Shift-JIS', r'\bWindows-125\d\b', r'\baudit\b', r'\bset \d+ \d+ [0-9A-F]+ was [0-9A-F]+',
     'set, fill, rebuild(, address)?', r'\d and \d',  # Intl.ListFormat
     r'Hoshizora Tantei \(Japan\).bin', r'english\.txt', 'Starlit Detective in English', 'Team Comet · version', '^All menus and chapters .*', '^Start␣*$',
-    '^Continue␣*$', '^New game␣*$', r'^Set\.$', '^Cont$', '^much too long .*', '^also too long .*',
+    '^Continue␣*$', '^New game␣*$', r'^Set\.$', '^Cont$', '^much too long .*', '^also too long .*', r'^(Start a new game|The game starts)\.␣*$',
+    r'^Do you want to save first, or go on playing\?', r'^The door is locked\. Is there anybody inside\?', r'^Enter the detective\. The case goes on\.',
+    r'^Save\?␣*$', r'^The end\.␣*$', '^It is lo$',
 ]
 
 # English texts from the module and the core's sentences, by their source.
