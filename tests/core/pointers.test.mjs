@@ -291,7 +291,7 @@ test('a script that is not as it was planned is refused before it is written', a
     const all = [[0, file.size]];
     await check(planned(movable, places, all));
     const wrong = {
-        'a text is elsewhere': planned(movable, places.with(0, places[0] + 1), all), 'a pointer moved that no text has': planned(movable.slice(1), places.slice(1), all),
+        'a text is elsewhere': planned(movable, places.map((it, i) => i === 0 ? it + 1 : it), all), 'a pointer moved that no text has': planned(movable.slice(1), places.slice(1), all),
         'a text is different': planned(movable.map((it, i) => i === 0 ? { ...it, bytes: Uint8Array.from(it.bytes, byte => byte ^ 1) } : it), places, all),
         'a byte elsewhere differs': planned(movable, places, []),
     };
