@@ -48,7 +48,7 @@ function placeIn({ first, after }, { first: old, bytes, align, least, most }) {
  * A key that texts with the same bytes share.
  * @param {Movable} text
  */
-function keyOf({ bytes, align, first }) {
+function layoutKeyOf({ bytes, align, first }) {
     return `${first % align} ${align} ${hexText(bytes)}`;
 }
 
@@ -68,14 +68,14 @@ function sizeOf(spans) {
  */
 async function laidOut(staying, moving, end, signal) {
     const places = new Map(staying.map(it => [it, it.first]));
-    const shared = new Map(staying.map(it => [keyOf(it), it.first]));
+    const shared = new Map(staying.map(it => [layoutKeyOf(it), it.first]));
     const spans = joinedSpans([...moving, ...staying.map(({ first, bytes, after }) => ({ first: first + bytes.length, after }))]);
     const ranges = new FreeRanges(spans);
     let [used, needed, unplaced] = [end.first, 0, 0];
     for (const text of [...moving].sort((a, b) => b.bytes.length - a.bytes.length)) {
         if (isTurnDue()) await letOthersIn(signal);
         const { bytes, least, most } = text;
-        const key = keyOf(text);
+        const key = layoutKeyOf(text);
         const known = shared.get(key);
         if (known !== undefined && known >= least && known <= most) {
             places.set(text, known);

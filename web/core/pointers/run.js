@@ -32,7 +32,7 @@ const SHARE_MIXED = 0.2;
  * @param {number} at
  * @returns {Hit | null}
  */
-export function hitAt(file, form, texts, at) {
+export function pointerHitAt(file, form, texts, at) {
     if (at < 0 || at + form.width > file.bytes.length) return null;
     const target = targetOf(form, at, storedAt(file.bytes, at, form));
     const text = texts.begunBy(target);
@@ -62,7 +62,7 @@ function hitsFrom(file, form, texts, from, step) {
         const around = own === null ? -1 : own.firstAround(at);
         if (around >= 0 && step < 0) break;
         if (around >= 0 && around !== entered && (around <= at - step || misses > 0)) break;
-        const hit = hitAt(file, form, texts, at);
+        const hit = pointerHitAt(file, form, texts, at);
         if (around >= 0 && (hit === null || !hit.isFirst)) break;
         entered = around >= 0 ? around : entered;
         misses = hit === null ? misses + 1 : 0;
@@ -165,7 +165,7 @@ function leadingOut(hits, width) {
  */
 export function runAround(file, form, texts, at, distance) {
     const [before, after] = [-distance, distance].map(step => hitsFrom(file, form, texts, at, step));
-    const known = hitAt(file, form, texts, at);
+    const known = pointerHitAt(file, form, texts, at);
     const all = [...before.hits.reverse(), ...known === null ? [] : [known], ...after.hits];
     const out = file.own === texts ? leadingOut(all, form.width) : all;
     const afterZeros = withoutZeros(file, form, out);

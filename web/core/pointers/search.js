@@ -2,7 +2,7 @@
 
 import { isTurnDue, letOthersIn } from '../turns.js';
 import { mixed } from './differences.js';
-import { hitAt, runAround } from './run.js';
+import { pointerHitAt, runAround } from './run.js';
 import { runsByVotes } from './votes.js';
 
 /** @typedef {import('../turns.js').Signal} Signal */
@@ -18,11 +18,11 @@ const DISTANCES = /** @type {[number, number[]][]} */ ([
 ]);
 
 /** How many numbers are looked at before other tasks get a turn. */
-const AT_ONCE = 1 << 15;
+const SEARCHED_AT_ONCE = 1 << 15;
 
 /** How many places runs may look at for each byte of a file: many runs over the same bytes are no tables. */
 const STEPS_A_BYTE = 4;
-const LEAST_STEPS = 1 << 16;
+const LEAST_RUN_STEPS = 1 << 16;
 
 /** A mixed table: this many pointers in a row, of which some lead to the first byte of a text. */
 const MIXED_POINTERS = 8;
@@ -41,7 +41,7 @@ class Search {
         this.signal = signal;
         /** @type {Run[]} */
         this.runs = [];
-        this.steps = STEPS_A_BYTE * file.bytes.length + LEAST_STEPS;
+        this.steps = STEPS_A_BYTE * file.bytes.length + LEAST_RUN_STEPS;
         /** @type {Map<string, number>} where the last run of a kind ends */
         this.ends = new Map();
     }
@@ -55,9 +55,9 @@ class Search {
         const { bytes } = this.file;
         const numbers = new Uint32Array(Math.max(bytes.length - width + 1, 0));
         const shifts = Array.from({ length: width }, (_, i) => 8 * (big ? width - 1 - i : i));
-        for (let from = 0; from < numbers.length; from += AT_ONCE) {
+        for (let from = 0; from < numbers.length; from += SEARCHED_AT_ONCE) {
             if (isTurnDue()) await letOthersIn(this.signal);
-            const end = Math.min(from + AT_ONCE, numbers.length);
+            const end = Math.min(from + SEARCHED_AT_ONCE, numbers.length);
             for (const [i, shift] of shifts.entries()) for (let at = from; at < end; at++) numbers[at] |= bytes[at + i] << shift;
         }
         return numbers;
@@ -72,9 +72,9 @@ class Search {
      */
     async byDifferences(numbers, form, distance, own) {
         const last = numbers.length - 3 * distance;
-        for (let from = 0; from < last; from += AT_ONCE) {
+        for (let from = 0; from < last; from += SEARCHED_AT_ONCE) {
             if (isTurnDue()) await letOthersIn(this.signal);
-            const end = Math.min(from + AT_ONCE, last);
+            const end = Math.min(from + SEARCHED_AT_ONCE, last);
             for (let at = this.nextAlike(numbers, distance, own, from, end); at < end;) {
                 this.addRuns(numbers, form, distance, own, at);
                 at = this.nextAlike(numbers, distance, own, at + 1, end);
@@ -150,7 +150,7 @@ class Search {
     async byRows(numbers, form, texts) {
         for (const fromTable of [false, true]) {
             for (let at = 0; at < numbers.length; at++) {
-                if (at % AT_ONCE === 0 && isTurnDue()) await letOthersIn(this.signal);
+                if (at % SEARCHED_AT_ONCE === 0 && isTurnDue()) await letOthersIn(this.signal);
                 const base = fromTable ? at : 0;
                 if (!texts.isNear(numbers[at] + base)) continue;
                 const wanted = { ...form, base, own: false, unit: 1 };
@@ -169,7 +169,7 @@ class Search {
         if (texts.firstAround(from) >= 0) return false;
         let firsts = 0;
         for (let i = 0; i < MIXED_POINTERS; i++) {
-            const hit = hitAt(this.file, form, texts, from + i * form.width);
+            const hit = pointerHitAt(this.file, form, texts, from + i * form.width);
             if (hit === null) return false;
             firsts += Number(hit.isFirst);
         }

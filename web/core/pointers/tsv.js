@@ -9,7 +9,7 @@ import { letOthersIn } from '../turns.js';
 /** @typedef {import('./forms.js').PointerTable} PointerTable */
 /** @typedef {PointerTable & { row: number }} ListedTable a table with the number of its row */
 
-const COLUMNS = ['file', 'offset', 'count', 'distance', 'width', 'order', 'base', 'unit', 'texts', 'begins'];
+const TABLE_COLUMNS = ['file', 'offset', 'count', 'distance', 'width', 'order', 'base', 'unit', 'texts', 'begins'];
 /** Columns that need not be there. */
 const OPTIONAL = ['begins'];
 
@@ -20,7 +20,7 @@ const SELF = 'self';
 const BASE = /^(self)?(?:([+-]?)(0x[0-9a-f]{1,12}|\d{1,15}))?$/i;
 
 /** The most bytes of the list, and the most pointers of all its tables. */
-const MOST_BYTES = 1 << 24;
+const MOST_LIST_BYTES = 1 << 24;
 const MOST_POINTERS = 1 << 18;
 
 /**
@@ -42,18 +42,18 @@ export function pointerList(tables) {
         const form = [8 * it.width, ORDERS[Number(it.big)], baseText(it), it.unit];
         return [visible(it.path), it.at, it.count, it.distance, ...form, visible(it.texts), it.begins];
     });
-    return [COLUMNS, ...rows].map(cells => rowText(cells, '\t')).join('');
+    return [TABLE_COLUMNS, ...rows].map(cells => rowText(cells, '\t')).join('');
 }
 
 /**
  * The first row of a list that names the columns, and the mark between cells. Throws a Fault if the first row does not.
  * @param {string} text
  */
-function headOf(text) {
+function tableHeadOf(text) {
     const heads = MARKS.map(mark => {
         const [first] = new Table(text, mark).rows();
         const names = first === undefined ? [] : first.cells.map(it => it.trim().toLowerCase());
-        return { mark, names, missing: COLUMNS.filter(name => !OPTIONAL.includes(name) && !names.includes(name)) };
+        return { mark, names, missing: TABLE_COLUMNS.filter(name => !OPTIONAL.includes(name) && !names.includes(name)) };
     });
     const [head] = heads.sort((a, b) => a.missing.length - b.missing.length);
     if (head.missing.length > 0) throw new Fault('pointers/no-column', { columns: head.missing });
@@ -116,7 +116,7 @@ class Cells {
         const width = this.oneOf('width', [8 * 2, 8 * 3, 8 * 4]) / 8;
         return {
             row: this.row, path: this.cell('file'), texts: this.cell('texts'), at: this.whole('offset', 0, most),
-            count: this.whole('count', 1, MOST_POINTERS), distance: this.whole('distance', width, MOST_BYTES), width,
+            count: this.whole('count', 1, MOST_POINTERS), distance: this.whole('distance', width, MOST_LIST_BYTES), width,
             big: this.oneOf('order', ORDERS) === ORDERS[1], ...this.base(), unit: this.oneOf('unit', [1, 2, 4]),
             begins: this.cell('begins') === '' ? 0 : this.whole('begins', 0, MOST_POINTERS),
         };
@@ -130,9 +130,9 @@ class Cells {
  * @returns {Promise<ListedTable[]>}
  */
 export async function tablesOfList(reader, signal) {
-    if (reader.size > MOST_BYTES) throw new Fault('pointers/too-large', { size: reader.size, most: MOST_BYTES });
+    if (reader.size > MOST_LIST_BYTES) throw new Fault('pointers/too-large', { size: reader.size, most: MOST_LIST_BYTES });
     const text = await longTextOf(reader, signal);
-    const { mark, names } = headOf(text);
+    const { mark, names } = tableHeadOf(text);
     /** @type {ListedTable[]} */
     const tables = [];
     let pointers = 0;

@@ -9,13 +9,13 @@ import { isTurnDue, letOthersIn } from '../turns.js';
 /** @typedef {import('./starts.js').TextStarts} TextStarts */
 
 /** The largest file that is searched for single pointers: code is not larger. */
-const MOST_BYTES = 1 << 22;
+const MOST_VOTING_BYTES = 1 << 22;
 
 /** How many texts vote, how many of their votes a place needs, and how many places are tried. */
 const VOTERS = 16;
 const LEAST_VOTES = 6;
 const SHARE = 0.5;
-const MOST_TRIED = 3;
+const MOST_VOTES_TRIED = 3;
 
 /** The share of all texts that have to have a single pointer. */
 const SHARE_OF_TEXTS = 0.4;
@@ -116,7 +116,7 @@ async function basesOf(numbers, voters, signal) {
     await eachPart(numbers, part => countVotes(counters, voters, part), signal);
     await eachPart(numbers, part => collectVotes(votes, { counters, least }, voters, part), signal);
     const found = [...votes].filter(([, count]) => count >= least);
-    return found.sort((a, b) => b[1] - a[1]).slice(0, MOST_TRIED).map(([base]) => base);
+    return found.sort((a, b) => b[1] - a[1]).slice(0, MOST_VOTES_TRIED).map(([base]) => base);
 }
 
 /**
@@ -130,7 +130,7 @@ async function basesOf(numbers, voters, signal) {
 export async function runsByVotes(file, numbers, big, texts, signal) {
     /** @type {Run[]} */
     const runs = [];
-    if (file.bytes.length > MOST_BYTES || texts.count < LEAST_VOTES) return runs;
+    if (file.bytes.length > MOST_VOTING_BYTES || texts.count < LEAST_VOTES) return runs;
     const distinct = await distinctOf(numbers, signal);
     for (const voted of await basesOf(distinct, votersOf(texts), signal)) {
         // The address at which the file is loaded may have the highest bit.

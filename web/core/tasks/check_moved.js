@@ -23,7 +23,7 @@ import { validScript } from './script_for.js';
  */
 
 /** How many bytes are compared before other tasks get a turn. */
-const COMPARED_AT_ONCE = 1 << 16;
+const CHECKED_AT_ONCE = 1 << 16;
 
 /**
  * The bytes of files on the patched disc, as its own directories name them.
@@ -108,9 +108,9 @@ export async function checkMoved(calls, opened, script, planned, signal) {
     for (const [file, { free, places }] of expected) {
         const bytes = /** @type {Uint8Array} */ (patched.get(file));
         const size = Math.max(bytes.length, file.size);
-        for (let from = 0; from < size; from += COMPARED_AT_ONCE) {
+        for (let from = 0; from < size; from += CHECKED_AT_ONCE) {
             if (isTurnDue()) await letOthersIn(signal);
-            const end = Math.min(from + COMPARED_AT_ONCE, size);
+            const end = Math.min(from + CHECKED_AT_ONCE, size);
             for (let at = from; at < end; at++) if (free[at] !== 1) assertRight(bytes[at] === file.bytes[at], file, at);
         }
         for (const { table, file: holder, at, target } of file.leading) {

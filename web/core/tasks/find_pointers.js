@@ -16,11 +16,11 @@ import { letOthersIn } from '../turns.js';
 /** @typedef {import('./opened.js').OpenedTrack} OpenedTrack */
 
 /** The fewest texts of a file to which pointers are searched. */
-const LEAST_TEXTS = 4;
+const LEAST_POINTED_TEXTS = 4;
 
 /** The largest file with texts, and the largest other file, in which pointers are searched: larger ones are mostly sound and pictures. */
-const MOST_BYTES = 1 << 25;
-const MOST_BYTES_WITHOUT_TEXTS = 1 << 20;
+const MOST_SEARCHED = 1 << 25;
+const MOST_SEARCHED_WITHOUT_TEXTS = 1 << 20;
 
 /** Collects the ranges of listed texts by their files. */
 export class ListedSpans {
@@ -83,7 +83,7 @@ async function* searchedFiles(part, files, starts, { signal, progress }) {
         if (progress) progress(done, files.size);
         done += 1;
         const own = starts.get(path) || null;
-        if (file.size > (own === null ? MOST_BYTES_WITHOUT_TEXTS : MOST_BYTES)) continue;
+        if (file.size > (own === null ? MOST_SEARCHED_WITHOUT_TEXTS : MOST_SEARCHED)) continue;
         yield { path, bytes: await wholeOf(readerOfFile(part, file).reader), own };
     }
 }
@@ -103,7 +103,7 @@ export async function findPointers(opened, { spans }, watch = {}) {
     for (const [path, texts] of spans) {
         await letOthersIn(watch.signal);
         const file = files.get(path);
-        if (file === undefined || file.size > MOST_BYTES || texts.length < LEAST_TEXTS) continue;
+        if (file === undefined || file.size > MOST_SEARCHED || texts.length < LEAST_POINTED_TEXTS) continue;
         starts.set(path, new TextStarts(path, await wholeOf(readerOfFile(part, file).reader), texts));
     }
     const tables = await findPointerTables([...starts.values()], searchedFiles(part, files, starts, watch), watch.signal);

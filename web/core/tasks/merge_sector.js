@@ -76,17 +76,17 @@ export function hasSameContents(own, copy) {
  * @param {C[]} copies sound ones with this address
  */
 function fittingCopies(calls, address, own, copies) {
-    const mode1 = copies.filter(({ bytes }) => !isMode2(bytes));
+    const mode1 = copies.filter(({ bytes }) => !isOfMode2(bytes));
     const choice = mode1.length > 0 ? calls.mergeSector(address, own.bytes, mode1.map(({ bytes }) => bytes)) : null;
     const chosen = choice && mode1[choice.place];
     return copies.flatMap(copy => {
-        if (isMode2(copy.bytes)) return [{ copy, fit: fitOfMode2(own.bytes, copy.bytes) }];
+        if (isOfMode2(copy.bytes)) return [{ copy, fit: fitOfMode2(own.bytes, copy.bytes) }];
         return choice && copy === chosen ? [{ copy, fit: choice.fit }] : [];
     });
 }
 
 /** @param {Uint8Array} sector a sound one */
-function isMode2(sector) {
+function isOfMode2(sector) {
     return sector[MODE_OFFSET] === 2;
 }
 

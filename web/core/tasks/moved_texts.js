@@ -22,8 +22,8 @@ import { isTurnDue, letOthersIn } from '../turns.js';
 /** @typedef {{ text: PointedRow, reason: StayReason }} StayingText a text that stays in place, and why */
 
 /** A byte that follows at least this many texts, and more than half of all in a file, ends them. */
-const LEAST_ENDED = 6;
-const FULL = 0xFF;
+const LEAST_ENDED_ALIKE = 6;
+const FILLED_BYTE = 0xFF;
 
 /** A control code does not end texts if it is before a 00 in more than this share of them. */
 const SHARE_BEFORE_ZERO = 0.1;
@@ -42,14 +42,14 @@ const MOST_MEASURED = 1024;
  * @param {PointedRow[]} texts
  */
 function usualEndOf({ bytes, targets }, texts) {
-    const places = texts.length < LEAST_ENDED ? targets.map(target => target - 1) : texts.map(({ at, known }) => at + known);
+    const places = texts.length < LEAST_ENDED_ALIKE ? targets.map(target => target - 1) : texts.map(({ at, known }) => at + known);
     const counts = new Uint32Array(256);
     for (const at of places) counts[bytes[at] || 0] += 1;
     const most = counts.indexOf(Math.max(...counts));
-    if (counts[most] < LEAST_ENDED || 2 * counts[most] <= places.length) return 0;
+    if (counts[most] < LEAST_ENDED_ALIKE || 2 * counts[most] <= places.length) return 0;
     // A code before a 00 belongs to the text, as the end of a line does.
     const beforeZero = places.filter(at => bytes[at] === most && bytes[at + 1] === 0).length;
-    return most === FULL || isCodeByte(most) && beforeZero <= SHARE_BEFORE_ZERO * places.length ? most : 0;
+    return most === FILLED_BYTE || isCodeByte(most) && beforeZero <= SHARE_BEFORE_ZERO * places.length ? most : 0;
 }
 
 /** @param {number} byte whether it is a control code other than a tab or a line end */
@@ -194,8 +194,8 @@ const LENGTH_WIDTHS = [1, 2, 4];
 const MOST_MORE = 2;
 
 /** How far from a pointer its length may be, in bytes: within the distance of the pointers of its table, but not less or more. */
-const LEAST_BESIDE = 8;
-const MOST_BESIDE = 32;
+const LEAST_LENGTH_BESIDE = 8;
+const MOST_LENGTH_BESIDE = 32;
 
 /** Tables that have the length of each text beside its pointer, or before the text. Such a text cannot have a new length. */
 class LengthTables {
@@ -232,7 +232,7 @@ class LengthTables {
         const { distance, width: own } = table;
         for (const width of LENGTH_WIDTHS) {
             this.addIfEqual(counts.equal, this.file.bytes, target - width, width, `text ${width} at`, size);
-            const near = Math.max(Math.min(distance, MOST_BESIDE), LEAST_BESIDE);
+            const near = Math.max(Math.min(distance, MOST_LENGTH_BESIDE), LEAST_LENGTH_BESIDE);
             for (let shift = own - near; shift + width <= near; shift++) {
                 const isBeside = shift + width <= 0 || shift >= own;
                 if (isBeside) this.addIfEqual(counts.equal, bytes, at + shift, width, `pointer ${shift}: ${width} at`, size);

@@ -18,7 +18,7 @@ import { extentRoom } from './replace_file.js';
 /** @typedef {{ table: ListedTable, file: PointedFile, at: number, target: number }} Pointer its file and place there, and where it leads */
 
 /** The largest file that is read. */
-const MOST_BYTES = 1 << 26;
+const MOST_POINTED = 1 << 26;
 
 /** A file that has pointers, or texts to which pointers lead. */
 export class PointedFile {
@@ -143,7 +143,7 @@ export async function openPointedFiles(opened, tables, signal) {
         const known = files.get(path);
         if (known !== undefined) return known;
         const file = named.get(path);
-        if (file === undefined || file.size > MOST_BYTES) throw new Fault('pointers/no-file', { row, path, most: MOST_BYTES });
+        if (file === undefined || file.size > MOST_POINTED) throw new Fault('pointers/no-file', { row, path, most: MOST_POINTED });
         const { bytes, placeOf } = await sectorsOfWholeFile(part, file);
         const made = new PointedFile(file, bytes, placeOf);
         files.set(path, made);
@@ -174,7 +174,7 @@ export async function openPointedFiles(opened, tables, signal) {
 }
 
 /** How many numbers beside each end of a table are looked at: they may be pointers that the table lacks. */
-const BESIDE = 8;
+const NEARBY = 8;
 
 /**
  * The places to which the numbers before and after a table lead that are not pointers of a table themselves. Zeros are too frequent.
@@ -184,8 +184,8 @@ const BESIDE = 8;
 function doubtfulTargets(table, file) {
     const { at, count, distance, width } = table;
     if (count === 1) return [];
-    const before = Array.from({ length: BESIDE }, (_, i) => at - (i + 1) * distance);
-    const after = Array.from({ length: BESIDE }, (_, i) => at + (count + i) * distance);
+    const before = Array.from({ length: NEARBY }, (_, i) => at - (i + 1) * distance);
+    const after = Array.from({ length: NEARBY }, (_, i) => at + (count + i) * distance);
     const places = [...before, ...after].filter(it => it >= 0 && it + width <= file.size && !file.hasPointer(it, it + width));
     return places.filter(it => storedAt(file.bytes, it, table) > 0).map(it => targetOf(table, it, storedAt(file.bytes, it, table)));
 }
