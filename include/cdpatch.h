@@ -87,7 +87,7 @@ enum cdpatch_result { CDPATCH_RESULT_OK, CDPATCH_RESULT_NOT_MODE1, CDPATCH_RESUL
 enum cdpatch_status { CDPATCH_STATUS_DONE, CDPATCH_STATUS_FOUND, CDPATCH_STATUS_FAILED };
 /** Kinds of sectors, by sync field and mode byte; CDPATCH_KIND_OTHER is a mode byte above 2. */
 enum cdpatch_sector_kind { CDPATCH_KIND_NOSYNC, CDPATCH_KIND_MODE0, CDPATCH_KIND_MODE1, CDPATCH_KIND_MODE2, CDPATCH_KIND_OTHER };
-/** How well the copy that replaces a sector fits it. NONE: there is no such copy. NEITHER: EDC field and data are different. DATA: header
+/** How well the copy that replaces a sector fits it. NONE: no copy can replace it. NEITHER: EDC field and data are different. DATA: header
  * and user data are the same, and the EDC field is not. EDC: the EDC field is the same. */
 enum cdpatch_fit { CDPATCH_FIT_NONE, CDPATCH_FIT_NEITHER, CDPATCH_FIT_DATA, CDPATCH_FIT_EDC };
 /** What a patch does. */
@@ -176,7 +176,7 @@ void cdpatch_find_defect(const uint8_t sector[CDPATCH_AT_LEAST 2352], struct cdp
  * from 0 to 42, and 2248 + D and 2300 + D. If one byte of 12 to 2247 is wrong, it is where the broken column and diagonal cross. */
 void cdpatch_find_broken(const uint8_t sector[CDPATCH_AT_LEAST 2352], uint8_t columns[CDPATCH_AT_LEAST 86],
                          uint8_t diagonals[CDPATCH_AT_LEAST 52]);
-/** Writes a record for each of `count` sectors, the first of which is block `block`, and returns true. If `room`, the number of records, is
+/** Writes a record for each of `count` sectors, which begin at block `block`, and returns true. If `room`, the number of records, is
  * not `count`, or a block is above 4294967294, returns false and writes nothing. */
 CDPATCH_NODISCARD
 bool cdpatch_survey(const uint8_t *sectors, size_t count, uint32_t block, struct cdpatch_record *records, size_t room);
@@ -226,7 +226,7 @@ bool cdpatch_correct_sector(uint8_t sector[CDPATCH_AT_LEAST 2352]);
  * Most programs should use a run of patches instead (below).
  *
  * Cut the text with cdpatch_first_line, and read each line with cdpatch_read_line. `version` is 0 until a head line is read, and then the
- * content of that line; `earlier` counts the patches. The first error makes the script invalid. If there is no head line, the error is
+ * content of that line; `earlier` counts the patches. The first error makes the script invalid. If the head line is missing, the error is
  * CDPATCH_CONTENT_NO_HEAD, in the line after the last one.
  *
  * Then sort the patches by `block`; those of equal blocks keep their order. Give each to cdpatch_apply_patch, with the sectors from its
@@ -235,8 +235,8 @@ bool cdpatch_correct_sector(uint8_t sector[CDPATCH_AT_LEAST 2352]);
  *
  * The program prints the line of a patch before it writes a sector of that block or of a later one. The last line follows the whole image.
  *
- * There is no call for two lines of cdpatch(1): those for a script of more than 67108864 bytes and for an image of more than 1000000
- * sectors. The second follows the lines of the patches within these sectors.
+ * No call below writes the lines of cdpatch(1) for a script of more than 67108864 bytes, and for an image of more than 1000000 sectors. The
+ * second line follows those of the patches within these sectors.
  * @{ */
 
 /** Finds the first line of a text, and returns true; the next line begins after `taken` bytes. For an empty text returns false and writes
@@ -319,8 +319,8 @@ size_t cdpatch_run_begin(struct cdpatch_run run[CDPATCH_AT_LEAST 1], const uint8
  * The last step is END with a status. Fewer bytes may be read or copied only if the image ends there. If its size is known, that ends the
  * run with CDPATCH_STATUS_FAILED and the line `cdpatch: reading the image failed`.
  *
- * The script and the entries are those of cdpatch_run_begin. `hand` is a buffer of at least three `sectors`, of which only three are used
- * today. Its bytes must be kept between calls; those of `rooms` need not be. Whatever bytes these buffers contain, the call returns. It
+ * The script and the entries are those of cdpatch_run_begin. `hand` is a buffer of at least three `sectors`; today only three are used.
+ * Its bytes must be kept between calls; those of `rooms` need not be. Whatever bytes these buffers contain, the call returns. It
  * writes END with CDPATCH_STATUS_FAILED if there are fewer than three sectors, if more bytes were moved than requested, or if fewer were
  * written or logged. A state of zeros may be that of a finished run: call cdpatch_run_begin first. */
 void cdpatch_run_next(struct cdpatch_run run[CDPATCH_AT_LEAST 1], size_t done, const uint8_t *script, size_t script_size,
