@@ -1,14 +1,17 @@
 #!/usr/bin/env python3
-"""Checks that the prover refuses wrong bodies: `bodies.py [--lanes N] [CRATE..]` tries those of these crates, or of all, over the libraries
-that `rt ci` or `make` has built. It prints the goal that refused each; the last line is 'N passed, M failed'.
+"""Checks that the prover refuses wrong bodies: `bodies.py [--lanes N] [--strict] [CRATE..]` tries those of these crates, or of all,
+over the libraries that `rt ci` or `make` has built. It prints the goal that refused each; the last line is 'N passed, M failed'.
 
 A crate's wrong bodies are its edits in `must-fail`, which rt tries too, and the tables `wrong-bodies/FILE.edits`, one for each source file.
 A block of a table is called FUNCTION.MISTAKE and has the rows of an edit. They are written to a separate directory for rt.
 
 `rt must-fail` checks a crate once for each edit, and spends most of a check on reading the libraries below it. Here one check has an edit
 of each function of the crate: functions are separated by contracts, so each edit affects only the goals of its own function. Such an edit
-counts if the check refuses a goal of that function for itself, not for a function that it calls. Every other edit (of a table or of several
-functions, one that only a caller refuses, one that cannot be read) is tried alone as rt does, and must be refused there."""
+counts if a goal of that function itself is left. Every other edit (of a table or of several functions, one that only a caller refuses) is
+tried alone, and counts if a goal of any function is left.
+
+A goal is left if the written proof does not fit it, or if there is none and `search` does not prove it. With --strict, a proof that names
+what the edit took away says nothing, since the edit may be right, and nor does a limit of the prover. Without it, these count too."""
 
 from __future__ import annotations
 
@@ -33,10 +36,12 @@ RT = Path(shutil.which('rt') or sys.exit('There is no rt on the path.')).resolve
 # The logic of the toolchain that proves.
 LOGIC = subprocess.run([RT, 'version'], stdout=subprocess.PIPE, text=True, check=True).stdout.partition('logic ')[2]
 FLAGS = ['--jobs', '1']
-# The verdicts of rt on a refused wrong body: True in release 13b, and words in 13f, which also has words for those that were accepted.
+# The verdicts of rt on a wrong body that count without --strict: True in release 13b, and words in 13f.
 REFUSED = (True, 'refused', 'limit')
 # A failure says nothing about the contract if a proof names something that the edit removed, or waits for a different proof.
 SAYS_LITTLE = re.compile(r'has no field|is not in scope|has no `|was not admitted|that depends? on')
+# The files of the written proof of a function. The other files in `proofs` are of lemmas.
+WRITTEN = 'Answers', 'Invariants', 'Proof'
 
 
 def module_of_rt() -> Any:
@@ -146,54 +151,76 @@ def rounds_of(edits: list[Edit], folder: str) -> list[tuple[list[Edit], dict[str
     return rounds
 
 
-def goals_refused(printed: str) -> dict[str, str]:
-    """By function name, the first goal that a check refused for the function itself."""
-    goals: dict[str, str] = {}
-    for line in printed.splitlines():
-        at = re.match(r'(?:\./)?proofs/(?:[^:]*/)?(\w+)/\w+\.antt:\d+:\d+: error: (.*)', line)
-        if at and not SAYS_LITTLE.search(at[2]):
-            goals.setdefault(at[1], at[2])
+def goals_left(done: subprocess.CompletedProcess[str], strict: bool) -> dict[str, str]:
+    """By function name, the first goal that a check has left. If it is strict, what `search` did not prove does not count in a function whose
+    written proof names something that is gone: such a goal may have that proof under a different name. A false constant can also refute a
+    lemma."""
+    if done.returncode != 1 or not done.stdout.rstrip('\n').split('\n')[-1].startswith('logic=not-proved'):
+        return {}
+    unfit: dict[str, str] = {}
+    unproved: dict[str, str] = {}
+    lost = set()
+    # The lines of a long message after its first one are indented.
+    for line in done.stdout.replace('\n  ', ' ').splitlines():
+        at = re.match(r'(?:\./)?proofs/(\S*?)(\w+)\.antt:\d+:\d+: error: (.*)', line)
+        name = at[1].split('/')[-2] if at and at[2] in WRITTEN else 'a lemma'
+        if at and SAYS_LITTLE.search(at[3]):
+            lost.add(name)
+        elif at:
+            unfit.setdefault(name, at[3])
         said = re.match(r'fn \w+::(\S+): (?:no proof|not proved)(.*)', line)
-        if said and ('`search` did not prove' in said[2] or said[2] == ''):
+        if said and ('`search` did not prove' in said[2] or (said[2] == '' and not strict)):
             path = [it for it in said[1].split('+')[0].split('::') if it != 'fn']
             # The goals of a closure belong to its function: fn::FUNCTION::CALL.
             name = said[1].split('fn::')[1].split('::')[0] if 'fn::' in said[1] else path[-1]
-            goals.setdefault(name, said[2].lstrip(': ') or 'not proved')
-    return goals
+            unproved.setdefault(name, said[2].lstrip(': ') or 'not proved')
+    return {name: goal for name, goal in unproved.items() if not strict or name not in lost} | unfit
 
 
-def tried_at_once(crate: Any, edits: list[Edit], kept: str) -> dict[str, str]:
+def tried_at_once(crate: Any, edits: list[Edit], kept: str, strict: bool) -> dict[str, str]:
     """By edit name, the goal that refused it in a check of many edits."""
     refused: dict[str, str] = {}
     for members, texts in rounds_of([it for it in edits if it.function], crate.folder):
-        done = rt.checked(crate, texts, FLAGS, kept)
-        if done.returncode == 1 and done.stdout.rstrip('\n').split('\n')[-1].startswith('logic=not-proved'):
-            goals = goals_refused(done.stdout)
-            refused |= {it.name: goals[it.function] for it in members if it.function in goals}
+        goals = goals_left(rt.checked(crate, texts, FLAGS, kept), strict)
+        refused |= {it.name: goals[it.function] for it in members if it.function in goals}
     return refused
 
 
-def tried_alone(crate: Any, edit: Edit, kept: str | None) -> tuple[bool, str]:
-    """Whether a wrong body is refused alone, and the text to print. One not refused over kept results is tried again without them."""
-    said, text = rt.must_fail(crate, edit.path, FLAGS, kept)
-    if said not in REFUSED and kept:
-        said, text = rt.must_fail(crate, edit.path, FLAGS)
-    refused = said in REFUSED
-    return refused, f'{"alone" if refused else "FAILED:"} {text}'
+def tried_alone(crate: Any, edit: Edit, kept: str | None, strict: bool) -> tuple[bool, str]:
+    """Whether a wrong body is refused alone, and the text to print. One that is proved over kept results is tried again without them."""
+    if not strict:
+        verdict, text = rt.must_fail(crate, edit.path, FLAGS, kept)
+        if verdict not in REFUSED and kept:
+            verdict, text = rt.must_fail(crate, edit.path, FLAGS)
+        return verdict in REFUSED, f'{"alone" if verdict in REFUSED else "FAILED:"} {text}'
+    done = rt.checked(crate, edit.texts, FLAGS, kept)
+    if done.returncode == 0 and kept:
+        done = rt.checked(crate, edit.texts, FLAGS, None)
+    for function, goal in goals_left(done, strict).items():
+        return True, f'alone {crate.name}: {edit.name}: {function}: {goal[:120]}'
+    said = done.stdout.rstrip('\n').split('\n')
+    return False, f'FAILED: {crate.name}: {edit.name}: {next((it for it in said if ": error" in it), said[-1])[:200]}'
 
 
-def try_crate(crate: Any, wrong: list[Block]) -> tuple[int, int]:
+def try_crate(crate: Any, wrong: list[Block], strict: bool) -> tuple[int, int]:
     """How many of some wrong bodies of a crate were refused, and how many were not."""
     with tempfile.TemporaryDirectory(prefix='wrong-bodies-') as room:
-        return try_edits(crate, edits_of(crate, laid_out(crate, wrong, Path(room))))
+        return try_edits(crate, edits_of(crate, laid_out(crate, wrong, Path(room))), strict)
 
 
-def try_edits(crate: Any, edits: list[Edit]) -> tuple[int, int]:
+def try_edits(crate: Any, edits: list[Edit], strict: bool) -> tuple[int, int]:
     began = time.monotonic()
     lines, refused = [f'FAILED: {crate.name}: {it.name}: {it.why}' for it in edits if it.why], 0
     fit = [it for it in edits if not it.why]
-    with tempfile.TemporaryDirectory(prefix='wrong-bodies-') as kept:
-        goals = tried_at_once(crate, fit, kept)
+    with tempfile.TemporaryDirectory(prefix='wrong-bodies-') as room:
+        kept = f'{room}/kept'
+        begun = f'{crate.folder}/out/incremental'
+        # What `rt check` has kept of the crate, if it was run here.
+        if os.path.isdir(begun):
+            rt.linked(begun, kept)
+        else:
+            os.mkdir(kept)
+        goals = tried_at_once(crate, fit, kept, strict)
         over: str | None = kept
         # The unchanged crate must be proved over the results that these checks have kept; otherwise they show nothing.
         if fit and rt.checked(crate, {}, FLAGS, kept).returncode:
@@ -203,7 +230,7 @@ def try_edits(crate: Any, edits: list[Edit]) -> tuple[int, int]:
             if edit.name in goals:
                 is_refused, text = True, f'refused {crate.name}: {edit.name}: {goals[edit.name][:120]}'
             else:
-                is_refused, text = tried_alone(crate, edit, over)
+                is_refused, text = tried_alone(crate, edit, over, strict)
             refused += is_refused
             lines.append(text)
     lines.append(f'{crate.name}: {len(goals)} in common checks, {len(fit) - len(goals)} alone, in {time.monotonic() - began:.0f} s')
@@ -211,10 +238,10 @@ def try_edits(crate: Any, edits: list[Edit]) -> tuple[int, int]:
     return refused, len(edits) - refused
 
 
-def try_and_record(crate: Any, seed: str | None) -> tuple[int, int]:
+def try_and_record(crate: Any, seed: str | None, strict: bool) -> tuple[int, int]:
     """With a seed, tries what refused.txt lacks and a fifth of the others; without one, all, and records them if all are refused."""
     found = totals(crate)
-    counts = try_crate(crate, [block for block, _ in found] if seed is None else needed(found, seed))
+    counts = try_crate(crate, [block for block, _ in found] if seed is None else needed(found, seed), strict)
     if seed is None:
         record(found if counts[1] == 0 else [], {block.table for block, _ in found})
     return counts
@@ -224,6 +251,7 @@ def main() -> int:
     reader = argparse.ArgumentParser()
     reader.add_argument('--lanes', type=int, default=len(os.sched_getaffinity(0)))
     reader.add_argument('--fifth', metavar='SEED', help='try what refused.txt lacks, and only a fifth of the others')
+    reader.add_argument('--strict', action='store_true', help='count only a goal that is left because of the body')
     reader.add_argument('crates', nargs='*')
     given = reader.parse_args()
     crates = [it for it in rt.rtlib.crates_below(str(TOP)) if (any(rt.edits_of(it)) or totals(it)) and it.name in (given.crates or [it.name])]
@@ -233,7 +261,7 @@ def main() -> int:
     rt.rtlib.guarded()
     with ThreadPoolExecutor(given.lanes) as pool:
         crates.sort(key=lambda crate: -len(totals(crate)))
-        counts = [*pool.map(lambda crate: try_and_record(crate, given.fifth), crates)]
+        counts = [*pool.map(lambda crate: try_and_record(crate, given.fifth, given.strict), crates)]
     passed, failed = map(sum, zip(*counts))
     print(f'{passed} passed, {failed} failed')
     return 1 if failed else 0
