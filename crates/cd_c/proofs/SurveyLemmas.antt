@@ -6,7 +6,7 @@ use Rattle.cd_sector.specs.Kind.{kind_number, kind_of}
 use Rattle.cd_sector.specs.Consistent.{is_mode1}
 use Rattle.cd_sector.specs.declared.kinds.SectorKind.{SectorKind}
 use Rattle.cd_sector.specs.declared.kinds.SectorKind.TheVariants.{NoSync, Mode0, Mode1, Mode2, Other}
-use Rattle.cd_report.specs.AuditText.{audit_lines, findings_of, found_of, line_of}
+use Rattle.cd_report.specs.AuditText.{audit_lines, findings_of, found_of, finding_lines}
 use Rattle.cd_report.specs.declared.findings.Findings.{Findings}
 use Rattle.cd_c.specs.declared.surveying.SectorRecord.{SectorRecord}
 use Rattle.cd_c.specs.Results.{as_byte}
@@ -75,9 +75,9 @@ pub lines_in-survey : (block : ℕ) (ss : List (List ℕ))
     → lines_in block (survey block ss) ≡ audit_lines block ss
 lines_in-survey block [] = refl
 lines_in-survey block (s ∷ ss) =
-    ap (λ found. line_of block found ++ lines_in (block + 1) (survey (block + 1) ss))
+    ap (λ found. finding_lines block found ++ lines_in (block + 1) (survey (block + 1) ss))
     (found_in-record block s)
-    ∙ ap (λ others. line_of block (findings_of block s) ++ others)
+    ∙ ap (λ others. finding_lines block (findings_of block s) ++ others)
     (lines_in-survey (block + 1) ss)
 
 kind-told : (kind : ℕ) (found : Option Findings) → (told kind found).kind ≡ kind

@@ -13,7 +13,7 @@ use Rattle.cd_sector.specs.declared.kinds.SectorKind.{SectorKind}
 use Rattle.cd_sector.specs.declared.kinds.SectorKind.TheVariants.{NoSync, Mode0, Mode1, Mode2, Other}
 use Rattle.cd_sector.proofs.ImageLemmas.{IsCut-sectors}
 use Rattle.cd_sector.proofs.general.Chunks.{length-first_chunks}
-use Rattle.cd_report.specs.AuditText.{audit_end, audit_lines, audit_tally, count_if, finding_line, findings_of, found_of, is_any, is_damaged, line_of, name_if, report_of}
+use Rattle.cd_report.specs.AuditText.{audit_end, audit_lines, audit_tally, count_if, finding_line, findings_of, found_of, is_any, is_damaged, finding_lines, name_if, report_of}
 use Rattle.cd_report.specs.Lines.{text_of}
 use Rattle.cd_report.specs.ListText.{kind_name, list_end, list_tally, run_line, run_lines}
 use Rattle.cd_report.specs.Runs.{Run, prepend_kind, runs, same_kind}
@@ -181,10 +181,10 @@ finding_line-short block found low few many =
 words-few : (sector : List ℕ) → ((report_of sector).p < 1000) × ((report_of sector).q < 1000)
 words-few sector = (omega (arith, p-le sector), omega (arith, q-le sector))
 
-line_of-short : (block : ℕ) (sector : List ℕ) → block < 10000000
-    → length (text_of (line_of block (findings_of block sector))) ≤ 40
+finding_lines-short : (block : ℕ) (sector : List ℕ) → block < 10000000
+    → length (text_of (finding_lines block (findings_of block sector))) ≤ 40
 unfolding findings_of
-line_of-short block sector low = by_kind (is_mode1 (kind_of sector))
+finding_lines-short block sector low = by_kind (is_mode1 (kind_of sector))
   where
     found : Findings
     found = found_of block sector
@@ -198,7 +198,7 @@ line_of-short block sector low = by_kind (is_mode1 (kind_of sector))
         )
     by_any false = omega arith
 
-    by_kind : (b : Bool) → length (text_of (line_of block (cond b (Some found) None))) ≤ 40
+    by_kind : (b : Bool) → length (text_of (finding_lines block (cond b (Some found) None))) ≤ 40
     by_kind true = by_any (is_any (Some found))
     by_kind false = omega arith
 
@@ -206,13 +206,13 @@ audit_lines-short : (block : ℕ) (ss : List (List ℕ)) → block + length ss <
     → length (text_of (audit_lines block ss)) ≤ 40 * length ss
 audit_lines-short block [] h = omega arith
 audit_lines-short block (sector ∷ others) h =
-    let here = line_of block (findings_of block sector) in
+    let here = finding_lines block (findings_of block sector) in
     let rest = audit_lines (block + 1) others in
     omega (
       arith,
       ap length (flat_map-append (λ line. line) here rest),
       length-append (text_of here) (text_of rest),
-      line_of-short block sector (omega arith),
+      finding_lines-short block sector (omega arith),
       audit_lines-short (block + 1) others (omega arith),
     )
 

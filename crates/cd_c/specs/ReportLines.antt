@@ -1,7 +1,7 @@
 -- The lines of `list` and `audit`, from the numbers and records of C.
 use Rattle.std.specs.Prelude.{ℕ, ◌+◌, ◌-◌, nat_lt, if◌then◌else◌, List, [], Option, Some, None}
 use Rattle.cd_sector.specs.declared.kinds.SectorKind.{SectorKind}
-use Rattle.cd_report.specs.AuditText.{line_of}
+use Rattle.cd_report.specs.AuditText.{finding_lines}
 use Rattle.cd_report.specs.Lines.{text_of}
 use Rattle.cd_report.specs.ListText.{run_line}
 use Rattle.cd_c.specs.Survey.{found_in, kind_at}
@@ -20,4 +20,4 @@ run_told first last (Some kind) =
 
 -- the line of an audit for the record of a block; empty if the record has no finding
 abbrev pub finding_told : ℕ → SectorRecord → List ℕ
-finding_told block r = text_of (line_of block (found_in r))
+finding_told block r = text_of (finding_lines block (found_in r))

@@ -8,5 +8,5 @@ abbrev pub hasher_of : DigestState → Sha1
 hasher_of state = record { h = state.hash; buffer = state.block; total = state.count }
 
 -- these bytes were added to the state, in their order
-abbrev pub HasTaken : DigestState → List ℕ → Type 0
-HasTaken state bytes = Holds (hasher_of state) bytes
+abbrev pub HasHashed : DigestState → List ℕ → Type 0
+HasHashed state bytes = Holds (hasher_of state) bytes

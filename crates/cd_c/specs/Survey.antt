@@ -1,11 +1,11 @@
 -- The kind and the findings of sectors, as records of six bytes. The kinds have the numbers of
 -- `enum cdpatch_sector_kind`.
-use Rattle.std.specs.Prelude.{ℕ, ◌==◌, ◌+◌, Bool, if◌then◌else◌, List, [], ◌∷◌, ◌++◌, Option, Some, None}
+use Rattle.std.specs.Prelude.{ℕ, ◌==◌, ◌+◌, if◌then◌else◌, List, [], ◌∷◌, ◌++◌, Option, Some, None}
 use Rattle.cd_sector.specs.Kind.{kind_number, kind_of}
 use Rattle.cd_sector.specs.declared.kinds.SectorKind.{SectorKind}
 use Rattle.cd_sector.specs.declared.kinds.SectorKind.TheVariants.{NoSync, Mode0, Mode1, Mode2}
 use Rattle.cd_sector.specs.declared.kinds.SectorKind.TheVariants.{Other}
-use Rattle.cd_report.specs.AuditText.{findings_of, line_of}
+use Rattle.cd_report.specs.AuditText.{findings_of, finding_lines}
 use Rattle.cd_report.specs.declared.findings.Findings.{Findings}
 use Rattle.cd_c.specs.Results.{as_byte}
 use Rattle.cd_c.specs.declared.surveying.SectorRecord.{SectorRecord}
@@ -52,4 +52,4 @@ found_in r =
 -- the lines of records; the first record is that of `block`
 abbrev pub lines_in : ℕ → List SectorRecord → List (List ℕ)
 lines_in block [] = []
-lines_in block (r ∷ others) = line_of block (found_in r) ++ lines_in (block + 1) others
+lines_in block (r ∷ others) = finding_lines block (found_in r) ++ lines_in (block + 1) others

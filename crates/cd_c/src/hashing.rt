@@ -2,7 +2,7 @@
 
 ghost use Rattle.std.specs.Prelude.{◌≡◌, ◌++◌, ℕ, List, []};
 ghost use Rattle.sha1.specs.Sha1.{sha1};
-ghost use Rattle.cd_c.specs.State.{HasTaken};
+ghost use Rattle.cd_c.specs.State.{HasHashed};
 
 use crate::state::{DigestState, hasher_of, state_of};
 use sha1::{DIGEST_LEN, Sha1};
@@ -10,7 +10,7 @@ use sha1::{DIGEST_LEN, Sha1};
 /// Begins an empty message, whatever `state` contained.
 #[unsafe(no_mangle)]
 pub extern "C" fn cdpatch_sha1_begin(state: &mut DigestState)
-    ensures { HasTaken state.new [] }
+    ensures { HasHashed state.new [] }
 {
     *state = state_of(Sha1::new());
 }
@@ -18,7 +18,7 @@ pub extern "C" fn cdpatch_sha1_begin(state: &mut DigestState)
 /// Adds the next bytes to the message.
 #[unsafe(no_mangle)]
 pub extern "C" fn cdpatch_sha1_add(state: &mut DigestState, bytes: &[u8])
-    ensures { (m : List ℕ) → HasTaken state.old m → HasTaken state.new (m ++ bytes.now) }
+    ensures { (m : List ℕ) → HasHashed state.old m → HasHashed state.new (m ++ bytes.now) }
 {
     let mut hasher = hasher_of(*state);
     hasher.update(bytes);
@@ -29,7 +29,7 @@ pub extern "C" fn cdpatch_sha1_add(state: &mut DigestState, bytes: &[u8])
 /// can be added.
 #[unsafe(no_mangle)]
 pub extern "C" fn cdpatch_sha1_end(state: &DigestState, digest: &mut [u8; DIGEST_LEN])
-    ensures { (m : List ℕ) → HasTaken state.now m → digest.new ≡ sha1 m }
+    ensures { (m : List ℕ) → HasHashed state.now m → digest.new ≡ sha1 m }
 {
     *digest = hasher_of(*state).finalize();
 }

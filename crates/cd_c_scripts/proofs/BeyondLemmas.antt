@@ -1,21 +1,20 @@
 -- An image that is longer than the largest size.
-use Rattle.std.proofs.Common.{◌≡◌, ℕ, ◌+◌, ◌≤◌, Bool, List, [], ◌++◌, length, take, drop, None, refl, sym, ap, ◌∙◌, subst, arith, length-append, append-nil, take_all, take_at, take-append-drop}
+use Rattle.std.proofs.Common.{◌≡◌, ℕ, ◌≤◌, Bool, List, [], ◌++◌, length, take, drop, None, refl, sym, ap, ◌∙◌, subst, arith, length-append, append-nil, take_all, take_at, take-append-drop}
 use Rattle.std.proofs.lemmas.List.{length-take-le}
 use Rattle.cd_script.specs.PatchForm.{Patch}
 use Rattle.cd_sector.specs.Image.{bytes_of, image_limit, sector_limit}
-use Rattle.cd_patch.specs.declared.outcome.Outcome.{Outcome}
-use Rattle.cd_run.specs.PatchLog.{front_within, lines_within}
+use Rattle.cd_run.specs.PatchLog.{log_when_too_long, sent_when_too_long}
 use Rattle.cd_run.specs.Patched.{IsPatched}
 use Rattle.cd_run.specs.Running.{sent_bytes, tail_at, tail_bytes}
 use Rattle.cd_run.specs.Steps.{WantsMore}
 use Rattle.cd_run.specs.declared.run.PatchRun.{PatchRun}
 use Rattle.cd_run.proofs.BytesLemmas.{length-bytes_of}
-use Rattle.cd_run.proofs.PatchLogLemmas.{front_within-cut, front_within-front, lines_within-cut, lines_within-none}
-use Rattle.cd_run.proofs.RunningLemmas.{tail_none, unclosed_at}
+use Rattle.cd_run.proofs.SoFarLemmas.{Extends, bytes_of-begins, known_now, log-too_long, sent-too_long}
+use Rattle.cd_run.proofs.PlaceLemmas.{tail_none, unclosed_at}
 use Rattle.cd_stream.specs.Stream.{IsBeginning}
 use Rattle.cd_c_scripts.specs.Runs.{Going, IsBeyond}
-use Rattle.cd_c_scripts.proofs.GoingLemmas.{Going-read}
-use Rattle.cd_c_scripts.proofs.InOrderLemmas.{Going-within, Known, bytes_of-begins, extends, known_now, outcomes-length}
+use Rattle.cd_c_scripts.proofs.GoingSizes.{Going-read}
+use Rattle.cd_c_scripts.proofs.InOrderLemmas.{Going-within, extends, in_parts}
 
 module _ {carry : Bool} {patches : List Patch} {base : ℕ} {read sent log_bytes : List ℕ}
     {machine : PatchRun} {hand : List (List ℕ)}
@@ -49,48 +48,33 @@ module _ {carry : Bool} {patches : List Patch} {base : ℕ} {read sent log_bytes
   size_window : length window ≡ machine.held
   size_window = length-take-le machine.held hand room
 
-  at_end : machine.block + length window ≡ base + sector_limit
-  at_end =
-      omega (arith, h.state.counts.front, h.state.counts.held, h.state.counts.count, all)
-
   wants_window : WantsMore left machine.block (length window)
   wants_window = subst (WantsMore left machine.block) (sym size_window) wants
 
-  whole : (os : List Outcome) (last : List ℕ) → IsPatched carry patches os base read last
-      → Known h.done h.outcomes os last
-  whole os last patched =
-      known_now h
-      (extends h read
+  is_all : Extends h.seen (tail_at machine.stage h.tail) read
+  is_all =
+      extends h read
       ([], sym (append-nil (take image_limit read) ∙ take_all image_limit read (Going-within h)))
-      (λ some. refl)) patched
+      (λ some. refl)
 
   pub Going-beyond : (more : List ℕ) → length more ≡ 1
       → IsBeyond carry patches base (read ++ more) sent log_bytes
   Going-beyond more one = record {
     beyond = omega (arith, length-append read more, size_read, one);
     sent_before =
-        omega (
-          arith,
-          ap length is_sent,
-          length-bytes_of h.done h.state.done_sizes,
-          h.state.counts.front,
-          ap (λ ps. front_within (base + sector_limit) ps) (sym (take-append-drop machine.decided patches)),
-          front_within-cut (base + sector_limit) taken left (h.state.reached none),
-          front_within-front (base + sector_limit) left machine.block (length window) at_end wants_window,
-        );
+        ap length is_sent ∙ length-bytes_of h.done h.state.done_sizes
+        ∙ sym (sent-too_long h.state none all wants_window)
+        ∙ ap (λ ps. sent_when_too_long ps base) (take-append-drop machine.decided patches);
     as_applied = λ outcomes last patched.
-        let w =
-        whole outcomes last
+        let same : IsPatched carry (taken ++ left) outcomes base read last =
+        in_parts h
         (subst (λ l. IsPatched carry patches outcomes base l last)
-        (take_at read more image_limit size_read) patched) in (
-          subst (λ l. IsBeginning l last) (sym is_sent) (bytes_of-begins h.done w.others last w.cut),
+        (take_at read more image_limit size_read) patched) in
+        let k = known_now h.state is_all same in (
+          subst (λ l. IsBeginning l last) (sym is_sent) (bytes_of-begins h.done k.others last k.cut),
           h.logged
-              ∙ sym (ap (λ ps. lines_within (base + sector_limit) ps outcomes)
-              (sym (take-append-drop machine.decided patches))
-              ∙ ap (lines_within (base + sector_limit) (taken ++ left)) w.all
-              ∙ lines_within-cut (base + sector_limit) taken left h.outcomes w.back (outcomes-length h)
-              (h.state.reached none)
-              (lines_within-none (base + sector_limit) left w.back machine.block (length window) at_end
-              wants_window)),
+              ∙ sym (log-too_long h.state none all wants_window is_all same)
+              ∙ ap (λ ps. log_when_too_long ps outcomes base)
+              (take-append-drop machine.decided patches),
         );
   }

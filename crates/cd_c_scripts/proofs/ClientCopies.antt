@@ -1,6 +1,7 @@
 -- The effects of a client that copies the bytes of a step, also if that fails: as those of `apply`
 -- of cd_image.
 use Rattle.std.proofs.Common.{◌≡◌, ℕ, ◌+◌, ◌*◌, ◌<◌, ◌≤◌, inl, inr, Bool, false, true, List, [], ◌∷◌, ◌++◌, length, take, drop, None, Some, Err, refl, sym, ap, ◌∙◌, arith, append-nil, length-append, take-append-drop}
+use Rattle.std.proofs.lemmas.List.{nil_from_length}
 use Rattle.std.specs.Prelude.{All}
 use Rattle.std.specs.Io.KnownBytes.{IsAtEnd}
 use Rattle.std.proofs.lemmas.Bool.{cases_lt}
@@ -16,7 +17,8 @@ use Rattle.cd_read.specs.declared.fault.Fault.TheVariants.{Log, Read, TooLong, W
 use Rattle.cd_run.specs.Running.{closed_at}
 use Rattle.cd_run.specs.Steps.{WantsMore}
 use Rattle.cd_run.proofs.BytesLemmas.{bytes_of-append, bytes_of-more}
-use Rattle.cd_run.proofs.RunningLemmas.{Reached-copied, Reached-end, Reached-sector, tail_none}
+use Rattle.cd_run.proofs.RunningLemmas.{Reached-copied, Reached-end, Reached-sector}
+use Rattle.cd_run.proofs.PlaceLemmas.{tail_none}
 use Rattle.cd_image.specs.Applying.{Applies, Streams}
 use Rattle.cd_image.specs.Passing.{PassInvariant}
 use Rattle.cd_image.proofs.ApplyLemmas.{Applies-unread, Applies-write}
@@ -29,10 +31,10 @@ use Rattle.cd_c_scripts.specs.declared.entries.Entry.{Entry}
 use Rattle.cd_c_scripts.specs.declared.run_state.RunStep.{RunStep}
 use Rattle.cd_c_scripts.specs.declared.run_state.ScriptRun.{ScriptRun}
 use Rattle.cd_c_scripts.specs.declared.run_state.TheConstants.{COPYING}
-use Rattle.cd_c_scripts.proofs.GoingLemmas.{Cut, Going-read, cut_bytes, none_of as no_bytes}
+use Rattle.cd_c_scripts.proofs.GoingSizes.{Cut, Going-read, cut_bytes}
 use Rattle.cd_c_scripts.proofs.MovedLemmas.{Found, asks_copy}
 use Rattle.cd_c_scripts.proofs.TellingLemmas.{not_logged}
-use Rattle.cd_c_scripts.proofs.RequestLemmas.{to_copy}
+use Rattle.cd_c_scripts.proofs.RequestLemmas.{requested}
 use Rattle.cd_c_scripts.proofs.ClientMoves.{going, pass, write_at_end}
 use Rattle.cd_c_scripts.proofs.SizeLemmas.{all_given, all_to_come}
 use Rattle.cd_c_scripts.proofs.PassedLemmas.{HasPassed}
@@ -42,7 +44,7 @@ module _ {carry : Bool} {text : List ℕ} {es : List Entry} {patches : List Patc
     (l : IsLed carry text es patches base start now run hand step) (kind : step.kind ≡ copy_kind)
   where
     copying : (run.asked ≡ COPYING) × (step.at ≡ length l.read) × (step.size ≡ run.size)
-    copying = to_copy l.goes.tells kind
+    copying = rw kind at (requested l.goes.tells)
 
     q : Found text es patches base l.read l.sent l.log_bytes run hand
     q = going l (omega (arith, kind)) (omega (arith, copying.0))
@@ -89,7 +91,7 @@ module _ {carry : Bool} {text : List ℕ} {es : List Entry} {patches : List Patc
       whole : bytes_of cut.more ≡ p.bytes
       whole =
           sym (append-nil (bytes_of cut.more))
-          ∙ ap (λ b. bytes_of cut.more ++ b) (sym (no_bytes cut.rest count.1)) ∙ cut.joined
+          ∙ ap (λ b. bytes_of cut.more ++ b) (sym (nil_from_length cut.rest count.1)) ∙ cut.joined
 
       middle : PassInvariant carry (take run.machine.decided patches) (drop run.machine.decided patches)
           base start (record now { image = image; out = out }) [] (run.machine.block + k)

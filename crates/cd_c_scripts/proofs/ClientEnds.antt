@@ -1,5 +1,5 @@
 -- A client at its end: its effects are those of `apply` of cd_image.
-use Rattle.std.proofs.Common.{◌≡◌, ℕ, ◌+◌, ◌≤◌, inl, Bool, List, [], length, Result, Ok, Err, refl, sym, ap, ◌∙◌, arith, append-nil, length-append}
+use Rattle.std.proofs.Common.{◌≡◌, ℕ, ◌+◌, inl, inr, Bool, List, [], length, Result, Ok, Err, refl, sym, ap, ◌∙◌, arith, append-nil, length-append}
 use Rattle.std.specs.Prelude.{All, ◌-◌}
 use Rattle.std.proofs.lemmas.Bool.{true≢false}
 use Rattle.cd_script.specs.Patch.{IsPatch}
@@ -9,27 +9,24 @@ use Rattle.cd_patch.proofs.SequenceLemmas.{PatchSequence-lengths}
 use Rattle.cd_stream.specs.Stream.{Incoming, IsBeginning, Outgoing}
 use Rattle.cd_stream.specs.Transfer.{Flushes}
 use Rattle.cd_stream.proofs.TransferLemmas.{Takes-flushed}
-use Rattle.cd_read.specs.Ends.{MayBeImageAtEnd}
 use Rattle.cd_read.specs.declared.fault.Fault.{Fault}
 use Rattle.cd_read.specs.declared.fault.Fault.TheVariants as fault
 use Rattle.cd_read.specs.declared.fault.Fault.TheVariants.{Log, Write}
-use Rattle.cd_read.proofs.EndLemmas.{MayBeImageAtEnd-end, by_end, by_length, ended as all_ended, log_failed, read_failed, too_long, write_failed}
-use Rattle.cd_run.specs.Patched.{EachPatching}
 use Rattle.cd_run.specs.PatchLog.{log_lines, log_text, sent_when_log_fails}
 use Rattle.cd_run.proofs.PatchLogLemmas.{log_when_out_fails-end, sent_when_log_fails-later}
-use Rattle.cd_run.proofs.PatchedLemmas.{IsPatched-determined}
 use Rattle.cd_image.specs.Applying.{Applies, Streams, patch_tally, streams}
-use Rattle.cd_image.proofs.ApplyReportLemmas.{Applies-carried, Applies-ending, Applies-ends_log, Applies-ends_out, Applies-few, Applies-few_counted, Applies-log_bytes, Applies-output}
-use Rattle.cd_image.proofs.KnownLemmas.{applies}
+use Rattle.cd_image.proofs.ApplyReportLemmas.{Applies-plainly}
+use Rattle.cd_image.proofs.KnownLemmas.{applies, by_run}
 use Rattle.cd_c_scripts.specs.Client.{AppliesAs, HasAllGiven, IsLed, ReportsAs, as_ended}
-use Rattle.cd_c_scripts.specs.Runs.{IsDone, IsRunning, Tells, unknown_size}
+use Rattle.cd_c_scripts.specs.Runs.{IsDone, IsRunning, unknown_size}
 use Rattle.cd_c_scripts.specs.StepKinds.{end_kind}
 use Rattle.cd_c_scripts.specs.declared.entries.Entry.{Entry}
 use Rattle.cd_c_scripts.specs.declared.run_state.RunStep.{RunStep}
 use Rattle.cd_c_scripts.specs.declared.run_state.ScriptRun.{ScriptRun}
 use Rattle.cd_c_scripts.specs.declared.run_state.TheConstants.{OVER}
 use Rattle.cd_c_scripts.proofs.MovedLemmas.{asks_few}
-use Rattle.cd_c_scripts.proofs.TellingLemmas.{not_logged, status_few}
+use Rattle.cd_c_scripts.proofs.RequestLemmas.{Requested, requested}
+use Rattle.cd_c_scripts.proofs.TellingLemmas.{not_logged}
 use Rattle.cd_c_scripts.proofs.ClientLogs.{patched_size}
 
 -- ---- the end
@@ -51,17 +48,13 @@ sent_at_end ps os base image same =
 module _ {carry : Bool} {text : List ℕ} {es : List Entry} {patches : List Patch} {base : ℕ}
     {start now : Streams} {run : ScriptRun} {hand : List (List ℕ)} {step : RunStep}
     (l : IsLed carry text es patches base start now run hand step) (kind : step.kind ≡ end_kind) where
-  over_by : Tells patches l.read l.sent run step → (run.asked ≡ OVER) × (step.status ≡ run.most)
-  over_by (Tells.to_end is over status) = (over, status)
-  over_by (Tells.to_stop is too_long status) = absurd (omega (arith, too_long, l.within))
-  over_by (Tells.to_read is _ _ _ _ _ _) = absurd (omega (arith, is, kind))
-  over_by (Tells.to_copy is _ _ _ _ _) = absurd (omega (arith, is, kind))
-  over_by (Tells.to_write is _ _ _ _ _) = absurd (omega (arith, is, kind))
-  over_by (Tells.to_log is _ _) = absurd (omega (arith, is.kind, kind))
-  over_by (Tells.to_log_last is _ _) = absurd (omega (arith, is.kind, kind))
-
   over : (run.asked ≡ OVER) × (step.status ≡ run.most)
-  over = over_by l.goes.tells
+  over =
+      let request : Requested end_kind l.read run step = rw kind at (requested l.goes.tells) in
+      elim request [
+        | inl is ↦ is
+        | inr beyond ↦ absurd (omega (arith, beyond, l.within))
+      ]
 
   done_by : {log_bytes : List ℕ} → IsRunning text es patches base l.read l.sent log_bytes run hand
       → IsDone carry patches base l.read l.sent log_bytes run.most
@@ -73,9 +66,6 @@ module _ {carry : Bool} {text : List ℕ} {es : List Entry} {patches : List Patc
   d =
       rw (not_logged step step.kind refl (omega (arith, kind)), append-nil l.log_bytes) at
       (done_by l.goes.running)
-
-  pub end_status : step.status ≤ 1
-  end_status = omega (arith, status_few d, over.1)
 
   size : length l.sent ≡ length l.read
   size = patched_size l.read l.sent d.patched
@@ -89,15 +79,6 @@ module _ {carry : Bool} {text : List ℕ} {es : List Entry} {patches : List Patc
   unknown_as_ended unknown (Ok status) =
       ap (λ b. record now.image { ended = b }) (sym (ended.1 unknown))
   unknown_as_ended unknown (Err fault) = refl
-
-  -- a property of this run holds for each way of patching each image that matches it
-  by_run : (Holds : List ℕ → List Outcome → List ℕ → Type 0) → Holds l.read d.outcomes l.sent
-      → (whole : List ℕ) → MayBeImageAtEnd now.image.rest l.read whole
-      → EachPatching carry patches base whole (Holds whole)
-  by_run Holds h whole fits os last patched =
-      let is = MayBeImageAtEnd-end now.image.rest l.read whole ended.0 fits in
-      let same = IsPatched-determined _ _ _ _ _ _ _ _ (rw is at patched) d.patched in
-      rw (is, same.0, same.1) h
 
   begins : IsBeginning l.sent l.sent × IsBeginning l.log_bytes (log_text patches d.outcomes)
   begins = (([], sym (append-nil _)), ([], sym d.log_right ∙ sym (append-nil _)))
@@ -121,8 +102,8 @@ module _ {carry : Bool} {text : List ℕ} {es : List Entry} {patches : List Patc
         at_end = λ less. absurd (omega (arith, less, size));
         cut = λ sure. absurd (true≢false (sym fails.fails ∙ l.moved.sends.flush_may_fail ∙ sure));
         within = l.within;
-        begins = by_run _ begins;
-        between_sinks = by_run _ (d.log_right ∙ sym (log_when_out_fails-end _ _ _ _ _ size));
+        begins = by_run now.image.rest ended.0 d.patched _ begins;
+        between_sinks = by_run now.image.rest ended.0 d.patched _ (d.log_right ∙ sym (log_when_out_fails-end _ _ _ _ _ size));
       })
 
   module _ {E : Type 0} {x : Unit {0}} {out : Outgoing} (flushed : Flushes {E = E} now.out out (Ok x)) where
@@ -144,13 +125,13 @@ module _ {carry : Bool} {text : List ℕ} {es : List Entry} {patches : List Patc
           };
           once = omega (arith, fails.flushes);
           within = l.within;
-          begins = by_run _ begins;
+          begins = by_run now.image.rest ended.0 d.patched _ begins;
           between_sinks =
-              by_run _ (size ∙ sym (ap (sent_when_log_fails patches d.outcomes base l.read) (ap length d.log_right)
+              by_run now.image.rest ended.0 d.patched _ (size ∙ sym (ap (sent_when_log_fails patches d.outcomes base l.read) (ap length d.log_right)
               ∙ sent_at_end patches d.outcomes base l.read
               (PatchSequence-lengths _ _ _ _ _ _ d.patched.run)));
-          flushed = by_run _ (λ all. flushed.finished);
-          at_end = by_run _ (λ all. refl, λ once. d.log_right);
+          flushed = by_run now.image.rest ended.0 d.patched _ (λ all. flushed.finished);
+          at_end = by_run now.image.rest ended.0 d.patched _ (λ all. refl, λ once. d.log_right);
           cut = λ sure. absurd (true≢false (sym fails.fails ∙ l.moved.logs.flush_may_fail ∙ sure));
         })
 
@@ -192,25 +173,4 @@ pub applies_whole : {carry : Bool} {patches : List Patch} {base : ℕ} {image im
     {out out' log log' : Outgoing} (result : Result ℕ Fault) → All IsPatch patches
     → ReportsAs carry patches base (streams image out log) (streams image' out' log') result
     → AppliesAs carry patches base image image' out out' log log' result
-applies_whole result each r =
-    let ending = Applies-ending r.0 r.2 in (
-      r.0,
-      r.1,
-      record {
-        report = r.2;
-        output = Applies-output r.0 r.2;
-        carried = Applies-carried r.0 r.2 each;
-        log_bytes = Applies-log_bytes r.0 r.2;
-        output_ends_well = Applies-ends_out r.0 r.2;
-        log_ends_well = Applies-ends_log r.0 r.2;
-        read_failed = read_failed r.0 ending;
-        write_failed = write_failed r.0 ending;
-        log_failed = log_failed r.0 ending;
-        too_long = too_long r.0 ending;
-        by_length = λ reads writes logs. by_length reads writes logs r.0 ending;
-        ended = all_ended r.0 ending;
-        by_end = λ reads writes logs. by_end reads writes logs r.0 ending;
-        holds_few = Applies-few r.0 r.2;
-        holds_few_counted = Applies-few_counted r.0 r.2;
-      },
-    )
+applies_whole result each r = (r.0, r.1, r.2, Applies-plainly each r.0 r.2)

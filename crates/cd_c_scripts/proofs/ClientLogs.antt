@@ -22,7 +22,7 @@ use Rattle.cd_run.specs.Patched.{IsPatched}
 use Rattle.cd_run.specs.PatchLog.{sent_when_log_fails}
 use Rattle.cd_run.proofs.BytesLemmas.{length-bytes_of}
 use Rattle.cd_image.specs.Applying.{Applies, Streams}
-use Rattle.cd_image.proofs.KnownLemmas.{StopsAtLog-within, applies, cut_at}
+use Rattle.cd_image.proofs.KnownLemmas.{StopsAtLog-within, applies}
 use Rattle.cd_c_scripts.specs.Client.{HasTaken, IsLed}
 use Rattle.cd_c_scripts.specs.InOrder.{MayCome, logged_by}
 use Rattle.cd_c_scripts.specs.Runs.{IsRunning, Moved}
@@ -33,8 +33,9 @@ use Rattle.cd_c_scripts.specs.declared.run_state.ScriptRun.{ScriptRun}
 use Rattle.cd_c_scripts.specs.declared.run_state.TheConstants.{OVER}
 use Rattle.cd_c_scripts.proofs.InOrderLemmas.{whole_log-within}
 use Rattle.cd_c_scripts.proofs.TellingLemmas.{is_logged}
-use Rattle.cd_c_scripts.proofs.RequestLemmas.{asks_nothing, to_log}
+use Rattle.cd_c_scripts.proofs.RequestLemmas.{Requested, asks_nothing, requested}
 use Rattle.cd_c_scripts.proofs.ClientMoves.{going_few}
+use Rattle.cd_image.proofs.general.Lists.{cut_at}
 
 cut_line : (front : List ℕ) (n : ℕ) (line rest : List ℕ)
     → (front ++ line) ++ rest ≡ (front ++ take n line) ++ (drop n line ++ rest)
@@ -150,7 +151,7 @@ module _ {carry : Bool} {text : List ℕ} {es : List Entry} {patches : List Patc
       → Sends {E = E} now.log log (take step.size step.text) (Ok x)
       → HasTaken carry text es patches base start (record now { log = log }) run hand hand step.size
   logs {log = log} sends =
-      let asked = to_log l.goes.tells kind in
+      let asked : Requested log_kind l.read run step = rw kind at (requested l.goes.tells) in
       record {
         read = l.read;
         sent = l.sent;

@@ -1,12 +1,10 @@
 -- The middle of a run, as a client of its steps sees it.
 use Rattle.std.proofs.Common.{◌≡◌, ℕ, zero, suc, ◌+◌, ◌<◌, ◌≤◌, Bool, true, false, List, length, take, drop, Option, None, Err, refl, ap, arith, append-nil, length-append}
-use Rattle.std.specs.Prelude.{IsSome, nat_eq}
-use Rattle.std.proofs.Math.ListN.{length-take}
-use Rattle.std.proofs.lemmas.Bool.{eqb-false}
+use Rattle.std.specs.Prelude.{IsSome}
 use Rattle.cd_script.specs.PatchForm.{Patch}
 use Rattle.cd_sector.specs.Image.{bytes_of}
 use Rattle.cd_read.specs.declared.fault.Fault.TheVariants as fault
-use Rattle.cd_read.specs.declared.fault.Fault.TheVariants.{Read, TooLong, Write}
+use Rattle.cd_read.specs.declared.fault.Fault.TheVariants.{Write}
 use Rattle.cd_run.specs.InHand.{bytes_in_hand}
 use Rattle.cd_run.specs.Running.{closed_at, sent_bytes, tail_at, tail_bytes, window_of}
 use Rattle.cd_run.specs.declared.run.PatchRun.{PatchRun}
@@ -130,14 +128,6 @@ going_few {machine = machine} h =
       h.state.counts.in_hand,
       h.state.counts.held,
     )
-
--- at most n elements
-pub few_taken : (n : ℕ) (l : List ℕ) → length (take n l) ≤ n
-few_taken n l = omega (arith, length-take n l)
-
--- a number that is at most another one, and is not equal to it, is less
-pub less_by : (a b : ℕ) → a ≤ b → nat_eq a b ≡ false → a < b
-less_by a b few differs = omega (arith, few, eqb-false a b differs)
 
 module _ {carry : Bool} {text : List ℕ} {es : List Entry} {patches : List Patch} {base : ℕ}
     {start now : Streams} {run : ScriptRun} {hand : List (List ℕ)} {step : RunStep}

@@ -13,7 +13,7 @@ use Rattle.cd_c_scripts.specs.declared.entries.Entry.{Entry}
 use Rattle.cd_c_scripts.specs.declared.run_state.RunStep.{RunStep}
 use Rattle.cd_c_scripts.specs.declared.run_state.ScriptRun.{ScriptRun}
 use Rattle.cd_c_scripts.specs.declared.run_state.TheConstants.{OVER}
-use Rattle.cd_c_scripts.proofs.GoingLemmas.{Going-least}
+use Rattle.cd_c_scripts.proofs.GoingSizes.{Going-least}
 use Rattle.cd_c_scripts.proofs.MovedLemmas.{asks_few, moved_least}
 use Rattle.cd_c_scripts.proofs.RequestLemmas.{asks_nothing, asks_to_write}
 use Rattle.cd_c_scripts.proofs.SizeLemmas.{all_given}

@@ -1,6 +1,6 @@
 -- The effects of a client that reads the bytes of a step, also if that fails: as those of `apply` of
 -- cd_image.
-use Rattle.std.proofs.Common.{◌≡◌, ℕ, ◌+◌, ◌*◌, ◌/◌, ◌<◌, ◌≤◌, ◌⊎◌, inl, inr, Bool, false, List, [], ◌++◌, length, take, drop, None, Ok, Err, refl, ap, ◌∙◌, arith, append-nil, length-append, take-append-drop}
+use Rattle.std.proofs.Common.{◌≡◌, ℕ, ◌+◌, ◌*◌, ◌/◌, ◌<◌, ◌≤◌, ◌⊎◌, inl, inr, Bool, false, List, [], ◌++◌, length, take, drop, None, Ok, Err, refl, ap, subst, ◌∙◌, arith, append-nil, length-append, take-append-drop}
 use Rattle.std.specs.List.{slice_index_or}
 use Rattle.std.proofs.lemmas.Bool.{cases_lt}
 use Rattle.std.proofs.lemmas.List.{length-take-le, take-take}
@@ -16,7 +16,7 @@ use Rattle.cd_read.specs.declared.fault.Fault.{Fault}
 use Rattle.cd_read.specs.declared.fault.Fault.TheVariants as fault
 use Rattle.cd_read.specs.declared.fault.Fault.TheVariants.{Read, TooLong, Write}
 use Rattle.cd_run.specs.Running.{closed_at}
-use Rattle.cd_run.proofs.RunningLemmas.{tail_none}
+use Rattle.cd_run.proofs.PlaceLemmas.{tail_none}
 use Rattle.cd_image.specs.Applying.{Applies, Streams}
 use Rattle.cd_image.specs.Passing.{PassInvariant}
 use Rattle.cd_image.proofs.AdvanceLemmas.{wants_window}
@@ -28,10 +28,10 @@ use Rattle.cd_c_scripts.specs.StepKinds.{read_kind}
 use Rattle.cd_c_scripts.specs.declared.entries.Entry.{Entry}
 use Rattle.cd_c_scripts.specs.declared.run_state.RunStep.{RunStep}
 use Rattle.cd_c_scripts.specs.declared.run_state.ScriptRun.{ScriptRun}
-use Rattle.cd_c_scripts.proofs.GoingLemmas.{Going-read}
+use Rattle.cd_c_scripts.proofs.GoingSizes.{Going-read}
 use Rattle.cd_c_scripts.proofs.MovedLemmas.{Found, asks_read}
 use Rattle.cd_c_scripts.proofs.TellingLemmas.{not_logged}
-use Rattle.cd_c_scripts.proofs.RequestLemmas.{ToRead, to_read}
+use Rattle.cd_c_scripts.proofs.RequestLemmas.{Requested, ToRead, requested}
 use Rattle.cd_c_scripts.specs.Runs.{IsAllToCome}
 use Rattle.cd_c_scripts.proofs.ClientMoves.{going, pass}
 use Rattle.cd_c_scripts.proofs.SizeLemmas.{all_to_come}
@@ -41,7 +41,7 @@ module _ {carry : Bool} {text : List ℕ} {es : List Entry} {patches : List Patc
     (l : IsLed carry text es patches base start now run hand step) (kind : step.kind ≡ read_kind)
     (room : block_limit ≤ length hand) where
   told : ToRead l.read run step
-  told = to_read l.goes.tells kind
+  told = subst (λ k. Requested k l.read run step) kind (requested l.goes.tells)
 
   f : Found text es patches base l.read l.sent l.log_bytes run hand
   f = going l (omega (arith, kind)) (omega (arith, told.asked))

@@ -11,7 +11,7 @@ use Rattle.cd_stream.proofs.TransferLemmas.{Takes-trans}
 use Rattle.cd_read.specs.declared.fault.Fault.TheVariants as fault
 use Rattle.cd_read.specs.declared.fault.Fault.TheVariants.{Read, TooLong, Write}
 use Rattle.cd_run.specs.Running.{closed_at}
-use Rattle.cd_run.proofs.RunningLemmas.{first_place, unclosed_at}
+use Rattle.cd_run.proofs.PlaceLemmas.{first_place, unclosed_at}
 use Rattle.cd_run.proofs.UnderwayLemmas.{tail_some}
 use Rattle.cd_image.specs.Applying.{Applies, Streams}
 use Rattle.cd_image.proofs.ApplyLemmas.{Applies-write}
@@ -26,8 +26,7 @@ use Rattle.cd_c_scripts.specs.declared.run_state.ScriptRun.{ScriptRun}
 use Rattle.cd_c_scripts.specs.declared.run_state.TheConstants.{WRITING, WRITING_TAIL}
 use Rattle.cd_c_scripts.proofs.MovedLemmas.{Found, asks_tail, asks_write}
 use Rattle.cd_c_scripts.proofs.TellingLemmas.{not_logged}
-use Rattle.cd_c_scripts.proofs.RequestLemmas.{to_write}
-use Rattle.cd_c_scripts.proofs.RequestLemmas.{asks_to_write}
+use Rattle.cd_c_scripts.proofs.RequestLemmas.{asks_to_write, requested}
 use Rattle.cd_c_scripts.proofs.ClientMoves.{going, moved_at_end, pass, write_at_end}
 
 module _ {carry : Bool} {text : List ℕ} {es : List Entry} {patches : List Patch} {base : ℕ}
@@ -36,7 +35,7 @@ module _ {carry : Bool} {text : List ℕ} {es : List Entry} {patches : List Patc
     (room : block_limit ≤ length hand) (first_size : length (slice_index_or hand 0 []) ≡ SECTOR_SIZE)
   where
     asked : ((run.asked ≡ WRITING) ⊎ (run.asked ≡ WRITING_TAIL)) × (step.size ≡ run.size)
-    asked = to_write l.goes.tells kind
+    asked = rw kind at (requested l.goes.tells)
 
     w : Found text es patches base l.read l.sent l.log_bytes run hand
     w = going l (omega (arith, kind)) (elim asked.0 [

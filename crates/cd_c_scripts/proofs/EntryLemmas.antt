@@ -21,7 +21,7 @@ use Rattle.cd_run.specs.declared.run.PatchRun.{PatchRun}
 use Rattle.cd_run.specs.declared.run.Step.{Step}
 use Rattle.cd_run.specs.declared.run.Step.TheVariants.{Copy, Read, Decide, Send, SendTail, End}
 use Rattle.cd_run.specs.Steps.{IsReady}
-use Rattle.cd_c_scripts.specs.Runs.{Looks, MeetsMore, Steps, is_coming, is_tail}
+use Rattle.cd_c_scripts.specs.Runs.{Looks, MeetsMore, IsNextStep, is_coming, is_tail}
 use Rattle.cd_c_scripts.specs.declared.entries.Entry.{Entry}
 use Rattle.cd_c_scripts.specs.Entries.{AreEntries, IsEntry, Rereads}
 use Rattle.cd_c_scripts.specs.Flags.{all_as_asked, as_asked, compares}
@@ -228,7 +228,7 @@ pub record IsOpen (left : List Patch) (machine : PatchRun) : Type 0 where
   pub ahead : All (λ p. machine.block ≤ p.block) left
 
 pub coming : (patches : List Patch) (machine : PatchRun) (step : Step) → is_coming step ≡ true
-    → Steps patches machine step → IsOpen (drop machine.decided patches) machine
+    → IsNextStep patches machine step → IsOpen (drop machine.decided patches) machine
 coming patches machine (Copy count) is steps = record {
   early = steps.0.1;
   ahead = λ k d inside. omega (arith, steps.1 k d inside);

@@ -21,7 +21,7 @@ use Rattle.cd_stream.specs.Stream.{CanCountFailure, Incoming, Outgoing}
 use Rattle.cd_stream.specs.declared.adapters.slice_source.SliceSource.{SliceSource}
 use Rattle.cd_c_scripts.specs.Client.{AppliesAs, Refuses}
 use Rattle.cd_c_scripts.specs.Flags.{all_as_asked, carries}
-use Rattle.cd_c_scripts.specs.Images.{AppliesInMemory, ChecksInMemory, HasNoScript, IsAccepted}
+use Rattle.cd_c_scripts.specs.Images.{AppliesInMemory, ChecksInMemory, HasNoScript, IsCallAccepted}
 
 -- the clauses of `run_script` for an image of unknown size, for one result
 abbrev pub Ran : ℕ → List ℕ → ℕ → ℕ → Incoming → Incoming → Outgoing → Outgoing → Outgoing
@@ -48,16 +48,16 @@ same-count TooLong a other = omega (arith, a.answers.failed.logs)
 
 module _ (flags base : ℕ) (bytes text : List ℕ) (room : ℕ) (source : Incoming)
     (fresh : source ≡ fresh_incoming bytes) (left : SliceSource) (out out' log middle : Outgoing)
-    (within : IsAccepted flags base) where
+    (within : IsCallAccepted flags base) where
   applied-as : (status : ℕ) (ps : List Patch) → length text ≤ text_limit → script text ≡ Ok ps
       → AppliesAs (carries flags) (all_as_asked flags (order ps)) base source (slice_incoming left) out out' log
       middle (Ok status)
       → AppliesInMemory flags base bytes text room out out' log middle status
-  applied-as status ps short is (Ok tally, ends, all) =
-      let runs = RunsApply-done tally all.report all.carried ends in
+  applied-as status ps short is (Ok tally, ends, applies, plain) =
+      let runs = RunsApply-done tally applies plain.carried ends in
       AppliesInMemory.applied within (all_as_asked flags (order ps)) (record { within = short; reads = (ps, is, refl) })
       left (rw fresh at runs)
-  applied-as status ps short is (Err told, ends, all) = absurd ends
+  applied-as status ps short is (Err told, ends, applies, plain) = absurd ends
 
   failed-as : (f : Fault) (ps : List Patch) (log' : Outgoing) (status : ℕ) → length text ≤ text_limit
       → script text ≡ Ok ps
@@ -65,9 +65,9 @@ module _ (flags base : ℕ) (bytes text : List ℕ) (room : ℕ) (source : Incom
       middle (Err f)
       → PrintsFaultLine Log f middle log' → status ≡ failed_status
       → AppliesInMemory flags base bytes text room out out' log log' status
-  failed-as f ps log' status short is (Ok tally, ends, all) line failed = absurd ends
-  failed-as f ps log' status short is (Err told, ends, all) line failed =
-      let runs = RunsApply-failed told all.report (rw ends at line) failed in
+  failed-as f ps log' status short is (Ok tally, ends, applies, plain) line failed = absurd ends
+  failed-as f ps log' status short is (Err told, ends, applies, plain) line failed =
+      let runs = RunsApply-failed told applies (rw ends at line) failed in
       AppliesInMemory.applied within (all_as_asked flags (order ps)) (record { within = short; reads = (ps, is, refl) })
       left (rw fresh at runs)
 
@@ -110,9 +110,9 @@ module _ (flags base : ℕ) (bytes text : List ℕ) (room : ℕ) (source : Incom
       where
         count : AppliesAs (carries flags) (all_as_asked flags (order ps)) base source (slice_incoming left) out
             out' log middle (Err f) → middle.failures ≡ log.failures
-        count (Ok tally, ends, all) = absurd ends
-        count (Err told, ends, all) =
-            same-count told all.report (λ same. other (ends ∙ same))
+        count (Ok tally, ends, applies, plain) = absurd ends
+        count (Err told, ends, applies, plain) =
+            same-count told applies (λ same. other (ends ∙ same))
     count-by-script short (Err e) is other = absurd (other (ran.fault short e is).2.0)
 
     pub ran-countable : CanCountFailure log.failures → f ≢ Log → CanCountFailure middle.failures

@@ -1,15 +1,14 @@
 -- The bytes that a client may have moved, by its request.
-use Rattle.std.proofs.Common.{◌≡◌, ℕ, ◌+◌, ◌-◌, ◌*◌, ◌<◌, ◌≤◌, ◌⊎◌, ◌++◌, Bool, List, [], length, take, drop, inl, inr, arith, ap, sym, ◌∙◌, length-append}
+use Rattle.std.proofs.Common.{◌≡◌, ℕ, ◌*◌, ◌<◌, ◌≤◌, ◌⊎◌, ◌++◌, Bool, List, [], length, take, inl, inr, arith, ap, ◌∙◌, length-append}
 use Rattle.std.specs.List.{slice_index_or}
 use Rattle.std.proofs.lemmas.Bool.{cases_lt}
-use Rattle.std.proofs.lemmas.List.{drop-drop}
 use Rattle.cd_script.specs.PatchForm.{Patch}
 use Rattle.cd_sector.specs.Image.{sector_limit}
 use Rattle.cd_sector.specs.declared.sector.TheConstants.{SECTOR_SIZE}
 use Rattle.cd_run.specs.declared.run.PatchRun.{PatchRun}
 use Rattle.cd_run.specs.declared.run.Step.TheVariants.{Copy, Read, Send, SendTail}
 use Rattle.cd_c_scripts.specs.Flags.{carries}
-use Rattle.cd_c_scripts.specs.Runs.{About, Asks, AsksForImage, CopiesWhole, Going, IsBeyond, IsDone, IsRunning, IsShort, IsTooLong, MayEnd, Moved, ReadsWhole, SameInHand, Steps, unknown_size}
+use Rattle.cd_c_scripts.specs.Runs.{About, Asks, AsksForImage, AsksFullCopy, Going, IsBeyond, IsDone, IsRunning, IsShort, IsStoppedBeyond, MayEnd, Moved, AsksFullRead, SameInHand, IsNextStep, unknown_size}
 use Rattle.cd_c_scripts.specs.declared.entries.Entry.{Entry}
 use Rattle.cd_c_scripts.specs.declared.run_state.ScriptRun.{ScriptRun}
 use Rattle.cd_c_scripts.specs.declared.run_state.TheConstants.{COPYING, FAULTY, NOTHING, OVER, READING, WRITING, WRITING_TAIL}
@@ -120,8 +119,8 @@ module _ {run : ScriptRun} {hand : List (List ℕ)} {done : ℕ} {read sent read
 
 module _ {patches : List Patch} {run : ScriptRun} where
   pub asks_copy : Asks patches run → run.asked ≡ COPYING
-      → Steps patches run.machine (Copy run.most) × (run.size ≤ SECTOR_SIZE * run.most)
-      × CopiesWhole run
+      → IsNextStep patches run.machine (Copy run.most) × (run.size ≤ SECTOR_SIZE * run.most)
+      × AsksFullCopy run
   asks_copy (Asks.nothing asked) is = absurd (omega (arith, asked, is))
   asks_copy (Asks.copying asked steps few whole) is = (steps, few, whole)
   asks_copy (Asks.reading asked steps few size whole) is = absurd (omega (arith, asked, is))
@@ -129,8 +128,8 @@ module _ {patches : List Patch} {run : ScriptRun} where
   asks_copy (Asks.writing_tail asked steps size) is = absurd (omega (arith, asked, is))
 
   pub asks_read : Asks patches run → run.asked ≡ READING
-      → Steps patches run.machine Read × (run.size ≤ SECTOR_SIZE)
-      × ((run.machine.sectors < sector_limit) ⊎ (run.size ≡ 1)) × ReadsWhole run
+      → IsNextStep patches run.machine Read × (run.size ≤ SECTOR_SIZE)
+      × ((run.machine.sectors < sector_limit) ⊎ (run.size ≡ 1)) × AsksFullRead run
   asks_read (Asks.nothing asked) is = absurd (omega (arith, asked, is))
   asks_read (Asks.copying asked steps few whole) is = absurd (omega (arith, asked, is))
   asks_read (Asks.reading asked steps few size whole) is = (steps, few, size, whole)
@@ -138,7 +137,7 @@ module _ {patches : List Patch} {run : ScriptRun} where
   asks_read (Asks.writing_tail asked steps size) is = absurd (omega (arith, asked, is))
 
   pub asks_write : Asks patches run → run.asked ≡ WRITING
-      → Steps patches run.machine Send × (run.size ≡ SECTOR_SIZE)
+      → IsNextStep patches run.machine Send × (run.size ≡ SECTOR_SIZE)
   asks_write (Asks.nothing asked) is = absurd (omega (arith, asked, is))
   asks_write (Asks.copying asked steps few whole) is = absurd (omega (arith, asked, is))
   asks_write (Asks.reading asked steps few size whole) is = absurd (omega (arith, asked, is))
@@ -146,7 +145,7 @@ module _ {patches : List Patch} {run : ScriptRun} where
   asks_write (Asks.writing_tail asked steps size) is = absurd (omega (arith, asked, is))
 
   pub asks_tail : Asks patches run → run.asked ≡ WRITING_TAIL
-      → Steps patches run.machine SendTail × (run.size ≡ run.machine.tail)
+      → IsNextStep patches run.machine SendTail × (run.size ≡ run.machine.tail)
   asks_tail (Asks.nothing asked) is = absurd (omega (arith, asked, is))
   asks_tail (Asks.copying asked steps few whole) is = absurd (omega (arith, asked, is))
   asks_tail (Asks.reading asked steps few size whole) is = absurd (omega (arith, asked, is))
@@ -190,7 +189,7 @@ pub is_stopped : {text : List ℕ} {es : List Entry} {patches : List Patch} {bas
     {read sent log_bytes read' sent' : List ℕ} {run : ScriptRun} {before hand : List (List ℕ)}
     {done : ℕ} → IsRunning text es patches base read sent log_bytes run before
     → Moved run hand done read sent read' sent' → OVER < run.asked
-    → IsTooLong (carries run.flags) patches base read' sent' log_bytes
+    → IsStoppedBeyond (carries run.flags) patches base read' sent' log_bytes
 is_stopped (IsRunning.going about state asks) moved is = absurd (omega (arith, asks_few asks, is))
 is_stopped (IsRunning.over asked whole) moved is = absurd (omega (arith, asked, is))
 is_stopped (IsRunning.long asked long) moved is =
@@ -212,22 +211,8 @@ not_short (Moved.written asked size is_read is_sent) short = omega (arith, size,
 
 module _ {before : ScriptRun} {done : ℕ} (now : ScriptRun) (few : done ≤ before.size)
     (open_end : AsksForImage before → done < before.size → before.image_size ≡ unknown_size) where
-  -- fewer bytes were read than a sector has
-  pub ends_read : before.asked ≡ READING → ReadsWhole before → done < SECTOR_SIZE
-      → (before.machine.sectors ≡ sector_limit → done ≡ 0) → MayEnd before now done
-  ends_read asked whole short last = elim (cases_lt done before.size) [
-    | inl fewer ↦ MayEnd.fewer (inl asked) fewer (open_end (inl asked) fewer)
-    | inr all ↦ elim whole [
-      | inl sector ↦ absurd (omega (arith, sector, short, all))
-      | inr other ↦ elim other [
-        | inl rest ↦ MayEnd.whole (inl asked) (omega (arith, rest.1, few, all))
-        | inr beyond ↦ absurd (omega (arith, beyond.1, last beyond.0, all))
-      ]
-    ]
-  ]
-
   -- fewer bytes were copied than may be
-  pub ends_copy : before.asked ≡ COPYING → CopiesWhole before → done < SECTOR_SIZE * before.most
+  pub ends_copy : before.asked ≡ COPYING → AsksFullCopy before → done < SECTOR_SIZE * before.most
       → MayEnd before now done
   ends_copy asked whole short = elim (cases_lt done before.size) [
     | inl fewer ↦ MayEnd.fewer (inr asked) fewer (open_end (inr asked) fewer)
@@ -246,12 +231,3 @@ ends_as same (MayEnd.whole asked all) = MayEnd.whole asked all
 ends_as same (MayEnd.known none moved) =
     MayEnd.known (omega (arith, same, none))
     (omega (arith, same, moved.0), λ reads copies. same ∙ moved.1 reads copies)
-
--- ---- the part of the hand after all that a run holds
-
-pub drop_more : {A : Type 0} (n place : ℕ) (xs ys : List A) → n ≤ place → drop n xs ≡ drop n ys
-    → drop place xs ≡ drop place ys
-drop_more n place xs ys few same =
-    let e : n + (place - n) ≡ place = omega (arith, few) in
-    ap (λ k. drop k xs) (sym e) ∙ sym (drop-drop (place - n) n xs)
-    ∙ ap (λ l. drop (place - n) l) same ∙ drop-drop (place - n) n ys ∙ ap (λ k. drop k ys) e

@@ -110,10 +110,6 @@ same_line (p ∷ ps) a b lines (inr m) (inr n) same = same_line ps a b lines.1 m
 
 -- ---- two lists with the same elements whose keys do not decrease are equal
 
-sum_cons : (f : Patch → ℕ) (x : Patch) (xs : List Patch)
-    → sum_by f (x ∷ xs) ≡ f x + sum_by f xs
-sum_cons f x xs = sum_by-cons f x xs
-
 has_key : ℕ → Patch → ℕ
 has_key n q = cond (key q == n) 1 0
 
@@ -124,7 +120,7 @@ none_has n (q ∷ l) above =
     let other : has_key n q ≡ 0 =
     cond-false _ _ _ (ne_eqb (key q) n (λ e. omega (arith, e, All-head (λ r. n < key r) q l above))) in
     let others = none_has n l (All-tail (λ r. n < key r) q l above) in
-    omega (arith, other, others, sum_cons (has_key n) q l)
+    omega (arith, other, others, sum_by-cons (has_key n) q l)
 
 first_least : (x y : Patch) (xs ys : List Patch) → All (λ q. key y ≤ key q) ys
     → ((f : Patch → ℕ) → sum_by f (x ∷ xs) ≡ sum_by f (y ∷ ys)) → key y ≤ key x
@@ -135,7 +131,7 @@ first_least x y xs ys rises sums = elim (cases_lt (key x) (key y)) [
       none_has (key x) (y ∷ ys)
       (All-cons (λ q. key x < key q) y ys lt (λ k d inside. omega (arith, lt, rises k d inside))) in
       let one : has_key (key x) x ≡ 1 = cond-true _ _ _ (eq-eqb (key x) (key x) refl) in
-      absurd (omega (arith, none, one, sums (has_key (key x)), sum_cons (has_key (key x)) x xs))
+      absurd (omega (arith, none, one, sums (has_key (key x)), sum_by-cons (has_key (key x)) x xs))
   | inr ge ↦ ge
 ]
 
@@ -144,9 +140,9 @@ unique : (In' : Patch → Type 0) (same : (a b : Patch) → In' a → In' b → 
     → ((f : Patch → ℕ) → sum_by f xs ≡ sum_by f ys) → xs ≡ ys
 unique In' same [] [] a b m n sums = refl
 unique In' same [] (y ∷ ys) a b m n sums =
-    absurd (omega (arith, sums (λ p. 1), sum_cons (λ p. 1) y ys))
+    absurd (omega (arith, sums (λ p. 1), sum_by-cons (λ p. 1) y ys))
 unique In' same (x ∷ xs) [] a b m n sums =
-    absurd (omega (arith, sums (λ p. 1), sum_cons (λ p. 1) x xs))
+    absurd (omega (arith, sums (λ p. 1), sum_by-cons (λ p. 1) x xs))
 unique In' same (x ∷ xs) (y ∷ ys) a b m n sums =
     let low = first_least x y xs ys b.0 sums in
     let high = first_least y x ys xs a.0 (λ f. sym (sums f)) in
@@ -154,7 +150,7 @@ unique In' same (x ∷ xs) (y ∷ ys) a b m n sums =
     same x y (All-head In' x xs m) (All-head In' y ys n) (omega (arith, low, high)) in
     let rest : xs ≡ ys =
     unique In' same xs ys a.1 b.1 (All-tail In' x xs m) (All-tail In' y ys n)
-    (λ f. omega (arith, sums f, ap f first, sum_cons f x xs, sum_cons f y ys)) in
+    (λ f. omega (arith, sums f, ap f first, sum_by-cons f x xs, sum_by-cons f y ys)) in
     cc
 
 -- patches of a script whose keys do not decrease are in the order of application

@@ -1,9 +1,8 @@
 -- The bytes that a client has copied, a part at a time.
-use Rattle.std.proofs.Common.{◌≡◌, ℕ, ◌+◌, List, [], ◌++◌, length, Ok, refl, ◌∙◌, arith, length-append}
-use Rattle.std.proofs.KnownBytes.{Consumes-nil}
+use Rattle.std.proofs.Common.{◌≡◌, ℕ, ◌+◌, List, ◌++◌, length, Ok, ◌∙◌, arith, length-append}
 use Rattle.cd_stream.specs.Stream.{Incoming, Outgoing}
 use Rattle.cd_stream.specs.Transfer.{Gives, Takes}
-use Rattle.cd_stream.proofs.TransferLemmas.{Gives-trans, Takes-nil, Takes-trans}
+use Rattle.cd_stream.proofs.TransferLemmas.{Gives-trans, Takes-trans}
 use Rattle.cd_c_scripts.specs.Client.{Passes}
 
 -- the bytes that were copied
@@ -15,17 +14,6 @@ pub record HasPassed (done : ℕ) (image image' : Incoming) (out out' : Outgoing
   pub reads : image'.failures ≡ image.failures
   pub writes : out'.failures ≡ out.failures
   pub flushes : out'.flushes ≡ out.flushes
-
-pub passed_none : (image : Incoming) (out : Outgoing) → HasPassed 0 image image out out
-passed_none image out = record {
-  bytes = [];
-  size = refl;
-  gives = record { consumes = Consumes-nil image.rest; counted = omega arith };
-  sends = Takes-nil out;
-  reads = refl;
-  writes = refl;
-  flushes = refl;
-}
 
 pub passed_more : {asked done came : ℕ} {first image image' : Incoming} {start out out' : Outgoing}
     → HasPassed done first image start out → Passes asked image image' out out' (Ok came)

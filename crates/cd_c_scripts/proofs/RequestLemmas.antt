@@ -1,9 +1,9 @@
--- The bytes that a step requests, by its kind.
-use Rattle.std.proofs.Common.{◌≡◌, ℕ, ◌*◌, ◌<◌, ◌≤◌, ◌⊎◌, inl, inr, List, length, arith}
+-- The request of a step, by its kind.
+use Rattle.std.proofs.Common.{◌≡◌, ℕ, zero, suc, ◌*◌, ◌<◌, ◌≤◌, ◌⊎◌, inl, inr, List, length, arith}
 use Rattle.cd_script.specs.PatchForm.{Patch}
+use Rattle.cd_sector.specs.Image.{image_limit}
 use Rattle.cd_sector.specs.declared.sector.TheConstants.{SECTOR_SIZE}
 use Rattle.cd_c_scripts.specs.Runs.{AsksForImage, Tells}
-use Rattle.cd_c_scripts.specs.StepKinds.{copy_kind, log_kind, read_kind, write_kind}
 use Rattle.cd_c_scripts.specs.declared.run_state.RunStep.{RunStep}
 use Rattle.cd_c_scripts.specs.declared.run_state.ScriptRun.{ScriptRun}
 use Rattle.cd_c_scripts.specs.declared.run_state.TheConstants.{COPYING, NOTHING, OVER, READING, WRITING, WRITING_TAIL}
@@ -39,46 +39,28 @@ pub record ToRead (read : List ℕ) (run : ScriptRun) (step : RunStep) : Type 0 
   pub size : step.size ≡ run.size
   pub some : 0 < step.size
 
-module _ {patches : List Patch} {read sent : List ℕ} {run : ScriptRun} {step : RunStep} where
-  pub to_read : Tells patches read sent run step → step.kind ≡ read_kind → ToRead read run step
-  to_read (Tells.to_end kind asked status) is = absurd (omega (arith, kind, is))
-  to_read (Tells.to_stop kind beyond status) is = absurd (omega (arith, kind, is))
-  to_read (Tells.to_read kind asked at place size some looked) is =
-      record { asked = asked; at = at; place = place; size = size; some = some }
-  to_read (Tells.to_copy kind asked at size some allowed) is = absurd (omega (arith, kind, is))
-  to_read (Tells.to_write kind asked at place size some) is = absurd (omega (arith, kind, is))
-  to_read (Tells.to_log log asked tells) is = absurd (omega (arith, log.kind, is))
-  to_read (Tells.to_log_last log asked number) is = absurd (omega (arith, log.kind, is))
+-- the request of a step of this kind: the end, READ, COPY, WRITE, or LOG
+abbrev pub Requested : ℕ → List ℕ → ScriptRun → RunStep → Type 0
+Requested zero read run step =
+    ((run.asked ≡ OVER) × (step.status ≡ run.most)) ⊎ (image_limit < length read)
+Requested (suc zero) read run step = ToRead read run step
+Requested (suc (suc zero)) read run step =
+    (run.asked ≡ COPYING) × (step.at ≡ length read) × (step.size ≡ run.size)
+Requested (suc (suc (suc zero))) read run step =
+    ((run.asked ≡ WRITING) ⊎ (run.asked ≡ WRITING_TAIL)) × (step.size ≡ run.size)
+Requested (suc (suc (suc (suc others)))) read run step =
+    ((run.asked ≡ NOTHING) ⊎ (OVER ≤ run.asked)) × (step.size ≡ run.size)
 
-  pub to_copy : Tells patches read sent run step → step.kind ≡ copy_kind
-      → (run.asked ≡ COPYING) × (step.at ≡ length read) × (step.size ≡ run.size)
-  to_copy (Tells.to_end kind asked status) is = absurd (omega (arith, kind, is))
-  to_copy (Tells.to_stop kind beyond status) is = absurd (omega (arith, kind, is))
-  to_copy (Tells.to_read kind asked at place size some looked) is = absurd (omega (arith, kind, is))
-  to_copy (Tells.to_copy kind asked at size some allowed) is = (asked, at, size)
-  to_copy (Tells.to_write kind asked at place size some) is = absurd (omega (arith, kind, is))
-  to_copy (Tells.to_log log asked tells) is = absurd (omega (arith, log.kind, is))
-  to_copy (Tells.to_log_last log asked number) is = absurd (omega (arith, log.kind, is))
-
-  pub to_write : Tells patches read sent run step → step.kind ≡ write_kind
-      → ((run.asked ≡ WRITING) ⊎ (run.asked ≡ WRITING_TAIL)) × (step.size ≡ run.size)
-  to_write (Tells.to_end kind asked status) is = absurd (omega (arith, kind, is))
-  to_write (Tells.to_stop kind beyond status) is = absurd (omega (arith, kind, is))
-  to_write (Tells.to_read kind asked at place size some looked) is = absurd (omega (arith, kind, is))
-  to_write (Tells.to_copy kind asked at size some allowed) is = absurd (omega (arith, kind, is))
-  to_write (Tells.to_write kind asked at place size some) is = (asked, size)
-  to_write (Tells.to_log log asked tells) is = absurd (omega (arith, log.kind, is))
-  to_write (Tells.to_log_last log asked number) is = absurd (omega (arith, log.kind, is))
-
-  pub to_log : Tells patches read sent run step → step.kind ≡ log_kind
-      → ((run.asked ≡ NOTHING) ⊎ (OVER ≤ run.asked)) × (step.size ≡ run.size)
-  to_log (Tells.to_end kind asked status) is = absurd (omega (arith, kind, is))
-  to_log (Tells.to_stop kind beyond status) is = absurd (omega (arith, kind, is))
-  to_log (Tells.to_read kind asked at place size some looked) is = absurd (omega (arith, kind, is))
-  to_log (Tells.to_copy kind asked at size some allowed) is = absurd (omega (arith, kind, is))
-  to_log (Tells.to_write kind asked at place size some) is = absurd (omega (arith, kind, is))
-  to_log (Tells.to_log log asked tells) is = (inl asked, log.size)
-  to_log (Tells.to_log_last log asked number) is = elim asked [
-    | inl over ↦ (inr (omega (arith, over)), log.size)
-    | inr stopped ↦ (inr (omega (arith, stopped)), log.size)
-  ]
+pub requested : {patches : List Patch} {read sent : List ℕ} {run : ScriptRun} {step : RunStep}
+    → Tells patches read sent run step → Requested step.kind read run step
+requested (Tells.to_end kind asked status) = rw kind (inl (asked, status))
+requested (Tells.to_stop kind beyond status) = rw kind (inr beyond)
+requested (Tells.to_read kind asked at place size some looked) =
+    rw kind (record { asked = asked; at = at; place = place; size = size; some = some })
+requested (Tells.to_copy kind asked at size some allowed) = rw kind (asked, at, size)
+requested (Tells.to_write kind asked at place size some) = rw kind (asked, size)
+requested (Tells.to_log log asked tells) = rw log.kind (inl asked, log.size)
+requested (Tells.to_log_last log asked number) = rw log.kind (elim asked [
+  | inl over ↦ (inr (omega (arith, over)), log.size)
+  | inr stopped ↦ (inr (omega (arith, stopped)), log.size)
+])

@@ -1,5 +1,6 @@
 -- The end of an image whose size is known: once as many bytes were read, nothing is left of it.
 use Rattle.std.proofs.Common.{◌≡◌, ℕ, ◌+◌, ◌<◌, ◌≤◌, inl, inr, List, length, Option, None, Some, arith, ap, length-append}
+use Rattle.std.proofs.lemmas.List.{nil_from_length}
 use Rattle.std.specs.Io.KnownBytes.{Consumes, IsAtEnd}
 use Rattle.std.proofs.lemmas.Bool.{cases_lt}
 use Rattle.cd_sector.specs.Image.{image_limit}
@@ -8,13 +9,12 @@ use Rattle.cd_stream.specs.Transfer.{Gives}
 use Rattle.cd_c_scripts.specs.Client.{HasEnded, IsSizeOf}
 use Rattle.cd_c_scripts.specs.Runs.{IsAllToCome}
 use Rattle.cd_c_scripts.specs.declared.run_state.ScriptRun.{ScriptRun}
-use Rattle.cd_c_scripts.proofs.GoingLemmas.{none_of}
 
 none_left : (bytes : List ℕ) (left : Option (List ℕ)) (read : List ℕ)
     → Consumes (Some bytes) left read → length bytes ≤ length read → IsAtEnd left
 none_left bytes None read consumes all = cc
 none_left bytes (Some left) read consumes all =
-    none_of left (omega (arith, ap length consumes, length-append read left, all))
+    nil_from_length left (omega (arith, ap length consumes, length-append read left, all))
 
 all_read : (bytes : List ℕ) (left : Option (List ℕ)) (read : List ℕ)
     → Consumes (Some bytes) left read → IsAtEnd left → length bytes ≡ length read

@@ -1,17 +1,16 @@
 -- A client of the two calls of a run, over a source and two sinks: its state between two calls, and
 -- its effects when it ends.
-use Rattle.std.specs.Prelude.{◌≡◌, ◌↔◌, ℕ, ◌+◌, ◌*◌, ◌<◌, ◌≤◌, ◌⊎◌, Bool, false, true, List, Some, Result, Ok, Err, OnOk, IfOk, length, take}
+use Rattle.std.specs.Prelude.{◌≡◌, ℕ, ◌+◌, ◌*◌, ◌<◌, ◌≤◌, ◌⊎◌, Bool, false, true, List, Some, Result, Ok, Err, length, take}
 use Rattle.std.specs.Io.KnownBytes.{IsAtEnd}
 use Rattle.cd_script.specs.PatchForm.{Patch}
 use Rattle.cd_sector.specs.Image.{image_limit}
 use Rattle.cd_stream.specs.Stream.{Incoming, Outgoing}
 use Rattle.cd_stream.specs.Transfer.{Gives, Sends, Takes}
 use Rattle.cd_read.specs.Printing.{PrintsLine}
-use Rattle.cd_read.specs.Ends.{AnswersByEnd, AnswersByLength, AnswersTooLong, EndsWell}
 use Rattle.cd_read.specs.declared.fault.Fault.{Fault}
 use Rattle.cd_read.specs.declared.fault.Fault.TheVariants as fault
 use Rattle.cd_sector.specs.declared.sector.TheConstants.{SECTOR_SIZE}
-use Rattle.cd_image.specs.Applying.{Applies, Failed, Flushed, HoldsFew, HoldsFewCounted, Streams, WritesCarried, WritesLog, WritesPatched, streams}
+use Rattle.cd_image.specs.Applying.{Applies, AppliesPlainly, Failed, Flushed, Streams, streams}
 use Rattle.cd_image.specs.declared.patch_log.Tally.{Tally}
 use Rattle.cd_c_scripts.specs.Flags.{carries}
 use Rattle.cd_c_scripts.specs.Runs.{AsksForImage, Goes, IsRunning, KeepsToSize, Moved, SameInHand, status_of, unknown_size}
@@ -30,33 +29,14 @@ EndsAs (Ok status) (Err told) = ⊥
 EndsAs (Err fault) (Ok tally) = ⊥
 EndsAs (Err fault) (Err told) = fault ≡ told
 
--- the clauses of `apply`, word for word
-pub record AppliesWhole (carry : Bool) (patches : List Patch) (base : ℕ) (image image' : Incoming)
-    (out out' log log' : Outgoing) (result : Result Tally Fault) : Type 0 where
-  pub report : Applies carry patches base (streams image out log) (streams image' out' log') result
-  pub output : OnOk result (WritesPatched carry patches base image image' out out')
-  pub carried : carry ≡ true → OnOk result (WritesCarried patches base image out out')
-  pub log_bytes : IfOk result (WritesLog carry patches base image log log')
-  pub output_ends_well : OnOk result (EndsWell image image' out out')
-  pub log_ends_well : OnOk result (EndsWell image image' log log')
-  pub read_failed : (result ≡ Err fault.Read) ↔ (image'.failures ≡ image.failures + 1)
-  pub write_failed : (result ≡ Err fault.Write) ↔ (out'.failures ≡ out.failures + 1)
-  pub log_failed : (result ≡ Err fault.Log) ↔ (log'.failures ≡ log.failures + 1)
-  pub too_long : AnswersTooLong image image' result
-  pub by_length : image'.failures ≡ image.failures → out'.failures ≡ out.failures
-      → log'.failures ≡ log.failures → AnswersByLength image result
-  pub ended : OnOk result (image'.ended ≡ true)
-  pub by_end : image'.failures ≡ image.failures → out'.failures ≡ out.failures
-      → log'.failures ≡ log.failures → AnswersByEnd image' result
-  pub holds_few : HoldsFew (streams image out log) (streams image' out' log')
-  pub holds_few_counted : HoldsFewCounted (streams image out log) (streams image' out' log')
-
--- a client has done what `apply` does, and has returned the matching result
+-- a client has done what `apply` does, by all clauses of `apply`, and has returned the matching
+-- result
 abbrev pub AppliesAs : Bool → List Patch → ℕ → Incoming → Incoming → Outgoing → Outgoing
     → Outgoing → Outgoing → Result ℕ Fault → Type 0
 AppliesAs carry patches base image image' out out' log log' result =
     (told : Result Tally Fault) × EndsAs result told
-    × AppliesWhole carry patches base image image' out out' log log' told
+    × Applies carry patches base (streams image out log) (streams image' out' log') told
+    × AppliesPlainly carry patches base (streams image out log) (streams image' out' log') told
 
 -- the same, with the report alone
 abbrev pub ReportsAs : Bool → List Patch → ℕ → Streams → Streams → Result ℕ Fault → Type 0

@@ -9,7 +9,7 @@ use Rattle.cd_script.specs.declared.by_line.LineContent.TheVariants as content
 use Rattle.cd_script.specs.declared.version.Version.{Version}
 use Rattle.cd_patch.specs.Blocks.{blocks_met}
 use Rattle.cd_c_scripts.specs.Flags.{as_asked}
-use Rattle.cd_c_scripts.specs.Lines.{version_of}
+use Rattle.cd_c_scripts.specs.Lines.{head_numbered}
 use Rattle.cd_c_scripts.specs.declared.entries.Entry.{Entry}
 
 -- the line of an entry is in a text, and is this patch if it is read again in this version
@@ -51,7 +51,7 @@ pub record Rereads (text : List ℕ) (version : ℕ) (es : List Entry) (place nu
   pub p : Patch
   pub named : Version
   pub at : slice_get es place ≡ Some e
-  pub is_version : version_of version ≡ Some (Some named)
+  pub is_version : head_numbered version ≡ Some (Some named)
   pub reads : HasLine text named e p
   pub block : p.block ≡ e.block
   pub met : blocks_met p ≡ e.blocks_met

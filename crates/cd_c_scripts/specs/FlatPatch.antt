@@ -40,9 +40,9 @@ IsSomePatch (Some p) = IsPatch p
 -- ---- the record of a patch
 
 -- 1 if there are old bytes, else 0
-abbrev pub flag_of : Option (List ℕ) → ℕ
-flag_of None = 0
-flag_of (Some old) = 1
+abbrev pub has_old_of : Option (List ℕ) → ℕ
+has_old_of None = 0
+has_old_of (Some old) = 1
 
 -- the record at this place in which all other fields are 0
 abbrev pub blank : ℕ → ℕ → FlatPatch
@@ -57,13 +57,13 @@ blank block offset = record {
 }
 
 -- the record of an edit at a place; the fields that its verb does not use are 0
-abbrev pub record_of : ℕ → ℕ → Edit → FlatPatch
-record_of block offset (Put bytes was) =
-    record (blank block offset) { count = length bytes; has_old = flag_of was }
-record_of block offset (Fill count value) =
+abbrev pub flat_patch_of : ℕ → ℕ → Edit → FlatPatch
+flat_patch_of block offset (Put bytes was) =
+    record (blank block offset) { count = length bytes; has_old = has_old_of was }
+flat_patch_of block offset (Fill count value) =
     record (blank block offset) { verb = 1; count = count; value = value }
-record_of block offset Rebuild = record (blank block offset) { verb = 2 }
-record_of block offset (Address bcd) = record (blank block offset) { verb = 3; address = bcd }
+flat_patch_of block offset Rebuild = record (blank block offset) { verb = 2 }
+flat_patch_of block offset (Address bcd) = record (blank block offset) { verb = 3; address = bcd }
 
 -- the bytes that are written to the buffer for new bytes: those of a `set`
 abbrev pub new_of : Edit → List ℕ

@@ -17,12 +17,12 @@ use Rattle.cd_stream.specs.declared.adapters.slice_source.SliceSource.{SliceSour
 use Rattle.cd_c_scripts.specs.Flags.{all_as_asked, carries, flag_limit}
 
 -- no image can have the base, or a flag does not exist
-abbrev pub IsRefused : ℕ → ℕ → Type 0
-IsRefused flags base = (base_limit < base) ⊎ (flag_limit ≤ flags)
+abbrev pub IsCallRefused : ℕ → ℕ → Type 0
+IsCallRefused flags base = (base_limit < base) ⊎ (flag_limit ≤ flags)
 
 -- an image may have the base, and each flag exists
-abbrev pub IsAccepted : ℕ → ℕ → Type 0
-IsAccepted flags base = (base ≤ base_limit) × (flags < flag_limit)
+abbrev pub IsCallAccepted : ℕ → ℕ → Type 0
+IsCallAccepted flags base = (base ≤ base_limit) × (flags < flag_limit)
 
 -- the patches of a script's text, in the order in which they are applied, as the flags require them
 pub record HasScript (flags : ℕ) (text : List ℕ) (patches : List Patch) : Type 0 where
@@ -46,15 +46,15 @@ pub record HasNoRoom (text : List ℕ) (room : ℕ) : Type 0 where
 pub data AppliesInMemory (flags base : ℕ) (image text : List ℕ) (room : ℕ)
     (out out' log log' : Outgoing)
     (status : ℕ) : Type 0 where
-  outside : IsRefused flags base → status ≡ failed_status → out' ≡ out → log' ≡ log
+  outside : IsCallRefused flags base → status ≡ failed_status → out' ≡ out → log' ≡ log
       → AppliesInMemory flags base image text room out out' log log' status
-  without_script : IsAccepted flags base → (line : List ℕ) → HasNoScript text line → out' ≡ out
+  without_script : IsCallAccepted flags base → (line : List ℕ) → HasNoScript text line → out' ≡ out
       → PrintsAndFails line log log' status
       → AppliesInMemory flags base image text room out out' log log' status
-  without_room : IsAccepted flags base → HasNoRoom text room → out' ≡ out
+  without_room : IsCallAccepted flags base → HasNoRoom text room → out' ≡ out
       → PrintsAndFails [] log log' status
       → AppliesInMemory flags base image text room out out' log log' status
-  applied : IsAccepted flags base → (patches : List Patch) → HasScript flags text patches
+  applied : IsCallAccepted flags base → (patches : List Patch) → HasScript flags text patches
       → (left : SliceSource)
       → RunsApply (carries flags) patches base (fresh_incoming image) (slice_incoming left) out out' log log'
       status
@@ -63,15 +63,15 @@ pub data AppliesInMemory (flags base : ℕ) (image text : List ℕ) (room : ℕ)
 -- as for `apply`, without an output
 pub data ChecksInMemory (flags base : ℕ) (image text : List ℕ) (room : ℕ)
     (log log' : Outgoing) (status : ℕ) : Type 0 where
-  outside : IsRefused flags base → status ≡ failed_status → log' ≡ log
+  outside : IsCallRefused flags base → status ≡ failed_status → log' ≡ log
       → ChecksInMemory flags base image text room log log' status
-  without_script : IsAccepted flags base → (line : List ℕ) → HasNoScript text line
+  without_script : IsCallAccepted flags base → (line : List ℕ) → HasNoScript text line
       → PrintsAndFails line log log' status
       → ChecksInMemory flags base image text room log log' status
-  without_room : IsAccepted flags base → HasNoRoom text room
+  without_room : IsCallAccepted flags base → HasNoRoom text room
       → PrintsAndFails [] log log' status
       → ChecksInMemory flags base image text room log log' status
-  checked : IsAccepted flags base → (patches : List Patch) → HasScript flags text patches
+  checked : IsCallAccepted flags base → (patches : List Patch) → HasScript flags text patches
       → (left : SliceSource)
       → RunsCheck (carries flags) patches base (fresh_incoming image) (slice_incoming left) log log' status
       → ChecksInMemory flags base image text room log log' status

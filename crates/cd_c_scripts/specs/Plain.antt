@@ -10,7 +10,7 @@ use Rattle.cd_stream.specs.Rooms.{Holds}
 use Rattle.cd_script.specs.PatchForm.{Patch}
 use Rattle.cd_stream.specs.Stream.{IsBeginning}
 use Rattle.cd_c_scripts.specs.Flags.{carries}
-use Rattle.cd_c_scripts.specs.Images.{HasNoRoom, HasNoScript, HasScript, IsRefused}
+use Rattle.cd_c_scripts.specs.Images.{HasNoRoom, HasNoScript, HasScript, IsCallRefused}
 
 -- the log of these outcomes was written, and the status follows from their counts
 pub record WritesLines (patches : List Patch) (image : List ℕ) (outcomes : List Outcome)
@@ -37,7 +37,7 @@ pub record HasShortLog (flags base : ℕ) (patches : List Patch) (image log : Li
 -- or the log of its patches is too long
 abbrev pub CheckFails : ℕ → ℕ → List ℕ → List ℕ → ℕ → List ℕ → ℕ → Type 0
 CheckFails flags base image text room log size =
-    (IsRefused flags base) ⊎ (image_limit < length image) ⊎ ((line : List ℕ) × HasNoScript text line) ⊎ HasNoRoom text room
+    (IsCallRefused flags base) ⊎ (image_limit < length image) ⊎ ((line : List ℕ) × HasNoScript text line) ⊎ HasNoRoom text room
     ⊎ ((patches : List Patch) × HasScript flags text patches
     × HasShortLog flags base patches image log size)
 
@@ -55,7 +55,7 @@ pub record SendsFront (flags base : ℕ) (patches : List Patch) (image out out' 
 -- the log of the patches is too long
 pub data ApplyFails (flags base : ℕ) (image text : List ℕ) (room : ℕ) (out out' log : List ℕ) (size : ℕ)
     : Type 0 where
-  outside : IsRefused flags base → out' ≡ out → ApplyFails flags base image text room out out' log size
+  outside : IsCallRefused flags base → out' ≡ out → ApplyFails flags base image text room out out' log size
   without_script : (line : List ℕ) → HasNoScript text line → out' ≡ out
       → ApplyFails flags base image text room out out' log size
   without_room : HasNoRoom text room → out' ≡ out

@@ -17,17 +17,17 @@ use Rattle.cd_run.specs.Messages.{long_script, script_fault_line}
 use Rattle.cd_run.specs.PatchLog.{log_line, log_lines, log_text, log_when_too_long, refused_count, sent_when_too_long}
 use Rattle.cd_run.specs.Patched.{EachPatching, IsPatched}
 use Rattle.cd_run.specs.Running.{IsRun, Reached, closed_at, sent_bytes, tail_at, tail_bytes, window_of}
-use Rattle.cd_run.specs.Steps.{IsNext, IsReady}
+use Rattle.cd_run.specs.Steps.{IsNext, IsReady, machine_steps}
 use Rattle.cd_run.specs.declared.run.PatchRun.{PatchRun}
 use Rattle.cd_run.specs.declared.run.Step.{Step}
 use Rattle.cd_run.specs.declared.run.Step.TheVariants.{Copy, Read, Decide, Send, SendTail, End}
 use Rattle.cd_c_scripts.specs.Entries.{AreEntries}
 use Rattle.cd_c_scripts.specs.Flags.{carries, copies}
 use Rattle.cd_c_scripts.specs.InOrder.{IsInOrder, logged_by}
-use Rattle.cd_c_scripts.specs.Lines.{version_of}
+use Rattle.cd_c_scripts.specs.Lines.{head_numbered}
 use Rattle.cd_patch.specs.OutcomeNumbers.{outcome_block, outcome_number, outcome_offset}
 use Rattle.cd_c_scripts.specs.StepKinds.{copy_kind, end_kind, log_kind, read_kind, write_kind}
-use Rattle.cd_c_scripts.specs.StepRooms.{line_room}
+use Rattle.cd_c_scripts.specs.StepRooms.{KeepsToRooms, line_room}
 use Rattle.cd_c_scripts.specs.declared.entries.Entry.{Entry}
 use Rattle.cd_c_scripts.specs.declared.run_state.RunStep.{RunStep}
 use Rattle.cd_c_scripts.specs.declared.run_state.ScriptRun.{ScriptRun}
@@ -65,8 +65,8 @@ pub record SameInHand (machine : PatchRun) (hand hand' : List (List ℕ)) : Type
       ≡ take machine.tail (slice_index_or hand machine.held [])
 
 -- this step is the next one of a run with these patches
-abbrev pub Steps : List Patch → PatchRun → Step → Type 0
-Steps patches machine step =
+abbrev pub IsNextStep : List Patch → PatchRun → Step → Type 0
+IsNextStep patches machine step =
     IsReady machine step × IsNext (drop machine.decided patches) machine step
 
 -- the script of a run: these entries are those of its patches, which are in the text
@@ -74,7 +74,7 @@ pub record About (text : List ℕ) (es : List Entry) (patches : List Patch) (bas
     (run : ScriptRun) : Type 0 where
   pub small : base ≤ base_limit
   pub named : Version
-  pub is_version : version_of run.version ≡ Some (Some named)
+  pub is_version : head_numbered run.version ≡ Some (Some named)
   pub enough : run.count ≤ length es
   pub entries : AreEntries text named run.flags (take run.count es) patches
   pub list : IsPatchList patches
@@ -90,26 +90,26 @@ AsksForRest run =
 
 -- as many bytes are requested as may be read at once: a sector, the rest of the image, or the byte
 -- after its largest size
-abbrev pub ReadsWhole : ScriptRun → Type 0
-ReadsWhole run =
+abbrev pub AsksFullRead : ScriptRun → Type 0
+AsksFullRead run =
     (run.size ≡ SECTOR_SIZE)
     ⊎ (AsksForRest run ⊎ ((run.machine.sectors ≡ sector_limit) × (run.size ≡ 1)))
 
 -- as many bytes are requested as may be copied at once: all sectors, or the rest of the image
-abbrev pub CopiesWhole : ScriptRun → Type 0
-CopiesWhole run = (run.size ≡ SECTOR_SIZE * run.most) ⊎ AsksForRest run
+abbrev pub AsksFullCopy : ScriptRun → Type 0
+AsksFullCopy run = (run.size ≡ SECTOR_SIZE * run.most) ⊎ AsksForRest run
 
 -- the request of a state: the next step
 pub data Asks (patches : List Patch) (run : ScriptRun) : Type 0 where
   nothing : run.asked ≡ NOTHING → Asks patches run
-  copying : run.asked ≡ COPYING → Steps patches run.machine (Copy run.most)
-      → run.size ≤ SECTOR_SIZE * run.most → CopiesWhole run → Asks patches run
-  reading : run.asked ≡ READING → Steps patches run.machine Read → run.size ≤ SECTOR_SIZE
-      → (run.machine.sectors < sector_limit) ⊎ (run.size ≡ 1) → ReadsWhole run
+  copying : run.asked ≡ COPYING → IsNextStep patches run.machine (Copy run.most)
+      → run.size ≤ SECTOR_SIZE * run.most → AsksFullCopy run → Asks patches run
+  reading : run.asked ≡ READING → IsNextStep patches run.machine Read → run.size ≤ SECTOR_SIZE
+      → (run.machine.sectors < sector_limit) ⊎ (run.size ≡ 1) → AsksFullRead run
       → Asks patches run
-  writing : run.asked ≡ WRITING → Steps patches run.machine Send → run.size ≡ SECTOR_SIZE
+  writing : run.asked ≡ WRITING → IsNextStep patches run.machine Send → run.size ≡ SECTOR_SIZE
       → Asks patches run
-  writing_tail : run.asked ≡ WRITING_TAIL → Steps patches run.machine SendTail
+  writing_tail : run.asked ≡ WRITING_TAIL → IsNextStep patches run.machine SendTail
       → run.size ≡ run.machine.tail → Asks patches run
 
 -- the status of a run, from the number of refused patches
@@ -136,7 +136,7 @@ pub record IsBeyond (carry : Bool) (patches : List Patch) (base : ℕ) (read sen
       (λ outcomes last. IsBeginning sent last × (log_bytes ≡ log_when_too_long patches outcomes base))
 
 -- the same, after the line for this error was logged
-pub record IsTooLong (carry : Bool) (patches : List Patch) (base : ℕ) (read sent log_bytes : List ℕ)
+pub record IsStoppedBeyond (carry : Bool) (patches : List Patch) (base : ℕ) (read sent log_bytes : List ℕ)
     : Type 0 where
   pub before : List ℕ
   pub ends : log_bytes ≡ before ++ long_image
@@ -151,7 +151,7 @@ pub data IsRunning (text : List ℕ) (es : List Entry) (patches : List Patch) (b
       → Asks patches run → IsRunning text es patches base read sent log_bytes run hand
   over : run.asked ≡ OVER → IsDone (carries run.flags) patches base read sent log_bytes run.most
       → IsRunning text es patches base read sent log_bytes run hand
-  long : run.asked ≡ STOPPED → IsTooLong (carries run.flags) patches base read sent log_bytes
+  long : run.asked ≡ STOPPED → IsStoppedBeyond (carries run.flags) patches base read sent log_bytes
       → IsRunning text es patches base read sent log_bytes run hand
 
 -- all requested bytes were moved, or the size of the image is unknown: then it may end with fewer
@@ -263,13 +263,6 @@ IsFaulty line run = (run.asked ≡ FAULTY) × (error_line run.most run.line ≡ 
 
 -- ---- the number of steps that are left
 
--- the steps that the patches may still need: each sector is read and written, each patch is
--- decided, and the image ends
-abbrev pub machine_steps : ℕ → PatchRun → ℕ
-machine_steps count machine =
-    2 * (sector_limit - machine.sectors) + machine.held + (count - machine.decided)
-    + (2 - machine.stage)
-
 -- the further steps that the last request adds
 abbrev pub told_steps : ℕ → ℕ
 told_steps asked =
@@ -283,6 +276,14 @@ abbrev pub steps_left : ScriptRun → ℕ
 steps_left run = machine_steps run.count run.machine + told_steps run.asked
 
 -- ---- plumbing of the calls
+
+-- what each function that returns a step leaves: the flags, the size of the image, and a step that
+-- keeps to its buffers
+pub record IsPassedOn (old new : ScriptRun) (step : RunStep) : Type 0 where
+  pub flags : new.flags ≡ old.flags
+  pub image_size : new.image_size ≡ old.image_size
+  pub status : step.status ≤ 2
+  pub rooms : KeepsToRooms step
 
 -- whether a step needs bytes of the image that were not read or copied yet
 abbrev pub is_coming : Step → Bool
@@ -320,11 +321,7 @@ Looks left machine End = Unit {0}
 -- the next step, and its reason
 abbrev pub Comes : List Patch → PatchRun → Step → Type 0
 Comes patches machine step =
-    Steps patches machine step × Looks (drop machine.decided patches) machine step
-
--- the state with a different request
-abbrev pub with_asked : ScriptRun → ℕ → ℕ → ℕ → ScriptRun
-with_asked run asked most size = record run { asked = asked; most = most; size = size }
+    IsNextStep patches machine step × Looks (drop machine.decided patches) machine step
 
 -- the run has reached this stage, or has stopped
 abbrev pub EndsOr : ScriptRun → ℕ → Type 0

@@ -6,10 +6,10 @@ ghost use Rattle.cd_script.specs.PatchForm.{Patch as ThePatch};
 ghost use Rattle.cd_script.specs.declared.version.Version.{Version as TheVersion};
 ghost use Rattle.cd_patch.specs.Blocks.{block_limit};
 ghost use Rattle.cd_run.specs.Running.{IsRun};
-ghost use Rattle.cd_run.specs.Steps.{IsReady};
+ghost use Rattle.cd_run.specs.Steps.{IsReady, machine_steps};
 ghost use Rattle.cd_run.specs.declared.run.Step.TheVariants.{Decide, SendTail};
 ghost use Rattle.cd_c_scripts.specs.Entries.{AreEntries};
-ghost use Rattle.cd_c_scripts.specs.Runs.{Comes, Going, is_coming, is_tail, machine_steps};
+ghost use Rattle.cd_c_scripts.specs.Runs.{Comes, Going, is_coming, is_tail};
 
 use crate::deciding::{entry_at, see_place};
 use crate::entries::Entry;

@@ -14,9 +14,9 @@ ghost use Rattle.cd_run.specs.Running.{IsRun};
 ghost use Rattle.cd_run.specs.declared.run.Step.TheVariants.{Decide};
 ghost use Rattle.cd_c_scripts.specs.Flags.{as_asked, carries};
 ghost use Rattle.cd_c_scripts.specs.FlatPatch.{flat_edit};
-ghost use Rattle.cd_c_scripts.specs.Lines.{version_of};
+ghost use Rattle.cd_c_scripts.specs.Lines.{head_numbered};
 ghost use Rattle.cd_c_scripts.specs.Entries.{AreEntries, Rereads};
-ghost use Rattle.cd_c_scripts.specs.Runs.{Going, IsLineOf, Steps};
+ghost use Rattle.cd_c_scripts.specs.Runs.{Going, IsLineOf, IsNextStep};
 
 use crate::entries::{Entry, blocks_met};
 use crate::flat_patch::{FlatPatch, edit_of, lend_patch};
@@ -148,16 +148,16 @@ pub(crate) fn decide(
         run.old.machine.decided d.number) }
     ensures goes { IfSome result (λ d. (patches : List ThePatch) (base : ℕ)
         (read sent log_bytes : List ℕ) (named : TheVersion)
-        → version_of run.old.version ≡ Some (Some named)
+        → head_numbered run.old.version ≡ Some (Some named)
         → AreEntries script.now named run.old.flags entries.now patches
-        → Steps patches run.old.machine Decide
+        → IsNextStep patches run.old.machine Decide
         → Going (carries run.old.flags) patches base read sent log_bytes run.old.machine hand.old
         → Going (carries run.old.flags) patches base read sent
         (log_bytes ++ outcome_line d.number d.outcome) run.new.machine hand.new
         × IsLineOf patches run.old.machine.decided d.number) }
     ensures right { IfNone result ((patches : List ThePatch) (base : ℕ)
         (read sent log_bytes : List ℕ) (named : TheVersion)
-        → version_of run.old.version ≡ Some (Some named)
+        → head_numbered run.old.version ≡ Some (Some named)
         → AreEntries script.now named run.old.flags entries.now patches → IsPatchList patches
         → run.old.machine.decided < length entries.now
         → Going (carries run.old.flags) patches base read sent log_bytes run.old.machine hand.old

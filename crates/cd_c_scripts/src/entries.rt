@@ -7,7 +7,7 @@ ghost use Rattle.cd_script.specs.Order.{order};
 ghost use Rattle.cd_script.specs.Script.{script};
 ghost use Rattle.cd_script.specs.PatchForm.{Patch as ThePatch};
 ghost use Rattle.cd_script.specs.declared.version.Version.{Version as TheVersion};
-ghost use Rattle.cd_c_scripts.specs.Lines.{version_of};
+ghost use Rattle.cd_c_scripts.specs.Lines.{head_numbered};
 ghost use Rattle.cd_c_scripts.specs.Indexing.{IndexesBy};
 ghost use Rattle.cd_script.specs.ByLine.{meaning_at};
 ghost use Rattle.cd_c_scripts.specs.Entries.{AllBelow, AreEntries, IsIndexed, LinesRise, entry_key};
@@ -55,7 +55,7 @@ pub(crate) fn blocks_met(patch: &HexPatch<'_>) -> u32
 
 /// Proof step: the number of a version, from which a run finds the version again.
 pub(crate) fn version_number(version: Version) -> u32
-    ensures { version_of result ≡ Some (Some version) }
+    ensures { head_numbered result ≡ Some (Some version) }
 {
     version.number()
 }

@@ -6,7 +6,7 @@ ghost use Rattle.std.specs.Prelude.{◌≡◌, ◌≤◌, List, ℕ, IfSome, Som
 ghost use Rattle.cd_script.specs.declared.patch.Edit.TheVariants.{Put};
 ghost use Rattle.cd_script.specs.Limits.{bytes_limit};
 ghost use Rattle.cd_script.specs.Patch.{IsEditAt, IsPatch};
-ghost use Rattle.cd_c_scripts.specs.FlatPatch.{flag_of, flat_edit, flat_patch, new_of, old_of, record_of, set_edit, with_front};
+ghost use Rattle.cd_c_scripts.specs.FlatPatch.{has_old_of, flat_edit, flat_patch, new_of, old_of, flat_patch_of, set_edit, with_front};
 
 use cd_script::{Edit, HexEdit, HexPatch, HexWord, LentBytes, MAX_BYTES, Patch};
 
@@ -128,7 +128,7 @@ fn lend_old(was: &Option<HexWord<'_>>, count: u16, room: &mut [u8]) -> u8
     requires same { IfSome was.now (λ old. length old ≡ count) }
     requires most { count ≤ bytes_limit }
     requires room { bytes_limit ≤ length room.old }
-    ensures flag { result ≡ flag_of was.now }
+    ensures flag { result ≡ has_old_of was.now }
     ensures edit { (new : List ℕ)
         → set_edit count result new room.new ≡ Some (Put (take count new) was.now) }
     ensures room { room.new ≡ with_front (unwrap_or was.now []) room.old }
@@ -165,7 +165,7 @@ fn lend_edit(
     requires new { bytes_limit ≤ length new.old }
     requires old { bytes_limit ≤ length old.old }
     ensures edit { flat_edit result new.new old.new ≡ Some edit.now }
-    ensures record { result ≡ record_of block offset edit.now }
+    ensures record { result ≡ flat_patch_of block offset edit.now }
     ensures block { result.block ≡ block }
     ensures offset { result.offset ≡ offset }
     ensures new { new.new ≡ with_front (new_of edit.now) new.old }
@@ -211,7 +211,7 @@ pub(crate) fn lend_patch(patch: &HexPatch<'_>, new: &mut [u8], old: &mut [u8]) -
     requires new { bytes_limit ≤ length new.old }
     requires old { bytes_limit ≤ length old.old }
     ensures edit { flat_edit result new.new old.new ≡ Some patch.now.edit }
-    ensures record { result ≡ record_of patch.now.block patch.now.offset patch.now.edit }
+    ensures record { result ≡ flat_patch_of patch.now.block patch.now.offset patch.now.edit }
     ensures block { result.block ≡ patch.now.block }
     ensures offset { result.offset ≡ patch.now.offset }
     ensures new { new.new ≡ with_front (new_of patch.now.edit) new.old }

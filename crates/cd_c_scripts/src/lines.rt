@@ -1,8 +1,8 @@
 //! The call of C that reads a line of a script.
 
 ghost use Rattle.std.specs.Prelude.{◌≡◌, ◌≢◌, ◌<◌, IfSome, Some};
-ghost use Rattle.cd_c_scripts.specs.FlatPatch.{IsSomePatch, flat_patch, new_of, old_of, record_of, with_front};
-ghost use Rattle.cd_c_scripts.specs.Lines.{answer_number, content_number, line_read, patch_read, version_of};
+ghost use Rattle.cd_c_scripts.specs.FlatPatch.{IsSomePatch, flat_patch, new_of, old_of, flat_patch_of, with_front};
+ghost use Rattle.cd_c_scripts.specs.Lines.{answer_number, content_number, line_read, patch_read, head_numbered};
 
 use crate::flat_patch::{FlatPatch, lend_patch};
 use cd_script::{LineContent, MAX_BYTES, Version, read_line};
@@ -16,7 +16,7 @@ const NO_VERSION: u32 = 14;
 /// Converts the number of a version, where 0 means that there was no head line yet; `None` for a
 /// number that is not valid.
 pub(crate) fn version_of(version: u32) -> Option<Option<Version>>
-    ensures { result ≡ version_of version }
+    ensures { result ≡ head_numbered version }
 {
     if version == 0 {
         return Some(None);
@@ -42,7 +42,7 @@ pub extern "C" fn cdpatch_read_line(
     ensures patch { IfSome (patch_read (line_read version 0 earlier line.now))
         (λ p. flat_patch p.line patch.new new_bytes.new old_bytes.new ≡ Some p) }
     ensures record { IfSome (patch_read (line_read version 0 earlier line.now))
-        (λ p. patch.new ≡ record_of p.block p.offset p.edit) }
+        (λ p. patch.new ≡ flat_patch_of p.block p.offset p.edit) }
     ensures limits { result ≡ PATCH
         → IsSomePatch (flat_patch 0 patch.new new_bytes.new old_bytes.new) }
     ensures new_room { IfSome (patch_read (line_read version 0 earlier line.now))

@@ -10,7 +10,8 @@ ghost use Rattle.cd_run.specs.declared.run.Step.TheVariants.{Copy, Read, Send, S
 ghost use Rattle.cd_c_scripts.specs.declared.entries.Entry.{Entry as TheEntry};
 ghost use Rattle.cd_c_scripts.specs.declared.moving.Noted.TheVariants.{Done, Short, TooLong, Wrong};
 ghost use Rattle.cd_c_scripts.specs.Flags.{carries};
-ghost use Rattle.cd_c_scripts.specs.Runs.{About, AsksForImage, AsksForRest, CopiesWhole, CountsMoved, Going, IsBeyond, IsRunning, IsShort, MayEnd, Moved, ReadsWhole, SameInHand, Steps, machine_steps, unknown_size};
+ghost use Rattle.cd_c_scripts.specs.Runs.{About, AsksForImage, AsksForRest, AsksFullCopy, CountsMoved, Going, IsBeyond, IsRunning, IsShort, MayEnd, Moved, AsksFullRead, SameInHand, IsNextStep, unknown_size};
+ghost use Rattle.cd_run.specs.Steps.{machine_steps};
 
 use crate::deciding::see_place;
 use crate::run_state::{
@@ -41,7 +42,7 @@ fn note_given(machine: &mut PatchRun, hand: &[Sector], done: usize) -> Noted
     requires hand { block_limit ≤ length hand.now }
     ensures sound { IsRun machine.new }
     ensures goes { result ≡ Done → (carry : Bool) (patches : List ThePatch) (base : ℕ)
-        (read sent log_bytes : List ℕ) → Steps patches machine.old Read
+        (read sent log_bytes : List ℕ) → IsNextStep patches machine.old Read
         → Going carry patches base read sent log_bytes machine.old hand.now
         → Going carry patches base
         (read ++ take done (slice_index_or hand.now machine.old.held [])) sent log_bytes
@@ -93,12 +94,12 @@ fn note_copied(machine: &mut PatchRun, hand: &[Sector], most: u32, done: usize) 
     ensures sound { IsRun machine.new }
     ensures goes { result ≡ Done → (carry : Bool) (patches : List ThePatch) (base : ℕ)
         (read sent log_bytes bytes : List ℕ) → length bytes ≡ done
-        → Steps patches machine.old (Copy most)
+        → IsNextStep patches machine.old (Copy most)
         → Going carry patches base read sent log_bytes machine.old hand.now
         → Going carry patches base (read ++ bytes) (sent ++ bytes) log_bytes
         machine.new hand.now }
     ensures right { result ≡ Wrong → (patches : List ThePatch)
-        → Steps patches machine.old (Copy most) → done ≤ SECTOR_SIZE * most
+        → IsNextStep patches machine.old (Copy most) → done ≤ SECTOR_SIZE * most
         → 4294967296 ≤ machine.old.block + most }
     ensures beyond { result ≢ TooLong }
     ensures never_short { result ≢ Short }
@@ -150,7 +151,7 @@ fn note_sent(machine: &mut PatchRun, hand: &mut [Sector]) -> Noted
     requires hand { block_limit ≤ length hand.old }
     ensures sound { IsRun machine.new }
     ensures goes { result ≡ Done → (carry : Bool) (patches : List ThePatch) (base : ℕ)
-        (read sent log_bytes : List ℕ) → Steps patches machine.old Send
+        (read sent log_bytes : List ℕ) → IsNextStep patches machine.old Send
         → Going carry patches base read sent log_bytes machine.old hand.old
         → Going carry patches base read
         (sent ++ take SECTOR_SIZE (slice_index_or hand.old 0 [])) log_bytes
@@ -222,7 +223,7 @@ fn asks_for_rest(run: &ScriptRun) -> bool
 /// Whether as many bytes are requested as may be read at once.
 fn reads_whole(run: &ScriptRun) -> bool
     requires { IsRun run.now.machine }
-    ensures { result ≡ true ↔ ReadsWhole run.now }
+    ensures { result ≡ true ↔ AsksFullRead run.now }
 {
     run.size == SECTOR_SIZE as u64
         || asks_for_rest(run)
@@ -232,7 +233,7 @@ fn reads_whole(run: &ScriptRun) -> bool
 /// Whether as many bytes are requested as may be copied at once.
 fn copies_whole(run: &ScriptRun) -> bool
     requires { IsRun run.now.machine }
-    ensures { result ≡ true ↔ CopiesWhole run.now }
+    ensures { result ≡ true ↔ AsksFullCopy run.now }
 {
     run.size == SECTOR_SIZE as u64 * u64::from(run.most) || asks_for_rest(run)
 }

@@ -6,12 +6,12 @@ ghost use Rattle.cd_script.specs.PatchForm.{Patch as ThePatch};
 ghost use Rattle.cd_patch.specs.Blocks.{block_limit};
 ghost use Rattle.cd_sector.specs.Image.{sector_limit};
 ghost use Rattle.cd_run.specs.Running.{IsRun};
-ghost use Rattle.cd_run.specs.Steps.{IsReady};
+ghost use Rattle.cd_run.specs.Steps.{IsReady, machine_steps};
 ghost use Rattle.cd_run.specs.declared.run.Step.{Step as TheStep};
 ghost use Rattle.cd_run.specs.declared.run.Step.TheVariants.{Decide, End, SendTail};
 ghost use Rattle.cd_c_scripts.specs.Entries.{Rereads};
 ghost use Rattle.cd_c_scripts.specs.Flags.{carries};
-ghost use Rattle.cd_c_scripts.specs.Runs.{About, AsksWhole, Comes, FailsRead, Going, Goes, IsFaulty, IsPlain, IsRunning, IsShort, KeepsToSize, MayEnd, EndsOr, Moved, SameInHand, Stops, error_line, is_coming, machine_steps, steps_left, told_steps};
+ghost use Rattle.cd_c_scripts.specs.Runs.{About, AsksWhole, Comes, FailsRead, Going, Goes, IsFaulty, IsPassedOn, IsPlain, IsRunning, IsShort, KeepsToSize, MayEnd, EndsOr, Moved, SameInHand, Stops, error_line, is_coming, steps_left, told_steps};
 ghost use Rattle.cd_c_scripts.specs.StepKinds.{end_kind, log_kind};
 ghost use Rattle.cd_c_scripts.specs.StepRooms.{KeepsToRooms};
 ghost use Rattle.cd_c_scripts.specs.declared.entries.Entry.{Entry as TheEntry};
@@ -60,13 +60,10 @@ fn tell_decided(
     ensures stage { run.new.machine.stage ≡ run.old.machine.stage }
     ensures sectors { run.new.machine.sectors ≡ run.old.machine.sectors }
     ensures held { run.new.machine.held ≡ run.old.machine.held }
-    ensures flags { run.new.flags ≡ run.old.flags }
-    ensures image_size { run.new.image_size ≡ run.old.image_size }
+    ensures passed { IsPassedOn run.old run.new step.new }
     ensures rest { drop run.old.machine.held hand.new ≡ drop run.old.machine.held hand.old }
     ensures plain { step.new.kind ≢ LOG → IsPlain step.new }
     ensures log { (step.new.kind ≡ END) ⊎ (step.new.kind ≡ LOG) }
-    ensures status { step.new.status ≤ 2 }
-    ensures rooms { KeepsToRooms step.new }
     ensures ends { step.new.kind ≡ END → (step.new.status ≡ 2) × (run.new.asked ≡ STOPPED) }
     ensures asked { step.new.kind ≡ LOG → run.new.asked ≡ NOTHING }
     ensures rereads { step.new.kind ≡ LOG → Rereads script.now run.old.version entries.now
@@ -95,13 +92,10 @@ fn tell_decided(
 /// Returns the last line of the log as the next step.
 fn tell_last_line(run: &mut ScriptRun, step: &mut RunStep)
     ensures machine { run.new.machine ≡ run.old.machine }
-    ensures flags { run.new.flags ≡ run.old.flags }
-    ensures image_size { run.new.image_size ≡ run.old.image_size }
+    ensures passed { IsPassedOn run.old run.new step.new }
     ensures plain { IsPlain step.new }
     ensures count { run.new.count ≡ run.old.count }
     ensures log { (step.new.kind ≡ END) ⊎ (step.new.kind ≡ LOG) }
-    ensures status { step.new.status ≤ 2 }
-    ensures rooms { KeepsToRooms step.new }
     ensures ends { step.new.kind ≡ END → (step.new.status ≡ 2) × (run.new.asked ≡ STOPPED) }
     ensures asked { step.new.kind ≡ LOG → run.new.asked ≡ OVER }
     ensures number { step.new.number ≡ 0 }
@@ -142,13 +136,10 @@ fn tell_failure(run: &mut ScriptRun, line: &Line, step: &mut RunStep)
 fn tell_error(run: &mut ScriptRun, done: usize, step: &mut RunStep)
     ensures asked { run.new.asked ≡ STOPPED }
     ensures machine { run.new.machine ≡ run.old.machine }
-    ensures flags { run.new.flags ≡ run.old.flags }
-    ensures image_size { run.new.image_size ≡ run.old.image_size }
+    ensures passed { IsPassedOn run.old run.new step.new }
     ensures plain { IsPlain step.new }
     ensures count { run.new.count ≡ run.old.count }
     ensures log { (step.new.kind ≡ END) ⊎ (step.new.kind ≡ LOG) }
-    ensures status { step.new.status ≤ 2 }
-    ensures rooms { KeepsToRooms step.new }
     ensures ends { step.new.kind ≡ END → step.new.status ≡ 2 }
     ensures number { step.new.number ≡ 0 }
     ensures wrong { done ≢ run.old.size → Stops run.new step.new }
@@ -172,12 +163,9 @@ fn tell_error(run: &mut ScriptRun, done: usize, step: &mut RunStep)
 fn tell_over(run: &mut ScriptRun, done: usize, step: &mut RunStep)
     requires { run.old.asked ≡ OVER }
     ensures machine { run.new.machine ≡ run.old.machine }
-    ensures flags { run.new.flags ≡ run.old.flags }
-    ensures image_size { run.new.image_size ≡ run.old.image_size }
+    ensures passed { IsPassedOn run.old run.new step.new }
     ensures plain { IsPlain step.new }
     ensures kind { step.new.kind ≡ END }
-    ensures status { step.new.status ≤ 2 }
-    ensures rooms { KeepsToRooms step.new }
     ensures ends { done ≡ run.old.size → run.old.most ≤ 1
         → (step.new.status ≡ run.old.most) × (run.new ≡ record run.old { size = 0 }) }
     ensures wrong { done ≢ run.old.size → (step.new.status ≡ 2) × (run.new.asked ≡ STOPPED) }
@@ -217,12 +205,9 @@ fn tell_step(
     ensures over { run.new.asked ≡ OVER → (run.new.machine.stage ≡ 2)
         × (run.new.machine.sectors ≤ sector_limit) }
     ensures held { run.new.machine.held ≡ run.old.machine.held }
-    ensures flags { run.new.flags ≡ run.old.flags }
-    ensures image_size { run.new.image_size ≡ run.old.image_size }
+    ensures passed { IsPassedOn run.old run.new step.new }
     ensures rest { drop run.old.machine.held hand.new ≡ drop run.old.machine.held hand.old }
     ensures plain { (step.new.kind ≢ LOG) ⊎ (run.new.asked ≢ NOTHING) → IsPlain step.new }
-    ensures status { step.new.status ≤ 2 }
-    ensures rooms { KeepsToRooms step.new }
     ensures known { KeepsToSize run.new step.new }
     ensures whole { AsksWhole run.new step.new }
     ensures falls { step.new.kind ≢ END
@@ -271,12 +256,9 @@ fn tell_next(
     ensures over { run.new.asked ≡ OVER → (run.new.machine.stage ≡ 2)
         × (run.new.machine.sectors ≤ sector_limit) }
     ensures held { run.new.machine.held ≡ run.old.machine.held }
-    ensures flags { run.new.flags ≡ run.old.flags }
-    ensures image_size { run.new.image_size ≡ run.old.image_size }
+    ensures passed { IsPassedOn run.old run.new step.new }
     ensures rest { drop run.old.machine.held hand.new ≡ drop run.old.machine.held hand.old }
     ensures plain { (step.new.kind ≢ LOG) ⊎ (run.new.asked ≢ NOTHING) → IsPlain step.new }
-    ensures status { step.new.status ≤ 2 }
-    ensures rooms { KeepsToRooms step.new }
     ensures known { KeepsToSize run.new step.new }
     ensures whole { AsksWhole run.new step.new }
     ensures ended { run.old.machine.stage ≡ 0 → 0 < run.new.machine.stage

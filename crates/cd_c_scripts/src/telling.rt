@@ -8,7 +8,7 @@ ghost use Rattle.cd_run.specs.Running.{IsRun};
 ghost use Rattle.cd_run.specs.Steps.{IsReady};
 ghost use Rattle.cd_run.specs.declared.run.Step.TheVariants.{Copy};
 ghost use Rattle.cd_patch.specs.OutcomeNumbers.{outcome_block, outcome_number, outcome_offset};
-ghost use Rattle.cd_c_scripts.specs.Runs.{CopiesWhole, IsPlain, ReadsWhole, error_line, status_of};
+ghost use Rattle.cd_c_scripts.specs.Runs.{AsksFullCopy, IsPlain, AsksFullRead, error_line, status_of};
 
 use crate::run_state::{
     COPY, COPYING, END, LOG, READ, READING, RunStep, STOPPED, ScriptRun, TOO_LONG, WRITE,
@@ -111,7 +111,7 @@ pub(crate) fn ask_copy(run: &mut ScriptRun, most: u32, left: u64, step: &mut Run
     ensures some { 0 < step.new.size }
     ensures most { run.new.size ≤ SECTOR_SIZE * most }
     ensures left { run.new.size ≤ left }
-    ensures whole { CopiesWhole run.new }
+    ensures whole { AsksFullCopy run.new }
     ensures others { run.new ≡ record run.old { asked = COPYING; most = most; size = run.new.size } }
 {
     let at = SECTOR_SIZE as u64 * u64::from(run.machine.sectors);
@@ -135,7 +135,7 @@ pub(crate) fn ask_read(run: &mut ScriptRun, left: u64, step: &mut RunStep)
     ensures some { 0 < step.new.size }
     ensures most { run.new.size ≤ SECTOR_SIZE }
     ensures left { run.new.size ≤ left }
-    ensures whole { ReadsWhole run.new }
+    ensures whole { AsksFullRead run.new }
     ensures beyond { (run.old.machine.sectors < sector_limit) ⊎ (run.new.size ≡ 1) }
     ensures others { run.new ≡ record run.old { asked = READING; most = 0; size = run.new.size } }
 {

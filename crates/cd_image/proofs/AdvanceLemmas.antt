@@ -1,14 +1,13 @@
 -- One step of a run, in terms of all patches.
 use Rattle.std.proofs.Common.{◌≡◌, ℕ, ◌+◌, ◌≤◌, ◌⊎◌, inl, inr, Bool, List, length, take, sym, subst, arith}
 use Rattle.std.specs.Prelude.{All}
-use Rattle.std.proofs.Math.ListN.{length-take}
 use Rattle.std.proofs.lemmas.List.{length-take-le}
 use Rattle.cd_script.specs.PatchForm.{Patch}
 use Rattle.cd_sector.specs.Image.{base_limit, sector_limit}
 use Rattle.cd_image.specs.Applying.{Streams}
 use Rattle.cd_image.specs.Passing.{HoldsInvariant}
 use Rattle.cd_run.specs.Steps.{WantsMore}
-use Rattle.cd_run.proofs.RunningLemmas.{none_open}
+use Rattle.cd_run.proofs.PlaceLemmas.{none_open}
 use Rattle.cd_run.specs.declared.run.PatchRun.{PatchRun}
 
 -- nothing was read, or no remaining patch begins before the front block
@@ -26,10 +25,6 @@ pub wants_window : {left : List Patch} {block : ℕ} (places : List (List ℕ)) 
     → WantsMore left block (length (take held places))
 wants_window {left} {block} places held within wants =
     subst (WantsMore left block) (sym (length-take-le held places within)) wants
-
--- a list whose front has n elements has at least n elements
-pub long_enough : (n : ℕ) (l : List ℕ) → length (take n l) ≡ n → n ≤ length l
-long_enough n l is = omega (arith, is, length-take n l)
 
 -- ---- the bounds of the numbers of a run
 

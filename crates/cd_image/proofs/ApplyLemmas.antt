@@ -18,16 +18,18 @@ use Rattle.cd_run.specs.Running.{Reached, tail_bytes}
 use Rattle.cd_run.specs.Steps.{WantsMore}
 use Rattle.cd_image.specs.Passing.{PassInvariant}
 use Rattle.cd_run.specs.Patched.{EachPatching, IsPatched}
-use Rattle.cd_run.specs.PatchLog.{bytes_before, lines_below, lines_within, log_line, log_lines, log_text}
+use Rattle.cd_run.specs.PatchLog.{bytes_before, log_line, log_lines, log_text}
 use Rattle.cd_read.specs.Ends.{MayBeImage, MayBeImageAtEnd}
 use Rattle.cd_read.specs.Reading.{ReadsSector}
 use Rattle.cd_read.specs.declared.fault.Fault.{Fault}
 use Rattle.cd_read.specs.declared.fault.Fault.TheVariants.{Log, Read, TooLong, Write}
-use Rattle.cd_image.proofs.KnownLemmas.{Extends, Extends-begun, Known, LogCut, StopsAtLog-within, applies, begins_now, bytes_of-begins, cut_after, cut_at, extends, known, known_now, length_sent, log_text-append, outcomes_length, size_read}
+use Rattle.cd_image.proofs.KnownLemmas.{LogCut, StopsAtLog-within, applies, begins_now, extends, length_sent, size_read}
 use Rattle.cd_read.proofs.EndLemmas.{Fits-begins}
 use Rattle.cd_run.proofs.BytesLemmas.{bytes_of-more, length-bytes_of}
+use Rattle.cd_run.proofs.SoFarLemmas.{Extends, Extends-begun, Known, bytes_of-begins, known, lines-below, log-too_long, outcomes_length, sent-too_long}
 use Rattle.cd_run.proofs.RunningLemmas.{Decidable}
-use Rattle.cd_run.proofs.PatchLogLemmas.{bytes_before-below, bytes_before-within, front_within-cut, front_within-front, lines_below-cut, lines_within-cut, lines_within-none, log_when_out_fails-sector, sent_when_log_fails-later, sent_when_log_fails-line}
+use Rattle.cd_run.proofs.PatchLogLemmas.{bytes_before-below, bytes_before-within, log_text-append, log_when_out_fails-sector, sent_when_log_fails-later, sent_when_log_fails-line}
+use Rattle.cd_image.proofs.general.Lists.{cut_after, cut_at}
 
 -- ---- the source fails, or gives too much
 
@@ -75,23 +77,12 @@ module _ {carry : Bool} {taken left : List Patch} {base : ℕ} {start now : Stre
         unended = r.unended;
         begins = λ whole fits. begins_now g (begun whole fits);
         between_sinks = λ whole fits os last patched.
-            let k = known_now g (begun whole fits) patched in
-            sym (ap (lines_within (base + sector_limit) (taken ++ left)) k.all
-            ∙ lines_within-cut (base + sector_limit) taken left g.outcomes k.back
-            (outcomes_length g) (g.state.reached refl)
-            (lines_within-none (base + sector_limit) left k.back block (length window) at_end
-            wants));
-        sent_before =
-            omega (
-              arith,
-              length_sent g,
-              front_within-cut (base + sector_limit) taken left (g.state.reached refl),
-              front_within-front (base + sector_limit) left block (length window) at_end wants,
-            );
+            sym (log-too_long g.state refl all wants (begun whole fits) patched);
+        sent_before = length_sent g ∙ sym (sent-too_long g.state refl all wants);
       })
     where
-      at_end : block + length window ≡ base + sector_limit
-      at_end = omega arith
+      all : sectors_read ≡ sector_limit
+      all = omega arith
 
       begun : (whole : List ℕ) → MayBeImage (bytes_of g.seen ++ r.came) whole
           → Extends g.seen None whole
@@ -134,13 +125,10 @@ module _ {carry : Bool} {taken left : List Patch} {base : ℕ} {start now : Stre
               (begins_now g (extends g fits) os last patched).1,
             );
         between_sinks = λ whole fits os last patched.
-            let k = knows fits patched in
             sym (log_when_out_fails-sector (taken ++ left) os base _ _ (length g.done)
             (omega (arith, length_part, fails.taken.1))
             (omega (arith, length_part, fails.taken.1, size_read g))
-            ∙ ap (lines_below (base + length g.done + 1) (taken ++ left)) k.all
-            ∙ lines_below-cut (base + length g.done + 1) taken left g.outcomes k.back
-            (outcomes_length g)
+            ∙ lines-below g.state (extends g fits) patched (base + length g.done + 1)
             (λ i d here. omega (arith, g.state.due refl i d here))
             (λ i d here. omega (arith, ahead i d here)));
       })
@@ -161,9 +149,9 @@ module _ {carry : Bool} {taken left : List Patch} {base : ℕ} {start now : Stre
           → {os : List Outcome} {last : List ℕ} → IsPatched carry (taken ++ left) os base whole last
           → Known (g.done ++ sector ∷ []) g.outcomes os last
       knows fits patched =
-          known g (extends g fits) _ (λ more. window ++ more)
+          known g.state (extends g fits) patched _ (λ more. window ++ more)
           (λ more. sym (append_assoc g.done (sector ∷ []) (window ++ more)))
-          (λ i d here. omega (arith, ahead i d here, length-append g.done (sector ∷ []))) patched
+          (λ i d here. omega (arith, ahead i d here, length-append g.done (sector ∷ [])))
 
 -- ---- the log fails in the line of a patch, before the tail was sent
 
@@ -229,13 +217,13 @@ module _ {carry : Bool} {taken : List Patch} {p : Patch} {left : List Patch} {ba
             some = omega (arith, length-append {A = ℕ}, length-drop n line, fails.taken.1);
             cut =
                 ap (log_text (taken ++ p ∷ left)) r.1
-                ∙ log_text-append taken (p ∷ left) g.outcomes (o ∷ r.0) (outcomes_length g)
+                ∙ log_text-append taken (p ∷ left) g.outcomes (o ∷ r.0) (outcomes_length g.state)
                 ∙ cut_after n (log_lines taken g.outcomes) line (log_lines left r.0) _;
             between_sinks =
                 length_sent g
                 ∙ sym (rw (r.1, length-append, length-take-le n line (omega (arith, fails.taken.1)))
                 (sent_when_log_fails-later whole base taken (p ∷ left) g.outcomes (o ∷ r.0) n
-                (outcomes_length g)
+                (outcomes_length g.state)
                 ∙ sent_when_log_fails-line whole base p left o r.0 n fails.taken.1
                 ∙ before_line base g.done whole unclosed may g.state.counts.front
                 (omega (arith, g.state.counts.held, g.state.counts.count))

@@ -3,7 +3,7 @@ use Rattle.std.proofs.Common.{◌≡◌, Bool, true, List, ℕ, ◌++◌, Some, 
 use Rattle.std.specs.Prelude.{All}
 use Rattle.cd_script.specs.Patch.{IsPatch}
 use Rattle.cd_script.specs.PatchForm.{Patch}
-use Rattle.cd_image.specs.Applying.{Applies, Begins, BeginsLog, HoldsFew, HoldsFewCounted, MayBeImageAfter, Streams, WritesCarried, WritesLog, WritesPatched}
+use Rattle.cd_image.specs.Applying.{Applies, AppliesPlainly, Begins, BeginsLog, HoldsFew, HoldsFewCounted, MayBeImageAfter, Streams, WritesCarried, WritesLog, WritesPatched}
 use Rattle.cd_run.specs.Patched.{EachPatching, IsPatched}
 use Rattle.cd_image.specs.Applying.{patch_tally}
 use Rattle.cd_run.specs.PatchLog.{log_text}
@@ -13,7 +13,7 @@ use Rattle.cd_read.specs.declared.fault.Fault.TheVariants.{Log, Read, TooLong, W
 use Rattle.cd_image.specs.declared.patch_log.Tally.{Tally}
 use Rattle.cd_run.proofs.PatchedLemmas.{IsPatched-carries, IsPatched-determined}
 use Rattle.cd_read.proofs.general.KnownBytes.{appended, consumed_all, consumed_length}
-use Rattle.cd_read.proofs.EndLemmas.{Ending, EndsBy}
+use Rattle.cd_read.proofs.EndLemmas.{Ending, EndsBy, by_end, by_length, ended as all_ended, log_failed, read_failed, too_long, write_failed}
 
 -- `Applies` for an equal list of patches
 pub Applies-same : {carry : Bool} {ps qs : List Patch} {base : ℕ} {old new : Streams}
@@ -113,6 +113,28 @@ module _ {carry : Bool} {patches : List Patch} {base : ℕ} {old new : Streams} 
   pub Applies-few_counted : (result : Result Tally Fault)
       → Applies carry patches base old new result → HoldsFewCounted old new
   Applies-few_counted result a = omega (arith, a.given, a.out_taken, a.in_hand)
+
+  pub Applies-plainly : All IsPatch patches → (result : Result Tally Fault)
+      → Applies carry patches base old new result
+      → AppliesPlainly carry patches base old new result
+  Applies-plainly each result a =
+      let ending = Applies-ending result a in
+      record {
+        output = Applies-output result a;
+        carried = Applies-carried result a each;
+        log = Applies-log_bytes result a;
+        output_ends_well = Applies-ends_out result a;
+        log_ends_well = Applies-ends_log result a;
+        read_failed = read_failed result ending;
+        write_failed = write_failed result ending;
+        log_failed = log_failed result ending;
+        too_long = too_long result ending;
+        by_length = λ reads writes logs. by_length reads writes logs result ending;
+        ended = all_ended result ending;
+        by_end = λ reads writes logs. by_end reads writes logs result ending;
+        holds_few = Applies-few result a;
+        holds_few_counted = Applies-few_counted result a;
+      }
 
   begins_log : {fault : Fault} (a : Applies carry patches base old new (Err fault))
       → ((whole : List ℕ) → MayBeImageAfter fault new.image.rest a.read whole

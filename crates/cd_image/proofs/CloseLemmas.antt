@@ -17,21 +17,20 @@ use Rattle.cd_image.specs.Applying.{Applies, Streams}
 use Rattle.cd_sector.specs.Image.{image_limit, bytes_of}
 use Rattle.cd_image.specs.Passing.{PassInvariant}
 use Rattle.cd_run.specs.Running.{Reached}
-use Rattle.cd_run.specs.Patched.{EachPatching, IsPatched}
+use Rattle.cd_run.specs.Patched.{IsPatched}
 use Rattle.cd_image.specs.Applying.{patch_tally}
 use Rattle.cd_run.specs.PatchLog.{applied_count, counts_line, log_line, log_lines, log_text, log_when_out_fails, refused_count, sent_when_log_fails}
-use Rattle.cd_read.specs.Ends.{MayBeImageAtEnd}
 use Rattle.cd_read.specs.declared.fault.Fault.TheVariants.{Log, Write}
 use Rattle.cd_image.specs.declared.patch_log.Tally.{Tally}
 use Rattle.cd_sector.proofs.general.Counts.{count_by-append}
 use Rattle.cd_sector.proofs.ImageLemmas.{cut_of_joined}
-use Rattle.cd_image.proofs.KnownLemmas.{StopsAtLog-within, applies, cut_at, outcomes_length, size_read}
-use Rattle.cd_read.proofs.EndLemmas.{MayBeImageAtEnd-end}
+use Rattle.cd_image.proofs.KnownLemmas.{StopsAtLog-within, applies, by_run, size_read}
 use Rattle.cd_run.proofs.BytesLemmas.{length-bytes_of}
+use Rattle.cd_run.proofs.SoFarLemmas.{outcomes_length}
 use Rattle.cd_run.proofs.RunningLemmas.{Decidable, never_some}
 use Rattle.cd_image.proofs.ApplyLemmas.{Applies-log}
-use Rattle.cd_run.proofs.PatchedLemmas.{IsPatched-determined}
 use Rattle.cd_run.proofs.PatchLogLemmas.{PatchSequence-missing, applied_count-missing_outcomes, bytes_before-after, counts-all, log_when_out_fails-end, log_when_out_fails-tail, log_lines-append, missing_lines, sent_when_log_fails-after, sent_when_log_fails-later, lines_below-cut, missing_outcomes}
+use Rattle.cd_image.proofs.general.Lists.{cut_at}
 
 -- a tally by its four numbers
 abbrev pub tally : ℕ → ℕ → ℕ → ℕ → Tally
@@ -89,7 +88,7 @@ module _ {carry : Bool} {taken left : List Patch} {base : ℕ} {start now : Stre
       let os = g.outcomes ++ missing in
       let old = cut_of_joined g.seen end g.state.seen_sizes g.state.counts.short in
       let new = cut_of_joined g.done end g.state.done_sizes g.state.counts.short in
-      let lengths = outcomes_length g in
+      let lengths = outcomes_length g.state in
       let past : All (λ p. base + length g.done ≤ p.block) left =
       λ k d inside. omega (arith, ahead k d inside, g.state.counts.front) in
       let first = simp append-nil at (g.state.run [] (λ _. refl)) in
@@ -126,16 +125,6 @@ module _ {carry : Bool} {taken left : List Patch} {base : ℕ} {start now : Stre
             bytes_before-after image base _ (omega (arith, past k d here, ap length old.0)));
       }
 
-  -- a statement about this run holds for each run on each image that may be the one read
-  by_run : (Holds : List ℕ → List Outcome → List ℕ → Type 0)
-      → Holds r.read r.outcomes (bytes_of g.done ++ end) → (whole : List ℕ)
-      → MayBeImageAtEnd now.image.rest r.read whole
-      → EachPatching carry (taken ++ left) base whole (Holds whole)
-  by_run Holds h whole fits os new patched =
-      let is = MayBeImageAtEnd-end now.image.rest r.read whole (g.ended refl).0 fits in
-      let same = IsPatched-determined _ _ _ _ _ _ _ _ (rw is at patched) r.patched in
-      rw (is, same.0, same.1) h
-
 -- the output fails in the tail
 pub Closes-tail : {X E : Type 0} {f : E} {carry : Bool} {taken left : List Patch} {base : ℕ}
     {start now : Streams} {block sectors_read applied : ℕ} {end : List ℕ} {out : Outgoing}
@@ -143,7 +132,7 @@ pub Closes-tail : {X E : Type 0} {f : E} {carry : Bool} {taken left : List Patch
     false)
     → Sends {X = X} {E = E} now.out out end (Err f)
     → Applies carry (taken ++ left) base start (record now { out = out }) (Err Write)
-Closes-tail {end = end} g fails =
+Closes-tail {now = now} {end = end} g fails =
     let run = r g in
     let n = fails.taken.0 in
     let sent = bytes_of g.done ++ take n end in
@@ -158,8 +147,8 @@ Closes-tail {end = end} g fails =
       at_end = λ less. refl;
       cut = λ sure. inside.1;
       within = run.within;
-      begins = by_run g _ ((drop n end, rw (append_assoc, take-append-drop)), (_, run.whole_log));
-      between_sinks = by_run g _ (sym (run.log_at_tail refl (length sent) inside));
+      begins = by_run now.image.rest (g.ended refl).0 run.patched _ ((drop n end, rw (append_assoc, take-append-drop)), (_, run.whole_log));
+      between_sinks = by_run now.image.rest (g.ended refl).0 run.patched _ (sym (run.log_at_tail refl (length sent) inside));
     })
 
 -- ---- the tail was sent
@@ -177,7 +166,7 @@ module _ {carry : Bool} {taken left : List Patch} {base : ℕ} {start now : Stre
       let run = r g in
       let n = fails.taken.0 in
       applies run.gives g.sends (Takes-trans _ _ _ _ _ g.logs fails.taken.2)
-      (omega (arith, run.size)) (StopsAtLog-within (by_run g _ (record {
+      (omega (arith, run.size)) (StopsAtLog-within (by_run now.image.rest (g.ended refl).0 run.patched _ (record {
         begins = ([], sym (append-nil _));
         missing = drop n part ++ begins.0;
         some = omega (arith, fails.taken.1, length-append {A = ℕ}, length-drop n part);
@@ -251,9 +240,9 @@ module _ {carry : Bool} {taken : List Patch} {base : ℕ} {start now : Streams}
           cut = λ sure. absurd (true≢false (sym fails.fails ∙ g.sends.flush_may_fail ∙ sure));
           within = run.within;
           begins =
-              by_run g _ (([], sym (append-nil _)), ([], run.whole_log ∙ sym (append-nil _)));
+              by_run now.image.rest (g.ended refl).0 run.patched _ (([], sym (append-nil _)), ([], run.whole_log ∙ sym (append-nil _)));
           between_sinks =
-              by_run g _ (sym (log_when_out_fails-end _ _ _ _ _ run.size ∙ run.whole_log));
+              by_run now.image.rest (g.ended refl).0 run.patched _ (sym (log_when_out_fails-end _ _ _ _ _ run.size ∙ run.whole_log));
         })
 
     -- the log fails in its flush
@@ -270,10 +259,10 @@ module _ {carry : Bool} {taken : List Patch} {base : ℕ} {start now : Streams}
           once = omega arith;
           within = run.within;
           begins =
-              by_run g _ (([], sym (append-nil _)), ([], run.whole_log ∙ sym (append-nil _)));
-          between_sinks = by_run g _ (run.size ∙ sym (rw length-append (run.sent_at_log _)));
-          flushed = by_run g _ (λ all. flushed.finished);
-          at_end = by_run g _ (λ all. refl, λ once. sym run.whole_log);
+              by_run now.image.rest (g.ended refl).0 run.patched _ (([], sym (append-nil _)), ([], run.whole_log ∙ sym (append-nil _)));
+          between_sinks = by_run now.image.rest (g.ended refl).0 run.patched _ (run.size ∙ sym (rw length-append (run.sent_at_log _)));
+          flushed = by_run now.image.rest (g.ended refl).0 run.patched _ (λ all. flushed.finished);
+          at_end = by_run now.image.rest (g.ended refl).0 run.patched _ (λ all. refl, λ once. sym run.whole_log);
           cut = λ sure. absurd (true≢false (sym fails.fails ∙ all_logged.flush_may_fail ∙ sure));
         })
 

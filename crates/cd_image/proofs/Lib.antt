@@ -5,3 +5,4 @@ pub mod CloseLemmas
 pub mod KnownLemmas
 pub mod PassingLemmas
 pub mod RunningLemmas
+pub mod general

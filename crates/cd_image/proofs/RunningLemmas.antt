@@ -1,5 +1,5 @@
 -- The contracts of `run_check` and `run_apply`.
-use Rattle.std.proofs.Common.{◌≡◌, ◌≢◌, ◌⊎◌, ℕ, ◌==◌, Bool, true, false, List, Result, Ok, Err, refl, ap, ◌∙◌, inl, inr}
+use Rattle.std.proofs.Common.{◌≡◌, ◌≢◌, ◌⊎◌, ℕ, ◌==◌, Bool, true, false, List, Ok, Err, refl, ap, ◌∙◌, inl, inr}
 use Rattle.cd_stream.specs.Stream.{Incoming, Outgoing}
 use Rattle.cd_read.specs.Ends.{IsTooLong}
 use Rattle.cd_read.specs.Printing.{PrintsFaultLine}

@@ -1,7 +1,7 @@
--- The effect of `apply` and `check`, for each result. Their plain clauses, at the end of this file,
--- follow from `Applies`.
+-- The effect of `apply` and `check`, for each result. The plain clauses of `apply`, at the end of
+-- this file, follow from `Applies`.
 use Rattle.std.specs.Prelude.{◌≡◌, ◌↔◌, ℕ, ◌+◌, ◌<◌, ◌≤◌, Bool, true, false, List, [], ◌++◌}
-use Rattle.std.specs.Prelude.{length, Option, None, Some, Result, Ok, Err}
+use Rattle.std.specs.Prelude.{length, Option, None, Some, Result, Ok, Err, IfOk, OnOk}
 use Rattle.std.specs.Io.KnownBytes.{Appends, Consumes, IsAtEnd}
 use Rattle.cd_code.specs.Field.{AreBytes}
 use Rattle.cd_script.specs.PatchForm.{Patch}
@@ -12,7 +12,7 @@ use Rattle.cd_run.specs.PatchLog.{sent_when_log_fails, sent_when_too_long}
 use Rattle.cd_run.specs.InHand.{bytes_in_hand}
 use Rattle.cd_run.specs.Patched.{CarriesDamage, EachPatching, IsPatched}
 use Rattle.cd_stream.specs.Stream.{Incoming, IsBeginning, Outgoing}
-use Rattle.cd_read.specs.Ends.{MayBeImage, MayBeImageAtEnd}
+use Rattle.cd_read.specs.Ends.{AnswersByEnd, AnswersByLength, AnswersTooLong, EndsWell, MayBeImage, MayBeImageAtEnd}
 use Rattle.cd_read.specs.declared.fault.Fault.{Fault}
 use Rattle.cd_read.specs.declared.fault.Fault.TheVariants.{Log, Read, TooLong, Write}
 use Rattle.cd_image.specs.declared.patch_log.Tally.{Tally}
@@ -260,3 +260,24 @@ WritesCarried patches base image out out' =
     (bytes earlier : List ℕ) → AreBytes bytes → image.rest ≡ Some bytes → out.written ≡ Some earlier
     → (outcomes : List Outcome) × (last : List ℕ) × (out'.written ≡ Some (earlier ++ last))
     × CarriesDamage patches outcomes base bytes last
+
+-- the plain clauses of `apply`: the result if nothing failed, when each error occurs, and how many
+-- bytes are held
+pub record AppliesPlainly (carry : Bool) (patches : List Patch) (base : ℕ) (old new : Streams)
+    (result : Result Tally Fault) : Type 0 where
+  pub output : OnOk result (WritesPatched carry patches base old.image new.image old.out new.out)
+  pub carried : carry ≡ true → OnOk result (WritesCarried patches base old.image old.out new.out)
+  pub log : IfOk result (WritesLog carry patches base old.image old.log new.log)
+  pub output_ends_well : OnOk result (EndsWell old.image new.image old.out new.out)
+  pub log_ends_well : OnOk result (EndsWell old.image new.image old.log new.log)
+  pub read_failed : (result ≡ Err Read) ↔ (new.image.failures ≡ old.image.failures + 1)
+  pub write_failed : (result ≡ Err Write) ↔ (new.out.failures ≡ old.out.failures + 1)
+  pub log_failed : (result ≡ Err Log) ↔ (new.log.failures ≡ old.log.failures + 1)
+  pub too_long : AnswersTooLong old.image new.image result
+  pub by_length : new.image.failures ≡ old.image.failures → new.out.failures ≡ old.out.failures
+      → new.log.failures ≡ old.log.failures → AnswersByLength old.image result
+  pub ended : OnOk result (new.image.ended ≡ true)
+  pub by_end : new.image.failures ≡ old.image.failures → new.out.failures ≡ old.out.failures
+      → new.log.failures ≡ old.log.failures → AnswersByEnd new.image result
+  pub holds_few : HoldsFew old new
+  pub holds_few_counted : HoldsFewCounted old new

@@ -1,12 +1,12 @@
 -- Plumbing of `apply` and `check`: the progress of a run over a source and two sinks.
-use Rattle.std.specs.Prelude.{◌≡◌, ℕ, ◌+◌, ◌-◌, ◌*◌, ◌≤◌, Bool, true, List, ◌++◌}
+use Rattle.std.specs.Prelude.{◌≡◌, ℕ, ◌≤◌, Bool, true, List, ◌++◌}
 use Rattle.std.specs.Prelude.{take, drop, Option, IsSome, Result, Ok, Err}
 use Rattle.std.specs.Io.KnownBytes.{IsAtEnd}
 use Rattle.cd_script.specs.PatchForm.{Patch}
 use Rattle.cd_patch.specs.declared.outcome.Outcome.{Outcome}
 use Rattle.cd_image.specs.Applying.{Applies, Failed, Flushed, Streams}
 use Rattle.cd_run.specs.Running.{Reached, closed_at, sent_bytes, tail_bytes, tail_of, window_of}
-use Rattle.cd_sector.specs.Image.{bytes_of, sector_limit}
+use Rattle.cd_sector.specs.Image.{bytes_of}
 use Rattle.cd_run.specs.PatchLog.{log_lines}
 use Rattle.cd_read.specs.declared.fault.Fault.{Fault}
 use Rattle.cd_stream.specs.Transfer.{Gives, Takes}
@@ -44,15 +44,8 @@ Steps carry taken left taken' left' base start now run hand (Ok x) =
 Steps carry taken left taken' left' base start now run hand (Err fault) =
     Applies carry (taken ++ left) base start now (Err fault)
 
--- ---- the remaining work for a number of patches, which each step reduces
-
--- the remaining work of a run with `count` patches: each step reduces it, so the run ends
-abbrev pub left_to_do : ℕ → PatchRun → ℕ
-left_to_do count run =
-    2 * (sector_limit - run.sectors) + run.held + (count - run.decided) + (2 - run.stage)
-
 -- the run is complete, for this number of patches
-pub record IsDone (count : ℕ) (run : PatchRun) : Type 0 where
+pub record HasNoStepLeft (count : ℕ) (run : PatchRun) : Type 0 where
   pub empty : run.held ≡ 0
   pub closed : run.stage ≡ 2
   pub all : count ≤ run.decided

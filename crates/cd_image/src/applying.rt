@@ -4,8 +4,7 @@ ghost use Rattle.std.specs.Prelude.{◌≡◌, ◌≢◌, ◌+◌, ◌≤◌, �
 ghost use Rattle.std.specs.Prelude.{true};
 ghost use Rattle.cd_script.specs.Patch.{IsPatchList};
 ghost use Rattle.cd_read.specs.Ends.{AnswersByEnd, AnswersByLength, AnswersTooLong, EndsWell};
-ghost use Rattle.cd_image.specs.Applying.{Applies, BeginsLog, Checks, HoldsFew, HoldsFewCounted};
-ghost use Rattle.cd_image.specs.Applying.{WritesCarried, WritesLog, WritesPatched, streams};
+ghost use Rattle.cd_image.specs.Applying.{Applies, AppliesPlainly, BeginsLog, Checks, WritesLog, streams};
 ghost use Rattle.cd_stream.specs.Stream.{CanCountFailure};
 ghost use Rattle.cd_sector.specs.Image.{base_limit};
 
@@ -63,38 +62,11 @@ pub fn apply<I: Source, O: Sink, L: Sink>(
         (streams (I.seen image.old) (O.seen out.old) (L.seen log.old))
         (streams (I.seen image.new) (O.seen out.new) (L.seen log.new)) result }
 
-    // The result if nothing failed, when each error occurs, and how many bytes are held.
-    ensures output { OnOk result (WritesPatched carry script.now base
-        (I.seen image.old) (I.seen image.new) (O.seen out.old) (O.seen out.new)) }
-    ensures carried { carry ≡ true → OnOk result (WritesCarried script.now base
-        (I.seen image.old) (O.seen out.old) (O.seen out.new)) }
-    ensures log { IfOk result (WritesLog carry script.now base
-        (I.seen image.old) (L.seen log.old) (L.seen log.new)) }
-    ensures output_ends_well { OnOk result (EndsWell
-        (I.seen image.old) (I.seen image.new) (O.seen out.old) (O.seen out.new)) }
-    ensures log_ends_well { OnOk result (EndsWell
-        (I.seen image.old) (I.seen image.new) (L.seen log.old) (L.seen log.new)) }
-    ensures read_failed { (result ≡ Err Fault.Read)
-        ↔ ((I.seen image.new).failures ≡ (I.seen image.old).failures + 1) }
-    ensures write_failed { (result ≡ Err Fault.Write)
-        ↔ ((O.seen out.new).failures ≡ (O.seen out.old).failures + 1) }
-    ensures log_failed { (result ≡ Err Fault.Log)
-        ↔ ((L.seen log.new).failures ≡ (L.seen log.old).failures + 1) }
-    ensures too_long { AnswersTooLong (I.seen image.old) (I.seen image.new) result }
-    ensures by_length { (I.seen image.new).failures ≡ (I.seen image.old).failures
-        → (O.seen out.new).failures ≡ (O.seen out.old).failures
-        → (L.seen log.new).failures ≡ (L.seen log.old).failures
-        → AnswersByLength (I.seen image.old) result }
-    ensures ended { OnOk result ((I.seen image.new).ended ≡ true) }
-    ensures by_end { (I.seen image.new).failures ≡ (I.seen image.old).failures
-        → (O.seen out.new).failures ≡ (O.seen out.old).failures
-        → (L.seen log.new).failures ≡ (L.seen log.old).failures
-        → AnswersByEnd (I.seen image.new) result }
-    ensures holds_few { HoldsFew (streams (I.seen image.old) (O.seen out.old) (L.seen log.old))
-        (streams (I.seen image.new) (O.seen out.new) (L.seen log.new)) }
-    ensures holds_few_counted { HoldsFewCounted
+    // The same in plain clauses: the result if nothing failed, when each error occurs, and how many
+    // bytes are held.
+    ensures plain { AppliesPlainly carry script.now base
         (streams (I.seen image.old) (O.seen out.old) (L.seen log.old))
-        (streams (I.seen image.new) (O.seen out.new) (L.seen log.new)) }
+        (streams (I.seen image.new) (O.seen out.new) (L.seen log.new)) result }
 {
     // Proof step: the clauses of `apply` are proved from the one record that this call promises.
     apply_patches(image, script.patches(), base, carry, out, log)

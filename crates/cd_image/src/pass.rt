@@ -16,9 +16,9 @@ ghost use Rattle.cd_sector.specs.Image.{sector_limit};
 ghost use Rattle.cd_read.specs.Reading.{ReadsSector};
 ghost use Rattle.cd_run.specs.declared.run.Ahead.{Ahead as TheAhead};
 ghost use Rattle.cd_run.specs.Running.{IsRun};
-ghost use Rattle.cd_run.specs.Steps.{MayDecide, WantsMore};
+ghost use Rattle.cd_run.specs.Steps.{MayDecide, WantsMore, machine_steps};
 ghost use Rattle.cd_image.specs.Applying.{Applies, Streams, streams};
-ghost use Rattle.cd_image.specs.Passing.{Advances, HoldsInvariant, IsDone, Steps, left_to_do};
+ghost use Rattle.cd_image.specs.Passing.{Advances, HoldsInvariant, HasNoStepLeft, Steps};
 
 use crate::patch_log::{Tally, finish_log, send_counts, send_outcome};
 use cd_patch::blocks_met;
@@ -66,7 +66,7 @@ fn read_next<I: Source>(run: &mut PatchRun, hand: &mut [Sector], image: &mut I) 
     ensures decided { OnOk result (run.new.decided ≡ run.old.decided) }
     ensures applied { OnOk result (run.new.applied ≡ run.old.applied) }
     ensures nearer { OnOk result ((count : ℕ)
-        → left_to_do count run.new < left_to_do count run.old) }
+        → machine_steps count run.new < machine_steps count run.old) }
 {
     match read_to(hand, run.held, image, run.sectors)? {
         None => run.took_sector(),
@@ -93,7 +93,7 @@ fn write_front<O: Sink>(run: &mut PatchRun, hand: &mut [Sector], out: &mut O) ->
     ensures decided { OnOk result (run.new.decided ≡ run.old.decided) }
     ensures applied { OnOk result (run.new.applied ≡ run.old.applied) }
     ensures nearer { OnOk result ((count : ℕ)
-        → left_to_do count run.new < left_to_do count run.old) }
+        → machine_steps count run.new < machine_steps count run.old) }
 {
     write_all(out, hand[0].bytes())?;
     run.sent_front(hand);
@@ -116,7 +116,7 @@ fn write_tail<O: Sink>(run: &mut PatchRun, hand: &[Sector], out: &mut O) -> Resu
     ensures decided { OnOk result (run.new.decided ≡ run.old.decided) }
     ensures applied { OnOk result (run.new.applied ≡ run.old.applied) }
     ensures nearer { OnOk result ((count : ℕ)
-        → left_to_do count run.new < left_to_do count run.old) }
+        → machine_steps count run.new < machine_steps count run.old) }
 {
     write_all(out, run.tail_in(hand))?;
     run.sent_tail();
@@ -149,7 +149,7 @@ fn decide_next<L: Sink>(
     ensures decided { OnOk result (run.new.decided ≡ run.old.decided + 1) }
     ensures applied { OnOk result (run.new.applied ≤ run.old.applied + 1) }
     ensures nearer { OnOk result ((count : ℕ) → run.old.decided < count
-        → left_to_do count run.new < left_to_do count run.old) }
+        → machine_steps count run.new < machine_steps count run.old) }
 {
     let outcome = run.decide(hand, &lend(patch), carry);
     send_outcome(patch, outcome, log)?;
@@ -221,10 +221,10 @@ pub(crate) fn advance<I: Source, O: Sink, L: Sink>(
         → HoldsInvariant carry (take run.old.decided patches.now)
         (drop run.old.decided patches.now)
         base start (streams (I.seen image.old) (O.seen out.old) (L.seen log.old)) run.old hand.old
-        → IsDone (length patches.now) run.new) }
+        → HasNoStepLeft (length patches.now) run.new) }
     ensures nearer { IfOk result (λ more.
-        left_to_do (length patches.now) run.new + (if more then 1 else 0)
-        ≤ left_to_do (length patches.now) run.old) }
+        machine_steps (length patches.now) run.new + (if more then 1 else 0)
+        ≤ machine_steps (length patches.now) run.old) }
 {
     let patch = patch_at(patches, run.decided);
     match run.next(ahead(patch, run.block)) {
@@ -251,7 +251,7 @@ pub(crate) fn close<O: Sink, L: Sink>(
     requires count { length patches.now ≤ patch_limit }
     requires sound { IsRun run.now }
     requires places { block_limit ≤ length hand.now }
-    requires done { IsDone (length patches.now) run.now }
+    requires done { HasNoStepLeft (length patches.now) run.now }
     requires known { run.now.decided ≤ length patches.now }
     requires applied { run.now.applied ≤ run.now.decided }
     ensures { (carry : Bool) (base : ℕ) (start : Streams) (image : Incoming)

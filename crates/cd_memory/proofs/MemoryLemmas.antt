@@ -7,7 +7,7 @@ use Rattle.std.specs.Str.{bytes_eq}
 use Rattle.cd_stream.specs.Stream.{Outgoing}
 use Rattle.cd_stream.specs.declared.adapters.slice_source.SliceSource.{SliceSource}
 use Rattle.cd_program.specs.Program.{TakesImage}
-use Rattle.cd_program.specs.declared.host.OpenFault.{OpenFault}
+use Rattle.cd_host.specs.declared.host.OpenFault.{OpenFault}
 use Rattle.cd_memory.specs.Files.{NamedFile, file_bytes, named_file, with_bytes, with_file}
 use Rattle.cd_memory.specs.Memory.{Opens, files_of, input_of, memory_hosting}
 use Rattle.cd_memory.specs.Whole.{environment, image_at}

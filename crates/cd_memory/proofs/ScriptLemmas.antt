@@ -10,14 +10,15 @@ use Rattle.cd_stream.specs.Adapters.{slice_incoming}
 use Rattle.cd_stream.specs.Stream.{Outgoing}
 use Rattle.cd_stream.specs.Transfer.{Gives}
 use Rattle.cd_stream.specs.declared.adapters.slice_source.SliceSource.{SliceSource}
-use Rattle.cd_program.specs.Messages.{load_fault_line, no_script, open_fault_line}
+use Rattle.cd_host.specs.Messages.{load_fault_line, no_script}
+use Rattle.cd_program.specs.Messages.{open_fault_line}
 use Rattle.cd_run.specs.Messages.{script_fault_line}
 use Rattle.cd_program.specs.Program.{ComesOfFile, ReadsScript}
 use Rattle.cd_read.specs.Printing.{PrintsAndFails, PrintsLine}
-use Rattle.cd_program.specs.ScriptLines.{IsFaultOf, StopsLoading}
-use Rattle.cd_program.specs.declared.host.OpenFault.{OpenFault}
-use Rattle.cd_program.specs.declared.script.LoadFault.{LoadFault}
-use Rattle.cd_program.specs.declared.script.LoadFault.TheVariants.{NoMemory, Read, TooLong}
+use Rattle.cd_host.specs.ScriptLines.{IsFaultOf, StopsLoading}
+use Rattle.cd_host.specs.declared.host.OpenFault.{OpenFault}
+use Rattle.cd_host.specs.declared.script.LoadFault.{LoadFault}
+use Rattle.cd_host.specs.declared.script.LoadFault.TheVariants.{NoMemory, Read, TooLong}
 use Rattle.cd_memory.specs.Files.{file_bytes}
 use Rattle.cd_memory.specs.Memory.{Opens, memory_hosting}
 use Rattle.cd_stream.specs.Rooms.{fresh_incoming}

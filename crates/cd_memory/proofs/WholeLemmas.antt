@@ -22,8 +22,8 @@ use Rattle.std.specs.Io.KnownBytes.{Appends}
 use Rattle.cd_read.specs.Printing.{Ends, PrintsLine}
 use Rattle.cd_report.specs.Running.{audit_status}
 use Rattle.cd_image.specs.Running.{script_status}
-use Rattle.cd_program.specs.declared.host.OpenFault.{OpenFault}
-use Rattle.cd_program.specs.declared.host.OpenFault.TheVariants.{NoMemory, Refused}
+use Rattle.cd_host.specs.declared.host.OpenFault.{OpenFault}
+use Rattle.cd_host.specs.declared.host.OpenFault.TheVariants.{NoMemory, Refused}
 use Rattle.cd_args.specs.declared.settings.Settings.{Settings}
 use Rattle.cd_memory.specs.Files.{file_bytes, named_file, with_bytes}
 use Rattle.cd_memory.specs.declared.memory.Memory.{Memory}

@@ -5,9 +5,9 @@ use Rattle.cd_stream.specs.Stream.{Incoming, Outgoing}
 use Rattle.cd_stream.specs.Adapters.{slice_incoming}
 use Rattle.cd_stream.specs.Rooms.{fresh_incoming, fresh_outgoing}
 use Rattle.cd_stream.specs.declared.adapters.slice_source.SliceSource.{SliceSource}
-use Rattle.cd_program.specs.Hosting.{Hosting}
-use Rattle.cd_program.specs.declared.host.OpenFault.{OpenFault}
-use Rattle.cd_program.specs.declared.host.OpenFault.TheVariants.{NoMemory, Refused}
+use Rattle.cd_host.specs.Hosting.{Hosting}
+use Rattle.cd_host.specs.declared.host.OpenFault.{OpenFault}
+use Rattle.cd_host.specs.declared.host.OpenFault.TheVariants.{NoMemory, Refused}
 use Rattle.cd_memory.specs.Files.{NamedFile, file_bytes, named_file, with_bytes}
 use Rattle.cd_memory.specs.declared.growing.Growing.{Growing}
 use Rattle.cd_memory.specs.declared.memory.Memory.{Memory}

@@ -30,11 +30,12 @@ use Rattle.cd_run.specs.InHand.{bytes_in_hand}
 use Rattle.cd_run.specs.PatchLog.{log_text, log_when_out_fails, log_when_too_long, sent_when_log_fails, sent_when_too_long}
 use Rattle.cd_run.specs.Patched.{EachPatching, IsPatched}
 use Rattle.cd_read.specs.Messages.{fault_line}
-use Rattle.cd_program.specs.Messages.{load_fault_line, no_image, no_output, no_script}
+use Rattle.cd_host.specs.Messages.{load_fault_line, no_script}
+use Rattle.cd_program.specs.Messages.{no_image, no_output}
 use Rattle.cd_run.specs.Messages.{script_fault_line}
 use Rattle.cd_report.specs.Running.{audit_status}
 use Rattle.cd_image.specs.Running.{script_status}
-use Rattle.cd_program.specs.declared.script.LoadFault.TheVariants as load_fault
+use Rattle.cd_host.specs.declared.script.LoadFault.TheVariants as load_fault
 use Rattle.cd_args.specs.declared.settings.Settings.{Settings}
 use Rattle.cd_memory.specs.Files.{NamedFile, file_bytes, named_file}
 use Rattle.cd_memory.specs.declared.run.Ended.{Ended}

@@ -14,11 +14,11 @@ use Rattle.cd_read.specs.declared.fault.Fault.{Fault}
 use Rattle.cd_stream.specs.Stream.{Incoming, Outgoing}
 use Rattle.cd_stream.specs.Transfer.{Counts}
 use Rattle.cd_stream.specs.declared.sink.SinkFailed.{SinkFailed}
-use Rattle.cd_program.specs.Hosting.{Hosting}
+use Rattle.cd_host.specs.Hosting.{Hosting}
 use Rattle.cd_read.specs.Printing.{CallThenLine, Ends}
 use Rattle.cd_report.specs.Running.{audit_status}
 use Rattle.cd_image.specs.Running.{script_status}
-use Rattle.cd_program.specs.declared.host.OpenFault.{OpenFault}
+use Rattle.cd_host.specs.declared.host.OpenFault.{OpenFault}
 use Rattle.cd_args.specs.declared.settings.Settings.{Settings}
 use Rattle.cd_read.proofs.PrintingLemmas.{one-more}
 

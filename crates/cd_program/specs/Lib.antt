@@ -1,4 +1,2 @@
-pub mod Hosting
 pub mod Messages
 pub mod Program
-pub mod ScriptLines

@@ -2,15 +2,8 @@
 -- error in a script are in cd_run, and those for an error of a call on an image in cd_read.
 use Rattle.std.specs.Prelude.{ℕ, List, codes}
 use Rattle.cd_args.specs.Fault.{no_memory}
-use Rattle.cd_run.specs.Messages.{long_script}
-use Rattle.cd_program.specs.declared.host.OpenFault.{OpenFault}
-use Rattle.cd_program.specs.declared.host.OpenFault.TheVariants as open_fault
-use Rattle.cd_program.specs.declared.script.LoadFault.{LoadFault}
-use Rattle.cd_program.specs.declared.script.LoadFault.TheVariants as load_fault
-
--- a script's file could not be opened or read
-abbrev pub no_script : List ℕ
-no_script = codes "cdpatch: cannot read the script\n"
+use Rattle.cd_host.specs.declared.host.OpenFault.{OpenFault}
+use Rattle.cd_host.specs.declared.host.OpenFault.TheVariants as open_fault
 
 -- the image was not opened
 abbrev pub no_image : List ℕ
@@ -29,9 +22,3 @@ not_text = codes "cdpatch: the words are not text\n"
 unfoldable pub open_fault_line : List ℕ → OpenFault → List ℕ
 open_fault_line line open_fault.Refused = line
 open_fault_line line open_fault.NoMemory = no_memory
-
--- the line for a script's file that could not be loaded
-unfoldable pub load_fault_line : LoadFault → List ℕ
-load_fault_line load_fault.Read = no_script
-load_fault_line load_fault.TooLong = long_script
-load_fault_line load_fault.NoMemory = no_memory

@@ -17,15 +17,16 @@ use Rattle.cd_script.specs.PatchForm.{Patch}
 use Rattle.cd_stream.specs.Stream.{Incoming, Outgoing}
 use Rattle.cd_stream.specs.Transfer.{Flushes, Gives}
 use Rattle.cd_stream.specs.declared.sink.SinkFailed.{SinkFailed}
-use Rattle.cd_program.specs.Hosting.{Hosting}
-use Rattle.cd_program.specs.Messages.{load_fault_line, no_image, no_output, no_script, open_fault_line}
+use Rattle.cd_host.specs.Hosting.{Hosting}
+use Rattle.cd_host.specs.Messages.{load_fault_line, no_script}
+use Rattle.cd_program.specs.Messages.{no_image, no_output, open_fault_line}
 use Rattle.cd_run.specs.Messages.{script_fault_line}
 use Rattle.cd_read.specs.Printing.{PrintsLine, PrintsAndFails}
 use Rattle.cd_report.specs.Running.{audit_status, RunsReport}
 use Rattle.cd_image.specs.Running.{RunsApply, RunsCheck}
-use Rattle.cd_program.specs.ScriptLines.{IsFaultOf, ReadsWhole, StopsLoading}
-use Rattle.cd_program.specs.declared.host.OpenFault.{OpenFault}
-use Rattle.cd_program.specs.declared.script.LoadFault.{LoadFault}
+use Rattle.cd_host.specs.ScriptLines.{IsFaultOf, ReadsWhole, StopsLoading}
+use Rattle.cd_host.specs.declared.host.OpenFault.{OpenFault}
+use Rattle.cd_host.specs.declared.script.LoadFault.{LoadFault}
 use Rattle.cd_args.specs.Options.{base_in, task_of}
 use Rattle.cd_sector.specs.Image.{base_limit}
 use Rattle.cd_args.specs.Task.{Task}

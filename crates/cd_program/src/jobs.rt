@@ -14,10 +14,9 @@ ghost use Rattle.cd_report.specs.Running.{audit_status};
 ghost use Rattle.cd_stream.specs.Stream.{CanCountFailure};
 ghost use Rattle.cd_sector.specs.Image.{base_limit};
 
-use crate::host::{Host, OpenFault};
-use crate::messages::{NO_IMAGE, NO_OUTPUT, NO_SCRIPT, open_fault_line};
-use crate::script::{load_script, read_script};
+use crate::messages::{NO_IMAGE, NO_OUTPUT, open_fault_line};
 use cd_args::{Job, LineFault, Settings, job_of, refusal_line};
+use cd_host::{Host, NO_SCRIPT, OpenFault, load_script, read_script};
 use cd_image::{run_apply, run_check};
 use cd_read::{DONE, FAILED, print_and_fail, print_line};
 use cd_report::{run_audit, run_list};

@@ -16,24 +16,18 @@
 //!
 //! [`run_args`] gets the arguments and a [`Host`], which it asks for files in this order: the
 //! script, the image, the new file. [`System`] is the host of the operating system; cd_memory has a
-//! host whose files are in memory. The commands on streams are in cd_report and cd_image. A script has at most [`MAX_TEXT`](cd_script::MAX_TEXT) bytes, and
-//! is loaded completely; images (ECMA-130, 14) are not.
+//! host whose files are in memory. The commands on streams are in cd_report and cd_image. cd_host loads
+//! the complete script; images (ECMA-130, 14) are read sector by sector.
 //!
 //! Tests: `crates/cd_image_tests`.
 #![tactic(auto)]
 
-mod host;
 mod jobs;
 mod messages;
 mod process;
-mod script;
-mod system;
 
+pub use cd_host::{Host, LoadFault, OpenFault, System, load_fault_line, load_script, read_script};
 pub use cd_image::{run_apply, run_check};
 pub use cd_report::{run_audit, run_list};
-pub use host::{Host, OpenFault};
 pub use jobs::run_args;
-pub use messages::load_fault_line;
 pub use process::run_program;
-pub use script::{LoadFault, load_script, read_script};
-pub use system::System;

@@ -3,16 +3,10 @@
 //! call on an image in cd_read.
 
 ghost use Rattle.std.specs.Prelude.{◌≡◌};
-ghost use Rattle.cd_program.specs.Messages.{load_fault_line, open_fault_line};
+ghost use Rattle.cd_program.specs.Messages.{open_fault_line};
 
-use crate::host::OpenFault;
-use crate::script::LoadFault;
 use cd_args::NO_MEMORY;
-use cd_line::{Line, text_line};
-use cd_run::long_script_line;
-
-/// The file of a script was not opened, or a read of it failed.
-pub(crate) const NO_SCRIPT: &str = "cdpatch: cannot read the script\n";
+use cd_host::OpenFault;
 
 /// The image was not opened.
 pub(crate) const NO_IMAGE: &str = "cdpatch: cannot open the image\n";
@@ -35,24 +29,5 @@ pub(crate) fn open_fault_line(refused: &'static str, fault: OpenFault) -> &'stat
     match fault {
         OpenFault::Refused => refused,
         OpenFault::NoMemory => NO_MEMORY,
-    }
-}
-
-/// The message for a script's file that could not be loaded.
-///
-/// # Examples
-///
-/// ```
-/// let line = load_fault_line(LoadFault::TooLong);
-/// assert!(rt; line.as_slice().starts_with(b"cdpatch: the script is longer"));
-/// ```
-#[tactic(auto, unfolding(crate::specs::Messages::load_fault_line))]
-pub fn load_fault_line(fault: LoadFault) -> Line
-    ensures { result ≡ load_fault_line fault }
-{
-    match fault {
-        LoadFault::Read => text_line(NO_SCRIPT.as_bytes()),
-        LoadFault::TooLong => long_script_line(),
-        LoadFault::NoMemory => text_line(NO_MEMORY.as_bytes()),
     }
 }

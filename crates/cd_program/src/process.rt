@@ -8,11 +8,10 @@ ghost use Rattle.cd_read.specs.Printing.{PrintsAndFails};
 ghost use Rattle.cd_program.specs.Program.{RunsArgs};
 ghost use Rattle.cd_stream.specs.Stream.{CanCountFailure};
 
-use crate::host::Host;
 use crate::jobs::run_args;
 use crate::messages::{NO_ROOT, NOT_TEXT};
-use crate::system::System;
 use cd_args::NO_MEMORY;
+use cd_host::{Host, System};
 use cd_read::print_and_fail;
 use cd_stream::{Sink, ToWrite};
 use std::alloc::Global;

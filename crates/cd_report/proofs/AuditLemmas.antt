@@ -8,7 +8,7 @@ use Rattle.cd_sector.specs.Kind.{kind_of}
 use Rattle.cd_sector.proofs.DefectLemmas.{some_nonzero}
 use Rattle.cd_stream.specs.Stream.{Outgoing}
 use Rattle.cd_stream.specs.Transfer.{Takes}
-use Rattle.cd_report.specs.AuditText.{audit_end, audit_lines, audit_report, finding_line, found_of, findings_of, is_any, is_damage, is_damaged, line_of, report_of}
+use Rattle.cd_report.specs.AuditText.{audit_end, audit_lines, audit_report, finding_line, found_of, findings_of, is_any, is_damage, is_damaged, finding_lines, report_of}
 use Rattle.cd_report.specs.Lines.{text_of}
 use Rattle.cd_report.specs.Scanning.{HasFailed, HasVisited, IsTallyOf, audit_remaining, tally_with, tally_with_all, spec_of}
 use Rattle.cd_report.specs.declared.auditing.AuditTally.{AuditTally}
@@ -120,8 +120,8 @@ tally_with-sectors tally None = refl
 tally_with-sectors tally (Some found) = refl
 
 -- a sector has at most one line
-one_line : (block : ℕ) (found : Option Findings) → 0 < length (text_of (line_of block found))
-    → (line : List ℕ) × (line_of block found ≡ line ∷ [])
+one_line : (block : ℕ) (found : Option Findings) → 0 < length (text_of (finding_lines block found))
+    → (line : List ℕ) × (finding_lines block found ≡ line ∷ [])
 one_line block None some = absurd (omega arith)
 one_line block (Some found) some =
     elim (is_any (Some found)) as
@@ -138,16 +138,16 @@ module _ (base : ℕ) (tally : AuditTally) (sector : List ℕ) (out out' : Outgo
   block = base + tally.sectors
 
   line_taken : (next : AuditTally) → next ≡ tally_with tally (findings_of block sector)
-      → Takes out out' (text_of (line_of block (findings_of block sector)))
+      → Takes out out' (text_of (finding_lines block (findings_of block sector)))
       → HasVisited (audit_remaining base tally) (audit_remaining base next) sector out out'
   line_taken next is went =
       subst (λ t. HasVisited (audit_remaining base tally) (audit_remaining base t) sector out out')
       (sym is) (record {
-        sent = line_of block (findings_of block sector);
+        sent = finding_lines block (findings_of block sector);
         takes = went;
         lines =
             λ others. ap
-            (λ b. line_of block (findings_of block sector) ++ audit_lines b others) further;
+            (λ b. finding_lines block (findings_of block sector) ++ audit_lines b others) further;
         end = λ others left. ap audit_end (all others left);
         tally = all;
         nothing_due = refl;
@@ -166,8 +166,8 @@ module _ (base : ℕ) (tally : AuditTally) (sector : List ℕ) (out out' : Outgo
           ∙ ap (λ b. tally_with_all (tally_with tally (findings_of block sector)) b others left)
           further
 
-  line_failed : (n : ℕ) × (n < length (text_of (line_of block (findings_of block sector))))
-      × Takes out out' (take n (text_of (line_of block (findings_of block sector))))
+  line_failed : (n : ℕ) × (n < length (text_of (finding_lines block (findings_of block sector))))
+      × Takes out out' (take n (text_of (finding_lines block (findings_of block sector))))
       → HasFailed (audit_remaining base tally) sector out out'
   line_failed went =
       let one = one_line block (findings_of block sector) (omega (arith, went.1)) in
@@ -190,21 +190,21 @@ module _ (base : ℕ) (tally : AuditTally) (sector : List ℕ) (out out' : Outgo
   found_there : found ≡ findings_of (base + tally.sectors) sector
   found_there = found_is ∙ ap (λ n. findings_of (base + n) sector) (sym is.sectors)
 
-  line_there : line_of (base + count) found
-      ≡ line_of (base + tally.sectors) (findings_of (base + tally.sectors) sector)
+  line_there : finding_lines (base + count) found
+      ≡ finding_lines (base + tally.sectors) (findings_of (base + tally.sectors) sector)
   line_there =
-      ap (λ n. line_of (base + n) found) (sym is.sectors)
-      ∙ ap (line_of (base + tally.sectors)) found_there
+      ap (λ n. finding_lines (base + n) found) (sym is.sectors)
+      ∙ ap (finding_lines (base + tally.sectors)) found_there
 
   pub Audit-visited : (next : AuditTally) → next ≡ tally_with tally found
-      → Takes out out' (text_of (line_of (base + count) found))
+      → Takes out out' (text_of (finding_lines (base + count) found))
       → HasVisited (audit_remaining base tally) (audit_remaining base next) sector out out'
   Audit-visited next next_is went =
       line_taken base tally sector out out' next (next_is ∙ ap (tally_with tally) found_there)
       (subst (λ ls. Takes out out' (text_of ls)) line_there went)
 
-  pub Audit-failed : (n : ℕ) × (n < length (text_of (line_of (base + count) found)))
-      × Takes out out' (take n (text_of (line_of (base + count) found)))
+  pub Audit-failed : (n : ℕ) × (n < length (text_of (finding_lines (base + count) found)))
+      × Takes out out' (take n (text_of (finding_lines (base + count) found)))
       → HasFailed (audit_remaining base tally) sector out out'
   Audit-failed went =
       line_failed base tally sector out out'

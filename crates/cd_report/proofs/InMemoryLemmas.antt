@@ -1,10 +1,8 @@
 -- `list` and `audit` on an image in memory.
-use Rattle.std.proofs.Common.{◌≡◌, ℕ, ◌<◌, ◌≤◌, List, ◌++◌, length, take, Some, refl, sym, ap}
-use Rattle.std.proofs.Common.{◌∙◌, subst, arith}
-use Rattle.std.proofs.lemmas.List.{take_all}
-use Rattle.cd_read.proofs.KnownLemmas.{MayBeImageAtEnd-within}
+use Rattle.std.proofs.Common.{◌≡◌, ℕ, ◌<◌, ◌≤◌, List, length, refl}
+use Rattle.std.proofs.Common.{◌∙◌, arith}
 use Rattle.cd_stream.specs.Rooms.{fresh_incoming}
-use Rattle.cd_read.specs.Ends.{IsTooLong, MayBeImageAtEnd}
+use Rattle.cd_read.specs.Ends.{IsTooLong}
 use Rattle.cd_report.specs.Running.{RunsReport}
 use Rattle.cd_sector.specs.Image.{base_limit, image_limit}
 use Rattle.cd_read.specs.declared.fault.Fault.TheVariants.{Write}

@@ -2,19 +2,19 @@
 use Rattle.std.proofs.Common.{◌≡◌, ℕ, ◌+◌, ◌%◌, ◌^◌, ◌<◌, ◌≤◌, ◌==◌, Bool, true, false, cond, codes, decimal, List, [], ◌∷◌, ◌++◌, length, Some, refl, sym, ap, ◌∙◌, subst, arith, zero-add, append-nil}
 use Rattle.std.proofs.lemmas.Bool.Decides.{nat_tests}
 use Rattle.std.proofs.lemmas.Fmt.{decimal_by_steps}
-use Rattle.std.proofs.lemmas.List.FromFn.{length-map-range_with_len}
 use Rattle.std.proofs.lemmas.List.Sums.{count_by-le-length, sum_by-append}
 use Rattle.cd_code.specs.CodeWords.{column_of, diagonal_of}
 use Rattle.cd_sector.specs.Consistent.{is_mode1}
 use Rattle.cd_sector.specs.Defect.{all_syndromes, defect_of, is_broken, is_nonzero}
 use Rattle.cd_sector.specs.Kind.{kind_of}
-use Rattle.cd_report.specs.AuditText.{audit_end, audit_lines, audit_tally, audit_text, count_if, finding_count, finding_line, found_of, findings_of, is_any, is_damaged, line_of, name_if, report_of}
+use Rattle.cd_report.specs.AuditText.{audit_end, audit_lines, audit_tally, audit_text, count_if, finding_count, finding_line, found_of, findings_of, is_any, is_damaged, finding_lines, name_if, report_of}
 use Rattle.cd_sector.specs.Image.{base_limit, image_limit, sectors}
 use Rattle.cd_report.specs.Lines.{line_count, text_of}
 use Rattle.cd_report.specs.declared.auditing.AuditTally.{AuditTally}
 use Rattle.cd_report.specs.declared.findings.Findings.{Findings}
 use Rattle.cd_report.proofs.AuditLemmas.{findings_of-none, findings_of-some}
 use Rattle.cd_sector.proofs.general.Counts.{count_by-cons}
+use Rattle.cd_sector.proofs.DefectLemmas.{length-syndromes}
 use Rattle.cd_sector.proofs.ImageLemmas.{length-sectors-le, length-tail-le}
 use Rattle.cd_report.proofs.ScanLemmas.{text_of-append}
 
@@ -104,39 +104,35 @@ line_count-end tally s m d t =
 
 -- ---- the lines of sectors
 
-length-all_syndromes : (word : ℕ → List ℕ) (count : ℕ) → length (all_syndromes word count) ≡ count
-unfolding all_syndromes
-length-all_syndromes word count = length-map-range_with_len _ 0 count
-
 pub p-le : (s : List ℕ) → (report_of s).p ≤ 86
 unfolding report_of defect_of
 p-le s =
     let few = count_by-le-length is_broken (all_syndromes (column_of s) 86) in
-    omega (arith, few, length-all_syndromes (column_of s) 86)
+    omega (arith, few, length-syndromes (column_of s) 86)
 
 pub q-le : (s : List ℕ) → (report_of s).q ≤ 52
 unfolding report_of defect_of
 q-le s =
     let few = count_by-le-length is_broken (all_syndromes (diagonal_of s) 52) in
-    omega (arith, few, length-all_syndromes (diagonal_of s) 52)
+    omega (arith, few, length-syndromes (diagonal_of s) 52)
 
 line_count-sector : (block : ℕ) (s : List ℕ) → block < 2 ^ 64
-    → line_count (text_of (line_of block (findings_of block s)))
+    → line_count (text_of (finding_lines block (findings_of block s)))
     ≡ cond (is_any (findings_of block s)) 1 0
 line_count-sector block s low =
     elim (is_mode1 (kind_of s)) as
     (λ t. is_mode1 (kind_of s) ≡ t
-    → line_count (text_of (line_of block (findings_of block s)))
+    → line_count (text_of (finding_lines block (findings_of block s)))
     ≡ cond (is_any (findings_of block s)) 1 0) [
       | true ↦
-          λ mode1. subst (λ f. line_count (text_of (line_of block f)) ≡ cond (is_any f) 1 0)
+          λ mode1. subst (λ f. line_count (text_of (finding_lines block f)) ≡ cond (is_any f) 1 0)
           (sym (findings_of-some block s mode1)) of_found
       | false ↦
-          λ other. subst (λ f. line_count (text_of (line_of block f)) ≡ cond (is_any f) 1 0)
+          λ other. subst (λ f. line_count (text_of (finding_lines block f)) ≡ cond (is_any f) 1 0)
           (sym (findings_of-none block s other)) refl
     ] refl
   where
-    of_found : line_count (text_of (line_of block (Some (found_of block s))))
+    of_found : line_count (text_of (finding_lines block (Some (found_of block s))))
         ≡ cond (is_any (Some (found_of block s))) 1 0
     of_found =
         elim (is_any (Some (found_of block s))) as
@@ -155,7 +151,7 @@ line_count-lines : (block : ℕ) (ss : List (List ℕ)) → block + length ss < 
     → line_count (text_of (audit_lines block ss)) ≡ finding_count block ss
 line_count-lines block [] low = refl
 line_count-lines block (s ∷ ss) low =
-    let here = line_of block (findings_of block s) in
+    let here = finding_lines block (findings_of block s) in
     let there = audit_lines (block + 1) ss in
     ap line_count (text_of-append here there) ∙ line_count-append (text_of here) (text_of there)
     ∙ ap (λ n. n + line_count (text_of there)) (line_count-sector block s (omega arith))

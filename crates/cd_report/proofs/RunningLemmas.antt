@@ -1,5 +1,5 @@
 -- The contracts of `run_list` and `run_audit`.
-use Rattle.std.proofs.Common.{◌≡◌, ◌≢◌, ◌⊎◌, ℕ, Result, Ok, Err, refl, ap, ◌∙◌, inl, inr}
+use Rattle.std.proofs.Common.{◌≡◌, ◌≢◌, ◌⊎◌, ℕ, Ok, Err, refl, ap, ◌∙◌, inl, inr}
 use Rattle.cd_stream.specs.Stream.{Incoming, Outgoing}
 use Rattle.cd_read.specs.Ends.{IsTooLong}
 use Rattle.cd_read.specs.Printing.{PrintsFaultLine}

@@ -68,15 +68,15 @@ finding_line block found =
     ++ count_if (codes " p=") found.defect.p ++ count_if (codes " q=") found.defect.q ++ codes "\n"
 
 -- the line of a sector, if it has one
-abbrev pub line_of : ℕ → Option Findings → List (List ℕ)
-line_of block None = []
-line_of block (Some found) = if is_any (Some found) then finding_line block found ∷ [] else []
+abbrev pub finding_lines : ℕ → Option Findings → List (List ℕ)
+finding_lines block None = []
+finding_lines block (Some found) = if is_any (Some found) then finding_line block found ∷ [] else []
 
 -- the lines of sectors, which start at block `block`
 abbrev pub audit_lines : ℕ → List (List ℕ) → List (List ℕ)
 audit_lines block [] = []
 audit_lines block (sector ∷ others) =
-    line_of block (findings_of block sector) ++ audit_lines (block + 1) others
+    finding_lines block (findings_of block sector) ++ audit_lines (block + 1) others
 
 -- a Mode 1 sector is damaged if a part of its defect is not 0
 abbrev pub is_damaged : List ℕ → Bool

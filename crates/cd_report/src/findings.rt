@@ -4,7 +4,7 @@ ghost use Rattle.std.specs.Prelude.{◌≡◌, ◌+◌, ◌<◌, ◌≤◌, ◌+
 ghost use Rattle.cd_address.specs.Address.{address};
 ghost use Rattle.cd_sector.specs.Consistent.{header_of};
 ghost use Rattle.cd_report.specs.AuditText.{count_if, finding_line, findings_of, is_any, is_damage};
-ghost use Rattle.cd_report.specs.AuditText.{is_other_address, line_of, name_if, report_of};
+ghost use Rattle.cd_report.specs.AuditText.{is_other_address, finding_lines, name_if, report_of};
 ghost use Rattle.cd_report.specs.Lines.{text_of};
 ghost use Rattle.cd_stream.specs.Transfer.{Counts, Sends};
 ghost use Rattle.cd_stream.specs.Stream.{CanCountFailure};
@@ -142,7 +142,7 @@ pub(crate) fn send_findings<O: Sink>(
     out: &mut O,
 ) -> Result<(), SinkFailed>
     requires { CanCountFailure (O.seen out.old).failures }
-    ensures { Sends (O.seen out.old) (O.seen out.new) (text_of (line_of block found)) result }
+    ensures { Sends (O.seen out.old) (O.seen out.new) (text_of (finding_lines block found)) result }
 {
     match found {
         Some(found) if is_any(&found) => write_all(out, finding_line(block, &found).as_slice()),

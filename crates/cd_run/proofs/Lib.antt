@@ -3,5 +3,7 @@ pub mod LeftLemmas
 pub mod LogSizeLemmas
 pub mod PatchLogLemmas
 pub mod PatchedLemmas
+pub mod PlaceLemmas
 pub mod RunningLemmas
+pub mod SoFarLemmas
 pub mod UnderwayLemmas

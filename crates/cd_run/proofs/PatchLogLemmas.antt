@@ -13,7 +13,7 @@ use Rattle.cd_patch.specs.declared.outcome.Outcome.TheVariants.{NoBlock}
 use Rattle.cd_patch.proofs.FrameLemmas.{Effect-missing, outcome-missing}
 use Rattle.cd_sector.specs.Image.{sectors}
 use Rattle.cd_run.specs.Steps.{WantsMore}
-use Rattle.cd_run.specs.PatchLog.{applied_count, bytes_before, front_within, lines_below, lines_within, log_line, log_lines, log_text, log_when_out_fails, refused_count, sent_when_log_fails}
+use Rattle.cd_run.specs.PatchLog.{applied_count, bytes_before, counts_line, front_within, lines_below, lines_within, log_line, log_lines, log_text, log_when_out_fails, refused_count, sent_when_log_fails}
 use Rattle.cd_sector.proofs.general.Counts.{count_by-cons}
 
 pub log_lines-append : (ps qs : List Patch) (os us : List Outcome) → length os ≡ length ps
@@ -24,6 +24,14 @@ log_lines-append (p ∷ ps) qs [] us same = absurd (omega arith)
 log_lines-append (p ∷ ps) qs (o ∷ os) us same =
     ap (λ l. log_line p o ++ l) (log_lines-append ps qs os us (omega arith))
     ∙ sym (append_assoc (log_line p o) (log_lines ps os) (log_lines qs us))
+
+-- the lines of the first patches begin the log
+pub log_text-append : (ps qs : List Patch) (os us : List Outcome) → length os ≡ length ps
+    → log_text (ps ++ qs) (os ++ us)
+    ≡ log_lines ps os ++ (log_lines qs us
+    ++ counts_line (applied_count (os ++ us)) (refused_count (os ++ us)))
+unfolding log_text
+log_text-append ps qs os us same = rw (log_lines-append ps qs os us same, append_assoc)
 
 -- ---- when the output has failed
 

@@ -88,8 +88,8 @@ pub record IsRun (run : PatchRun) : Type 0 where
   pub sectors : run.sectors ≤ sector_limit
 
 -- `Reached`, for the fields of a run and the sectors in hand
-abbrev pub Holds : Bool → List Patch → List Patch → ℕ → List (List ℕ) → List (List ℕ)
+abbrev pub HasReached : Bool → List Patch → List Patch → ℕ → List (List ℕ) → List (List ℕ)
     → List Outcome → PatchRun → List (List ℕ) → Type 0
-Holds carry taken left base seen done outcomes run hand =
+HasReached carry taken left base seen done outcomes run hand =
     Reached carry taken left base seen done (window_of run hand) outcomes run.block run.sectors
     run.applied (tail_of run hand) (closed_at run.stage)

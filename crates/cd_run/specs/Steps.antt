@@ -1,5 +1,5 @@
 -- The next step in a run of patches.
-use Rattle.std.specs.Prelude.{◌≡◌, ℕ, ◌+◌, ◌<◌, ◌≤◌, ◌⊎◌, List, [], ◌∷◌, All, Option, None, Some}
+use Rattle.std.specs.Prelude.{◌≡◌, ℕ, ◌+◌, ◌-◌, ◌*◌, ◌<◌, ◌≤◌, ◌⊎◌, List, [], ◌∷◌, All, Option, None, Some}
 use Rattle.cd_script.specs.PatchForm.{Patch}
 use Rattle.cd_patch.specs.Blocks.{block_limit, blocks_met}
 use Rattle.cd_sector.specs.Image.{sector_limit}
@@ -53,3 +53,9 @@ IsNext left run Decide =
 IsNext left run Send = All (λ p. run.block < p.block) left
 IsNext left run SendTail = Unit {0}
 IsNext left run End = left ≡ []
+
+-- the largest number of steps that a run with `count` patches has left: each sector is read and
+-- sent, each patch is decided, and the image ends. Each step reduces it, so the run ends
+abbrev pub machine_steps : ℕ → PatchRun → ℕ
+machine_steps count run =
+    2 * (sector_limit - run.sectors) + run.held + (count - run.decided) + (2 - run.stage)

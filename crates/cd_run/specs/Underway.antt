@@ -3,9 +3,8 @@ use Rattle.std.specs.Prelude.{◌≡◌, ℕ, ◌≤◌, ◌++◌, Bool, List, l
 use Rattle.cd_script.specs.PatchForm.{Patch}
 use Rattle.cd_sector.specs.Image.{bytes_of}
 use Rattle.cd_patch.specs.declared.outcome.Outcome.{Outcome}
-use Rattle.cd_run.specs.PatchLog.{log_lines, log_text}
-use Rattle.cd_run.specs.Patched.{IsPatched}
-use Rattle.cd_run.specs.Running.{Holds, IsRun, closed_at, sent_bytes, tail_bytes, tail_of}
+use Rattle.cd_run.specs.PatchLog.{log_lines}
+use Rattle.cd_run.specs.Running.{HasReached, IsRun, closed_at, sent_bytes, tail_bytes, tail_of}
 use Rattle.cd_run.specs.declared.run.PatchRun.{PatchRun}
 
 -- a run of all patches in progress: the bytes `read` of the image were read, the bytes `sent` were
@@ -17,15 +16,8 @@ pub record Underway (carry : Bool) (patches : List Patch) (base : ℕ) (read sen
   pub outcomes : List Outcome
   pub sound : IsRun run
   pub known : run.decided ≤ length patches
-  pub state : Holds carry (take run.decided patches) (drop run.decided patches) base seen done
+  pub state : HasReached carry (take run.decided patches) (drop run.decided patches) base seen done
       outcomes run hand
   pub came : read ≡ bytes_of seen ++ tail_bytes (tail_of run hand)
   pub went : sent ≡ sent_bytes done (tail_of run hand) (closed_at run.stage)
   pub logged : log_bytes ≡ log_lines (take run.decided patches) outcomes
-
--- at the end: the bytes sent are the patched image, and the last line completes the log
-pub record Completed (carry : Bool) (patches : List Patch) (base : ℕ)
-    (read sent log_bytes last : List ℕ) : Type 0 where
-  pub outcomes : List Outcome
-  pub patched : IsPatched carry patches outcomes base read sent
-  pub log_right : log_bytes ++ last ≡ log_text patches outcomes

@@ -15,7 +15,7 @@ ghost use Rattle.cd_patch.specs.declared.outcome.Outcome.TheVariants.{NoBlock};
 ghost use Rattle.cd_sector.specs.Image.{image_limit, sector_limit};
 ghost use Rattle.cd_run.specs.declared.run.Ahead.{Ahead as TheAhead};
 ghost use Rattle.cd_run.specs.declared.run.Step.TheVariants.{Copy, Decide, Read};
-ghost use Rattle.cd_run.specs.Running.{Holds, IsRun, tail_of};
+ghost use Rattle.cd_run.specs.Running.{HasReached, IsRun, tail_of};
 ghost use Rattle.cd_run.specs.Steps.{IsAhead, IsNext, IsReady, MayDecide};
 
 use cd_patch::{MAX_BLOCKS_MET, Outcome, apply_lent};
@@ -225,8 +225,8 @@ impl PatchRun {
             (seen done : List (List ℕ)) (outcomes : List TheOutcome) (hand : List (List ℕ))
             → length (slice_index_or hand self.old.held []) ≡ SECTOR_SIZE
             → All (λ p. self.old.block ≤ p.block) left
-            → Holds carry taken left base seen done outcomes self.old hand
-            → Holds carry taken left base
+            → HasReached carry taken left base seen done outcomes self.old hand
+            → HasReached carry taken left base
             (seen ++ slice_index_or hand self.old.held [] ∷ []) done outcomes self.new hand }
         ensures held { self.new.held ≡ self.old.held + 1 }
         ensures sectors { self.new.sectors ≡ self.old.sectors + 1 }
@@ -254,8 +254,8 @@ impl PatchRun {
             (seen done : List (List ℕ)) (outcomes : List TheOutcome) (hand : List (List ℕ))
             → tail ≤ length (slice_index_or hand self.old.held [])
             → All (λ p. self.old.block ≤ p.block) left
-            → Holds carry taken left base seen done outcomes self.old hand
-            → Holds carry taken left base seen done outcomes self.new hand }
+            → HasReached carry taken left base seen done outcomes self.old hand
+            → HasReached carry taken left base seen done outcomes self.new hand }
         ensures tail_comes { (hand : List (List ℕ)) → tail_of self.new hand
             ≡ Some (take tail (slice_index_or hand self.old.held [])) }
         ensures held { self.new.held ≡ self.old.held }
@@ -284,8 +284,8 @@ impl PatchRun {
             (seen done : List (List ℕ)) (outcomes : List TheOutcome) (more hand : List (List ℕ))
             → All (λ p. self.old.block + count ≤ p.block) left
             → All (λ sector. length sector ≡ SECTOR_SIZE) more → length more ≡ count
-            → Holds carry taken left base seen done outcomes self.old hand
-            → Holds carry taken left base (seen ++ more) (done ++ more) outcomes self.new hand }
+            → HasReached carry taken left base seen done outcomes self.old hand
+            → HasReached carry taken left base (seen ++ more) (done ++ more) outcomes self.new hand }
         ensures held { self.new.held ≡ 0 }
         ensures sectors { self.new.sectors ≡ self.old.sectors + count }
         ensures decided { self.new.decided ≡ self.old.decided }
@@ -336,8 +336,8 @@ impl PatchRun {
         ensures goes { (taken left : List ThePatch) (base : ℕ)
             (seen done : List (List ℕ)) (outcomes : List TheOutcome)
             → MayDecide patch.now self.old.held self.old.block self.old.sectors self.old.stage
-            → Holds carry taken (patch.now ∷ left) base seen done outcomes self.old hand.old
-            → Holds carry (taken ++ patch.now ∷ []) left base seen done (outcomes ++ result ∷ [])
+            → HasReached carry taken (patch.now ∷ left) base seen done outcomes self.old hand.old
+            → HasReached carry (taken ++ patch.now ∷ []) left base seen done (outcomes ++ result ∷ [])
             self.new hand.new }
         ensures size { length hand.new ≡ length hand.old }
         ensures place { slice_index_or hand.new self.old.held []
@@ -393,8 +393,8 @@ impl PatchRun {
         ensures goes { (carry : Bool) (taken left : List ThePatch) (base : ℕ)
             (seen done : List (List ℕ)) (outcomes : List TheOutcome)
             → All (λ p. self.old.block < p.block) left
-            → Holds carry taken left base seen done outcomes self.old hand.old
-            → Holds carry taken left base seen (done ++ slice_index_or hand.old 0 [] ∷ [])
+            → HasReached carry taken left base seen done outcomes self.old hand.old
+            → HasReached carry taken left base seen (done ++ slice_index_or hand.old 0 [] ∷ [])
             outcomes self.new hand.new }
         ensures size { length hand.new ≡ length hand.old }
         ensures rest { drop (self.old.held + self.old.stage) hand.new
@@ -424,8 +424,8 @@ impl PatchRun {
         ensures sound { IsRun self.new }
         ensures goes { (carry : Bool) (taken left : List ThePatch) (base : ℕ)
             (seen done : List (List ℕ)) (outcomes : List TheOutcome) (hand : List (List ℕ))
-            → Holds carry taken left base seen done outcomes self.old hand
-            → Holds carry taken left base seen done outcomes self.new hand }
+            → HasReached carry taken left base seen done outcomes self.old hand
+            → HasReached carry taken left base seen done outcomes self.new hand }
         ensures tail_stays { (hand : List (List ℕ)) → tail_of self.new hand ≡ tail_of self.old hand }
         ensures held { self.new.held ≡ 0 }
         ensures sectors { self.new.sectors ≡ self.old.sectors }

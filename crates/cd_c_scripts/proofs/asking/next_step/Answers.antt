@@ -2,7 +2,7 @@ use Rattle.std.proofs.Common.{arith, sym, ◌∙◌, drop, inl, inr}
 use Rattle.std.proofs.lemmas.Option.{slice_get_within}
 use Rattle.cd_run.proofs.LeftLemmas.{all_taken, rising_left}
 use Rattle.cd_c_scripts.proofs.EntryLemmas.{entry_meets, entry_says, looks_of, next_by}
-use Rattle.cd_c_scripts.proofs.GoingLemmas.{Going-begun}
+use Rattle.cd_c_scripts.proofs.GoingSizes.{Going-begun}
 use Rattle.cd_c_scripts.proofs.asking.next_step.Goals as goal
 
 pub returns-in_default-clause-next : goal.returns-in_default-clause-next

@@ -1,7 +1,8 @@
 use Rattle.std.proofs.Common.{◌≡◌, [], ◌++◌, true, arith, subst, append-nil, refl, sym, ap, ◌∙◌}
+use Rattle.std.proofs.lemmas.List.{nil_from_length}
 use Rattle.cd_c_scripts.specs.Runs.{Going, is_tail}
 use Rattle.cd_c_scripts.proofs.EntryLemmas.{tails}
-use Rattle.cd_c_scripts.proofs.GoingLemmas.{Going-sent_tail, none_of}
+use Rattle.cd_c_scripts.proofs.GoingLemmas.{Going-sent_tail}
 use Rattle.cd_c_scripts.proofs.asking.some_step.Goals as goal
 
 pub returns-clause-goes : goal.returns-clause-goes
@@ -15,7 +16,7 @@ returns-clause-goes c =
     let g = made.1 in
     let new = c.sent_tail.ensures in
     let empty : g.tail ≡ [] =
-    none_of g.tail (omega (arith, g.whole_tail (omega (arith, is.1)), c.if-machine-gt0.false)) in
+    nil_from_length g.tail (omega (arith, g.whole_tail (omega (arith, is.1)), c.if-machine-gt0.false)) in
     let closed =
     subst (λ l. Going carry patches base read l log_bytes c.sent_tail.new.self hand)
     (ap (λ l. sent ++ l) empty ∙ append-nil sent)

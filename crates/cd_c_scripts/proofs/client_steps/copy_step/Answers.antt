@@ -3,8 +3,8 @@ use Rattle.std.proofs.lemmas.Bool.{eqb-true}
 use Rattle.std.proofs.lemmas.Result.{err_from_is_err_and}
 use Rattle.cd_c_scripts.proofs.ClientCopies.{copies, copies_few, copy_fails}
 use Rattle.cd_c_scripts.proofs.PassedLemmas.{passed_more}
-use Rattle.cd_c_scripts.proofs.ClientMoves.{less_by}
 use Rattle.cd_c_scripts.proofs.client_steps.copy_step.Goals as goal
+use Rattle.cd_c_scripts.proofs.general.Lists.{less_by}
 
 pub returns-in_err-came-clause-takes : goal.returns-in_err-came-clause-takes
 returns-in_err-came-clause-takes g c =

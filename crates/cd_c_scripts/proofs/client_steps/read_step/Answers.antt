@@ -1,9 +1,9 @@
 use Rattle.std.proofs.Common.{arith}
 use Rattle.std.proofs.lemmas.Result.{err_from_is_err_and}
-use Rattle.cd_c_scripts.proofs.ClientMoves.{few_taken}
 use Rattle.cd_c_scripts.proofs.ClientReads.{read_fails, read_place, reads, reads_beyond}
 use Rattle.cd_c_scripts.proofs.client_steps.read_step.Goals as goal
 use Rattle.cd_c_scripts.proofs.client_steps.read_step.Goals.{else-step-eq-LARGEST-via-then-step-eq-LARGEST+else-done-gt0, else-step-eq-LARGEST-via-else-step-eq-LARGEST}
+use Rattle.cd_c_scripts.proofs.general.Lists.{few_taken}
 
 pub returns-in_err-done-clause-takes : goal.returns-in_err-done-clause-takes
 returns-in_err-done-clause-takes g c =

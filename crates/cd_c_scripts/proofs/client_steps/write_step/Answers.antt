@@ -1,7 +1,7 @@
 use Rattle.std.proofs.Common.{arith, ap, sym, ◌∙◌, length}
 use Rattle.std.proofs.lemmas.Result.{err_from_is_err_and}
 use Rattle.cd_c_scripts.proofs.ClientWrites.{write_fails, writes}
-use Rattle.cd_run.proofs.RunningLemmas.{first_is}
+use Rattle.cd_run.proofs.PlaceLemmas.{first_is}
 use Rattle.cd_c_scripts.proofs.client_steps.write_step.Goals as goal
 
 pub returns-in_err-write_all-clause-takes : goal.returns-in_err-write_all-clause-takes

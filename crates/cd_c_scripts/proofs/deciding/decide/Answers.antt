@@ -4,12 +4,13 @@ use Rattle.cd_script.specs.PatchForm.{Patch as ThePatch}
 use Rattle.cd_patch.specs.Blocks.{blocks_met}
 use Rattle.cd_sector.specs.declared.sector.TheConstants.{SECTOR_SIZE}
 use Rattle.cd_run.specs.PatchLog.{outcome_line}
-use Rattle.cd_run.specs.Running.{Holds}
+use Rattle.cd_run.specs.Running.{HasReached}
 use Rattle.cd_run.proofs.LeftLemmas.{decides_this}
 use Rattle.cd_c_scripts.specs.Flags.{as_asked, carries}
 use Rattle.cd_c_scripts.specs.Runs.{Going}
 use Rattle.cd_c_scripts.proofs.EntryLemmas.{entry_says, next_by, patch_comes, same_patch}
-use Rattle.cd_c_scripts.proofs.GoingLemmas.{Going-applied, Going-decided, by_hand}
+use Rattle.cd_c_scripts.proofs.GoingSizes.{Going-applied}
+use Rattle.cd_c_scripts.proofs.GoingDecided.{Going-decided, by_hand}
 use Rattle.cd_c_scripts.proofs.deciding.decide.Goals as goal
 
 pub returns-then-run-clause-right : goal.returns-then-run-clause-right
@@ -65,7 +66,7 @@ returns-clause-goes c =
     let sized : 0 < machine.stage → length (slice_index_or hand machine.held []) ≡ SECTOR_SIZE =
     λ some. c.see_place.ensures (omega (arith, some, h.sound.room, c.requires.hand)) in
     let state =
-    subst (λ left. Holds (carries run.flags) (take machine.decided patches) left base h.seen h.done
+    subst (λ left. HasReached (carries run.flags) (take machine.decided patches) left base h.seen h.done
     h.outcomes machine hand) (next.is ∙ ap (λ rest. q ∷ rest) next.rest) (by_hand h sized) in (
       subst (λ line. Going (carries run.flags) patches base read sent (log_bytes ++ line)
           c.decide-outcome.new.self c.decide-outcome.new.hand)

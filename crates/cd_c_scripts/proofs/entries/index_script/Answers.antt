@@ -1,5 +1,6 @@
 use Rattle.std.proofs.Common.{refl, arith, ◌∙◌}
-use Rattle.cd_c_scripts.proofs.IndexLemmas.{Index-entries, Index-headless, Index-step, Index-stop, Indexing-start, inside_is, size_is}
+use Rattle.cd_c_scripts.proofs.IndexLemmas.{Index-entries, Index-headless, Indexing-start}
+use Rattle.cd_c_scripts.proofs.IndexSteps.{Index-step, Index-stop, inside_is, size_is}
 use Rattle.cd_c_scripts.proofs.entries.index_script.Goals as goal
 
 pub loop-line-init : goal.loop-line-init

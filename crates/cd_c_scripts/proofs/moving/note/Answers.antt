@@ -3,7 +3,7 @@ use Rattle.std.specs.List.{slice_index_or}
 use Rattle.std.proofs.lemmas.List.{length-take-le}
 use Rattle.cd_c_scripts.specs.Flags.{carries}
 use Rattle.cd_c_scripts.proofs.BeyondLemmas.{Going-beyond}
-use Rattle.cd_c_scripts.proofs.GoingLemmas.{Going-small}
+use Rattle.cd_c_scripts.proofs.GoingSizes.{Going-small}
 use Rattle.cd_c_scripts.proofs.MovedLemmas.{about_as, beyond_as, going_as, asks_copy, asks_read, asks_write, found, was_copied, was_given, was_told, was_written}
 use Rattle.cd_c_scripts.proofs.moving.note.Goals as goal
 

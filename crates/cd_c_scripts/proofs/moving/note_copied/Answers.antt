@@ -1,12 +1,13 @@
 use Rattle.std.proofs.Common.{◌≡◌, ℕ, ◌<◌, ◌≤◌, List, [], ◌++◌, length, drop, arith, sym, ap, ◌∙◌, subst, append-nil, append_assoc}
 use Rattle.std.specs.Prelude.{All}
 use Rattle.std.specs.List.{slice_index_or}
-use Rattle.std.proofs.lemmas.List.{length-take-le}
+use Rattle.std.proofs.lemmas.List.{length-take-le, nil_from_length}
 use Rattle.cd_script.specs.PatchForm.{Patch}
 use Rattle.cd_sector.specs.Image.{bytes_of}
 use Rattle.cd_sector.specs.declared.sector.TheConstants.{SECTOR_SIZE}
 use Rattle.cd_c_scripts.specs.Runs.{Going}
-use Rattle.cd_c_scripts.proofs.GoingLemmas.{Going-closed, Going-copied, cut_bytes, none_of}
+use Rattle.cd_c_scripts.proofs.GoingLemmas.{Going-closed, Going-copied}
+use Rattle.cd_c_scripts.proofs.GoingSizes.{cut_bytes}
 use Rattle.cd_c_scripts.proofs.moving.note_copied.Goals as goal
 
 pub returns-then-done-whole-2-clause-goes : goal.returns-then-done-whole-2-clause-goes
@@ -23,7 +24,7 @@ returns-then-done-whole-2-clause-goes c =
     let whole : bytes_of cut.more ≡ bytes =
     sym (append-nil (bytes_of cut.more))
     ∙ ap (λ l. bytes_of cut.more ++ l)
-    (sym (none_of cut.rest (omega (arith, cut.size, cut.short, c.if-done-whole-2.true))))
+    (sym (nil_from_length cut.rest (omega (arith, cut.size, cut.short, c.if-done-whole-2.true))))
     ∙ cut.joined in
     subst (λ l. Going carry patches base (read ++ l) (sent ++ l) log_bytes c.copied.new.self hand) whole g
 

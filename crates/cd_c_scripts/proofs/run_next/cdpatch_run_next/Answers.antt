@@ -4,9 +4,10 @@ use Rattle.cd_c_scripts.specs.declared.run_state.TheConstants.{OVER}
 use Rattle.std.proofs.lemmas.Bool.{cases_lt}
 use Rattle.cd_c_scripts.specs.Runs.{MayEnd}
 use Rattle.cd_c_scripts.proofs.EntryLemmas.{rereads_as}
-use Rattle.cd_c_scripts.proofs.MovedLemmas.{drop_more, ends_as, found, is_over, is_stopped, not_faulty, not_short}
-use Rattle.cd_c_scripts.proofs.TellingLemmas.{Goes-long, Goes-over, Goes-stopped, status_few}
+use Rattle.cd_c_scripts.proofs.MovedLemmas.{ends_as, found, is_over, is_stopped, not_faulty, not_short}
+use Rattle.cd_c_scripts.proofs.TellingLines.{Goes-long, Goes-over, Goes-stopped, status_few}
 use Rattle.cd_c_scripts.proofs.run_next.cdpatch_run_next.Goals as goal
+use Rattle.cd_c_scripts.proofs.general.Lists.{drop_more}
 
 pub returns-then-hand-lt-MAX_BLOCKS_MET-clause-goes : goal.returns-then-hand-lt-MAX_BLOCKS_MET-clause-goes
 returns-then-hand-lt-MAX_BLOCKS_MET-clause-goes c =

@@ -1,6 +1,7 @@
 use Rattle.std.proofs.Common.{arith, sym, subst, ap}
 use Rattle.cd_c_scripts.specs.Entries.{AreEntries}
-use Rattle.cd_c_scripts.proofs.TellingLemmas.{Goes-decided, same_run}
+use Rattle.cd_c_scripts.proofs.TellingLemmas.{same_run}
+use Rattle.cd_c_scripts.proofs.TellingLines.{Goes-decided}
 use Rattle.cd_c_scripts.proofs.run_next.tell_decided.Goals as goal
 
 pub returns-in_default-clause-goes : goal.returns-in_default-clause-goes

@@ -1,6 +1,6 @@
 use Rattle.std.proofs.Common.{arith, sym, ap, ◌∙◌}
-use Rattle.cd_c_scripts.proofs.GoingLemmas.{Going-applied}
-use Rattle.cd_c_scripts.proofs.TellingLemmas.{Goes-last}
+use Rattle.cd_c_scripts.proofs.GoingSizes.{Going-applied}
+use Rattle.cd_c_scripts.proofs.TellingLines.{Goes-last}
 use Rattle.cd_c_scripts.proofs.run_next.tell_last_line.Goals as goal
 
 pub returns-then-run-clause-goes : goal.returns-then-run-clause-goes

@@ -1,9 +1,10 @@
 use Rattle.std.proofs.Common.{◌≡◌, ◌+◌, ◌≤◌, false, take, drop, length, if◌then◌else◌}
 use Rattle.cd_patch.specs.Blocks.{block_limit}
 use Rattle.cd_image.specs.Applying.{streams}
-use Rattle.cd_image.specs.Passing.{HoldsInvariant, IsDone, left_to_do}
+use Rattle.cd_image.specs.Passing.{HoldsInvariant, HasNoStepLeft}
 use Rattle.cd_run.specs.Running.{IsRun}
 use Rattle.cd_image.proofs.applying.apply_patches.Given as goal
+use Rattle.cd_run.specs.Steps.{machine_steps}
 
 abbrev pub invariant-loop-more : goal.invariant-loop-more
 invariant-loop-more g l =
@@ -17,8 +18,8 @@ invariant-loop-more g l =
       places : length l.hand ≡ block_limit;
       known : l.run.decided ≤ length l.patches;
       applied : l.run.applied ≤ l.run.decided;
-      done : l.more ≡ false → IsDone (length l.patches) l.run;
+      done : l.more ≡ false → HasNoStepLeft (length l.patches) l.run;
     }
 
 abbrev pub decreases-loop-more : goal.decreases-loop-more
-decreases-loop-more g l = left_to_do (length l.patches) l.run + (if l.more then 1 else 0)
+decreases-loop-more g l = machine_steps (length l.patches) l.run + (if l.more then 1 else 0)

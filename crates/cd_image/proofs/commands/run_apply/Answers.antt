@@ -3,7 +3,7 @@ use Rattle.cd_image.proofs.commands.run_apply.Goals as goal
 
 pub returns-in-Ok : goal.returns-in-Ok
 returns-in-Ok g c =
-    RunsApply-done _ c.in-Ok.ensures.report c.in-Ok.ensures.carried c.status_of.ensures
+    RunsApply-done _ c.in-Ok.ensures.report c.in-Ok.ensures.plain.carried c.status_of.ensures
 
 pub returns-in-Err : goal.returns-in-Err
 returns-in-Err g c =

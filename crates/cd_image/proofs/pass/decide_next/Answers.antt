@@ -4,7 +4,7 @@ use Rattle.std.proofs.lemmas.List.{length-take-le}
 use Rattle.cd_run.specs.Running.{closed_at}
 use Rattle.cd_image.proofs.CloseLemmas.{Applies-line}
 use Rattle.cd_image.proofs.PassingLemmas.{Going-take}
-use Rattle.cd_run.proofs.RunningLemmas.{decidable}
+use Rattle.cd_run.proofs.PlaceLemmas.{decidable}
 use Rattle.cd_image.proofs.pass.decide_next.Goals as goal
 
 pub returns-in_err-send_outcome-clause-goes : goal.returns-in_err-send_outcome-clause-goes

@@ -2,11 +2,12 @@ use Rattle.std.proofs.Common.{[], arith, ap, ◌∙◌}
 use Rattle.std.proofs.lemmas.Result.{err_from_is_err_and}
 use Rattle.std.proofs.lemmas.List.{length-take-le}
 use Rattle.cd_run.specs.Running.{closed_at}
-use Rattle.cd_image.proofs.AdvanceLemmas.{long_enough, wants_window}
+use Rattle.cd_image.proofs.AdvanceLemmas.{wants_window}
 use Rattle.cd_image.proofs.ApplyLemmas.{Applies-unread}
 use Rattle.cd_image.proofs.PassingLemmas.{Going-end, Going-sector}
-use Rattle.cd_run.proofs.RunningLemmas.{tail_none}
+use Rattle.cd_run.proofs.PlaceLemmas.{tail_none}
 use Rattle.cd_image.proofs.pass.read_next.Goals as goal
+use Rattle.cd_image.proofs.general.Lists.{long_enough}
 
 pub returns-in_err-read_to-clause-goes : goal.returns-in_err-read_to-clause-goes
 returns-in_err-read_to-clause-goes g c =

@@ -4,7 +4,7 @@ use Rattle.std.proofs.lemmas.Result.{err_from_is_err_and}
 use Rattle.cd_run.specs.Running.{closed_at, window_of}
 use Rattle.cd_image.proofs.ApplyLemmas.{Applies-write}
 use Rattle.cd_image.proofs.PassingLemmas.{Going-send}
-use Rattle.cd_run.proofs.RunningLemmas.{first_is, first_place, unclosed_at}
+use Rattle.cd_run.proofs.PlaceLemmas.{first_is, first_place, unclosed_at}
 use Rattle.cd_image.proofs.pass.write_front.Goals as goal
 
 pub returns-in_err-write_all-clause-goes : goal.returns-in_err-write_all-clause-goes

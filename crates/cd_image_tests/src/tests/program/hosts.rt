@@ -1,6 +1,6 @@
 //! Tests with a host in memory: the requests to it, their order, and the output if it has no file or finds no memory.
 
-ghost use Rattle.cd_program.specs.Hosting.{any_answers};
+ghost use Rattle.cd_host.specs.Hosting.{any_answers};
 
 use super::command_line::args_of;
 use super::commands::{ALL, expect_ended};

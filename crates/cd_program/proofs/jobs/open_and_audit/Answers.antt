@@ -1,5 +1,5 @@
 use Rattle.std.proofs.Common.{ℕ, List, Ok, rules}
-use Rattle.cd_program.specs.Hosting.{Hosting}
+use Rattle.cd_host.specs.Hosting.{Hosting}
 use Rattle.cd_program.specs.Program.{DoesReport, TakesImage}
 use Rattle.cd_report.specs.Running.{RunsReport}
 use Rattle.cd_report.specs.Report.{ReportSpec}

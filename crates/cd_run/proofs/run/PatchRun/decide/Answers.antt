@@ -1,7 +1,7 @@
 use Rattle.std.proofs.Common.{◌≡◌, Bool, true, false, cond, refl, arith, ap, ◌∙◌}
 use Rattle.std.specs.Int.{from_bool}
 use Rattle.cd_patch.specs.Outcome.{is_applied}
-use Rattle.cd_run.proofs.RunningLemmas.{Holds-decided, decided_missing}
+use Rattle.cd_run.proofs.PlaceLemmas.{HasReached-decided, decided_missing}
 use Rattle.cd_run.proofs.run.PatchRun.decide.Goals as goal
 
 as_number : (b : Bool) → from_bool b ≡ cond b 1 0
@@ -15,7 +15,7 @@ returns-clause-goes c = λ taken left base seen done outcomes may g.
     c.from.ensures ∙ ap from_bool c.is_applied.ensures
     ∙ as_number (is_applied c.apply_among-outcome.result) in
     rw (applied, c.apply_among-outcome.ensures.others)
-    (Holds-decided c.args.hand.now c.apply_among-outcome.new.hand self.held self.stage _
+    (HasReached-decided c.args.hand.now c.apply_among-outcome.new.hand self.held self.stage _
     c.apply_among-outcome.result (omega (arith, c.requires.within))
     c.apply_among-outcome.ensures.outcome c.apply_among-outcome.ensures.effect c.requires.patch
     may g)

@@ -1,7 +1,8 @@
 use Rattle.std.proofs.Common.{[], arith}
 use Rattle.std.specs.List.{slice_index_or}
 use Rattle.std.proofs.Math.ListN.{length-take}
-use Rattle.cd_run.proofs.RunningLemmas.{Reached-sector, one_place_more}
+use Rattle.cd_run.proofs.RunningLemmas.{Reached-sector}
+use Rattle.cd_run.proofs.PlaceLemmas.{one_place_more}
 use Rattle.cd_run.proofs.run.PatchRun.took_sector.Goals as goal
 
 pub returns-clause-goes : goal.returns-clause-goes

@@ -5,11 +5,11 @@ use Rattle.std.specs.Result.{IsErrAnd}
 use Rattle.cd_stream.specs.Stream.{Incoming, Outgoing}
 use Rattle.cd_stream.specs.Transfer.{Gives}
 use Rattle.cd_stream.proofs.TransferLemmas.{Gives-trans}
-use Rattle.cd_program.specs.Messages.{load_fault_line}
+use Rattle.cd_host.specs.Messages.{load_fault_line}
 use Rattle.cd_read.specs.Printing.{PrintsLine}
-use Rattle.cd_program.specs.ScriptLines.{Gathers, PrintsFailedReads, StopsLoading}
-use Rattle.cd_program.specs.declared.script.LoadFault.{LoadFault}
-use Rattle.cd_program.specs.declared.script.LoadFault.TheVariants.{NoMemory, Read, TooLong}
+use Rattle.cd_host.specs.ScriptLines.{Gathers, PrintsFailedReads, StopsLoading}
+use Rattle.cd_host.specs.declared.script.LoadFault.{LoadFault}
+use Rattle.cd_host.specs.declared.script.LoadFault.TheVariants.{NoMemory, Read, TooLong}
 
 -- the bytes that were read before, and those of the last read
 pub length-with_last : (earlier into : List ℕ) (n : ℕ) → n ≤ length into

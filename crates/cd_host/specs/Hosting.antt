@@ -1,6 +1,6 @@
 -- A host, as contracts see it.
 use Rattle.std.specs.Prelude.{⊤, ℕ, List, Result}
-use Rattle.cd_program.specs.declared.host.OpenFault.{OpenFault}
+use Rattle.cd_host.specs.declared.host.OpenFault.{OpenFault}
 
 -- which answers are possible for the file at a path, for the standard input, and for a new file at
 -- a path, and the state of the host afterwards; and the state of the host after the new file of a

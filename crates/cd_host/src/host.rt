@@ -1,7 +1,7 @@
 //! The interface by which the program opens and makes files.
 
 ghost use Rattle.std.specs.Prelude.{◌≡◌, IfOk};
-ghost use Rattle.cd_program.specs.Hosting.{Hosting};
+ghost use Rattle.cd_host.specs.Hosting.{Hosting};
 
 use cd_stream::{Sink, Source};
 

@@ -1,7 +1,7 @@
 use Rattle.std.proofs.Common.{subst, sym}
 use Rattle.cd_stream.specs.Transfer.{Gives}
-use Rattle.cd_program.proofs.ScriptLemmas.{Stops-read_failed}
-use Rattle.cd_program.proofs.script.load_script.Goals as goal
+use Rattle.cd_host.proofs.ScriptLemmas.{Stops-read_failed}
+use Rattle.cd_host.proofs.script.load_script.Goals as goal
 
 pub returns-in-Err-clause-loads : goal.returns-in-Err-clause-loads
 returns-in-Err-clause-loads g c = record {

@@ -1,4 +1,4 @@
-use Rattle.cd_program.proofs.script.read_script.Goals as goal
+use Rattle.cd_host.proofs.script.read_script.Goals as goal
 
 pub returns-in-Ok-clause-script : goal.returns-in-Ok-clause-script
 returns-in-Ok-clause-script g c = assumption c.in-Ok.ensures

@@ -1,7 +1,7 @@
 //! The operating system as a host: its files, and its standard streams.
 
 ghost use Rattle.std.specs.Prelude.{◌≡◌, IfOk};
-ghost use Rattle.cd_program.specs.Hosting.{any_answers};
+ghost use Rattle.cd_host.specs.Hosting.{any_answers};
 
 use crate::host::{Host, OpenFault};
 use cd_sector::SECTOR_SIZE;
@@ -106,7 +106,7 @@ impl<'a> System<'a> {
     /// # Errors
     ///
     /// There was no memory for its buffer.
-    pub(crate) fn standard_output(&self) -> Result<Buffered<ToWrite<Stdout>>, AllocError>
+    pub fn standard_output(&self) -> Result<Buffered<ToWrite<Stdout>>, AllocError>
         ensures { IfOk result (λ out.
             (⟦<Buffered<ToWrite<Stdout>> as Sink>⟧.seen out).failures ≡ 0) }
     {

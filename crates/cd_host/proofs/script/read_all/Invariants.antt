@@ -1,7 +1,7 @@
 use Rattle.std.proofs.Common.{◌≡◌, ◌-◌, ◌≤◌, length}
 use Rattle.cd_stream.specs.Transfer.{Gives}
 use Rattle.cd_script.specs.declared.limits.TheConstants.{MAX_TEXT}
-use Rattle.cd_program.proofs.script.read_all.Given as goal
+use Rattle.cd_host.proofs.script.read_all.Given as goal
 
 abbrev pub invariant-loop-bytes : goal.invariant-loop-bytes
 invariant-loop-bytes g l = record {

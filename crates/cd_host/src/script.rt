@@ -9,7 +9,7 @@ ghost use Rattle.cd_script.specs.declared.fault.ScriptFault.{ScriptFault};
 ghost use Rattle.cd_script.specs.PatchForm.{Patch as ThePatch};
 ghost use Rattle.cd_run.specs.Messages.{script_fault_line};
 ghost use Rattle.cd_read.specs.Printing.{PrintsLine};
-ghost use Rattle.cd_program.specs.ScriptLines.{Gathers, IsFaultOf, Loads, PrintsFailedReads};
+ghost use Rattle.cd_host.specs.ScriptLines.{Gathers, IsFaultOf, Loads, PrintsFailedReads};
 ghost use Rattle.cd_stream.specs.Stream.{CanCountFailure};
 ghost use Rattle.cd_stream.specs.Transfer.{Gives};
 
@@ -36,7 +36,7 @@ pub enum LoadFault {
 
 impl From<SourceFailed> for LoadFault {
     ghost use Rattle.std.specs.Prelude.{◌≡◌};
-    ghost use Rattle.cd_program.specs.declared.script.LoadFault.TheVariants.{Read};
+    ghost use Rattle.cd_host.specs.declared.script.LoadFault.TheVariants.{Read};
 
     ghost from_gives = { λ _ fault. fault ≡ Read };
 
@@ -47,7 +47,7 @@ impl From<SourceFailed> for LoadFault {
 
 impl From<AllocError> for LoadFault {
     ghost use Rattle.std.specs.Prelude.{◌≡◌};
-    ghost use Rattle.cd_program.specs.declared.script.LoadFault.TheVariants.{NoMemory};
+    ghost use Rattle.cd_host.specs.declared.script.LoadFault.TheVariants.{NoMemory};
 
     ghost from_gives = { λ _ fault. fault ≡ NoMemory };
 

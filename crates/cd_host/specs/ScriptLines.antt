@@ -8,10 +8,10 @@ use Rattle.cd_script.specs.declared.fault.ScriptFault.TheVariants as script_faul
 use Rattle.cd_script.specs.Script.{script}
 use Rattle.cd_script.specs.Limits.{text_limit}
 use Rattle.cd_read.specs.Status.{failed_status}
-use Rattle.cd_program.specs.Messages.{load_fault_line}
+use Rattle.cd_host.specs.Messages.{load_fault_line}
 use Rattle.cd_read.specs.Printing.{PrintsLine}
-use Rattle.cd_program.specs.declared.script.LoadFault.{LoadFault}
-use Rattle.cd_program.specs.declared.script.LoadFault.TheVariants.{Read, TooLong, NoMemory}
+use Rattle.cd_host.specs.declared.script.LoadFault.{LoadFault}
+use Rattle.cd_host.specs.declared.script.LoadFault.TheVariants.{Read, TooLong, NoMemory}
 
 -- ---- the text of a script
 

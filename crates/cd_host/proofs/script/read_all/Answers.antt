@@ -3,9 +3,9 @@ use Rattle.std.proofs.lemmas.Bool.{ne_eqb}
 use Rattle.std.proofs.Math.ListN.{length-take}
 use Rattle.cd_stream.specs.Transfer.{Gives}
 use Rattle.cd_stream.proofs.TransferLemmas.{Gives-front, Gives-trans}
-use Rattle.cd_program.specs.declared.script.LoadFault.TheVariants.{TooLong}
-use Rattle.cd_program.proofs.ScriptLemmas.{Gathers-refused, Gathers-stopped, length-with_last}
-use Rattle.cd_program.proofs.script.read_all.Goals as goal
+use Rattle.cd_host.specs.declared.script.LoadFault.TheVariants.{TooLong}
+use Rattle.cd_host.proofs.ScriptLemmas.{Gathers-refused, Gathers-stopped, length-with_last}
+use Rattle.cd_host.proofs.script.read_all.Goals as goal
 
 pub returns-then-n-eq0 : goal.returns-then-n-eq0
 returns-then-n-eq0 g c =
