@@ -293,14 +293,11 @@ test('an image that vanishes is named, and a full disk leaves whole lines', () =
     assert.deepEqual([full.status, full.errors], [2, `cdscript: cannot write ${join(room, 'list')}: the disk is full\n`]);
     const kept = read(room, 'list').toString();
     assert.deepEqual([kept.split('\n').length, kept.endsWith('\n')], [6, true]);
-    let isGone = false;
-    const vanished = await calling((name, [, bytes]) => {
-        if (name === 'writeSync' && bytes.includes(0x09) && !isGone) {
-            isGone = true;
-            unlinkSync(join(room, 'two', 'game 39.bin'));
-        }
+    mkdirSync(join(room, 'three'));
+    const vanished = await calling((name, [path]) => {
+        if (name === 'readdirSync' && `${path}`.endsWith('three')) unlinkSync(join(room, 'two', 'game 39.bin'));
         return null;
-    }, ['scan', join(room, 'one'), join(room, 'two'), '--resume', join(room, 'list')]);
+    }, ['scan', ...['one', 'two', 'three'].map(it => join(room, it)), '--resume', join(room, 'list')]);
     assert.equal(vanished.status, 2);
     assert.match(vanished.errors, /^cdscript: cannot open .*two\/game 39\.bin: there is no such file or directory\n/);
     const lines = read(room, 'list').toString().split('\n').filter(Boolean).map(line => line.split('\t')[0]);
