@@ -42,6 +42,8 @@ The calls; help(cdpatch.patch) describes one in full:
     with_user(sector, offset, new)   the sector with different user data
     with_address(sector, address)    the sector with a different address
     with_parity(sector)              the sector with P and Q parity recalculated
+    correct_sector(sector)           the sector as its own parity corrects it
+    merge_sector(address, sector, copies)           which copy of other dumps replaces it
     library_version()                the version of libcdpatch
 
 Images, scripts, sectors, user data, and addresses may be bytes, bytearray, memoryview, mmap, array, or any other object with a contiguous
@@ -64,15 +66,15 @@ from ._lines import audit_end, audit_line, listing_end, listing_line
 from ._numbers import LAST_BASE, SECTOR_SIZE, USER_SIZE
 from ._patching import Reader, Writer, patch
 from ._reports import Report
-from ._sectors import (KINDS, Broken, Defect, address, broken, defect, edc, encode, is_consistent, kind, rebuild, survey, with_address,
-                       with_parity, with_user)
+from ._sectors import (FITS, KINDS, Broken, Choice, Defect, address, broken, correct_sector, defect, edc, encode, is_consistent, kind,
+                       merge_sector, rebuild, survey, with_address, with_parity, with_user)
 
 __version__ = '2.0.0'
 __all__ = [
-    'KINDS', 'LAST_BASE', 'SECTOR_SIZE', 'USER_SIZE', 'Broken', 'Damaged', 'Defect', 'Failed', 'NotMode1', 'OutOfRange', 'Patched',
-    'Reader', 'Record', 'Refused', 'Report', 'Writer', 'address', 'apply', 'audit', 'audit_end', 'audit_line', 'broken', 'check', 'defect',
-    'edc', 'encode', 'is_consistent', 'kind', 'library_version', 'listing', 'listing_end', 'listing_line', 'patch', 'rebuild', 'survey',
-    'with_address', 'with_parity', 'with_user',
+    'FITS', 'KINDS', 'LAST_BASE', 'SECTOR_SIZE', 'USER_SIZE', 'Broken', 'Choice', 'Damaged', 'Defect', 'Failed', 'NotMode1', 'OutOfRange',
+    'Patched', 'Reader', 'Record', 'Refused', 'Report', 'Writer', 'address', 'apply', 'audit', 'audit_end', 'audit_line', 'broken', 'check',
+    'correct_sector', 'defect', 'edc', 'encode', 'is_consistent', 'kind', 'library_version', 'listing', 'listing_end', 'listing_line',
+    'merge_sector', 'patch', 'rebuild', 'survey', 'with_address', 'with_parity', 'with_user',
 ]
 
 

@@ -74,6 +74,8 @@ CALLS = {
     'carry_user': (_NUMBER, _POINTER, _SIZE, _POINTER, _SIZE),
     'change_address': (_NUMBER, _POINTER, _POINTER),
     'carry_address': (_NUMBER, _POINTER, _POINTER),
+    'merge_sector': (_NUMBER, _POINTER, _POINTER, _POINTER, _SIZE, _POINTER),
+    'correct_sector': (_FLAG, _POINTER),
     'run_begin': (_SIZE, _POINTER, _POINTER, _SIZE, _NUMBER, _LONG, _NUMBER, _POINTER, _SIZE),
     'run_next': (None,),  # Gets only ctypes values: converting Python numbers takes longer than many steps.
     'list_line': (_SIZE, _NUMBER, _NUMBER, _NUMBER, _POINTER),

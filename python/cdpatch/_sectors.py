@@ -4,17 +4,18 @@ from __future__ import annotations
 
 import ctypes
 from operator import index
-from typing import TYPE_CHECKING, Callable, NamedTuple, Optional, Tuple, Union
+from typing import TYPE_CHECKING, Callable, Iterable, NamedTuple, Optional, Tuple, Union
 
 from ._errors import refusal
 from ._library import LARGEST_NUMBER, LARGEST_SIZE, Record, library, records_type
 from ._memory import Held, lent, lent_whole
-from ._numbers import ADDRESS_SIZE, COLUMNS, DIAGONALS, SECTOR_SIZE, USER_SIZE, DefectStruct, SectorKind
+from ._numbers import ADDRESS_SIZE, COLUMNS, DIAGONALS, SECTOR_SIZE, USER_SIZE, DefectStruct, Fit, SectorKind
 
 if TYPE_CHECKING:
     from _typeshed import ReadableBuffer
 
 KINDS: Tuple[str, ...] = tuple(kind.name.lower() for kind in SectorKind)
+FITS: Tuple[str, ...] = tuple(fit.name.lower() for fit in Fit)
 
 
 Argument = Union[int, bytes, Held]
@@ -28,6 +29,14 @@ class Defect(NamedTuple):
     edc: bool
     p: int
     q: int
+
+
+class Choice(NamedTuple):
+    """The copy that replaces a sector: its place among the copies, from 0 on, and how well it fits, one of FITS. `edc`: the EDC field of
+    the sector is the same. `data`: header and user data are the same, and the EDC field is not. `neither`: nothing in the sector confirms
+    the copy."""
+    place: int
+    fit: str
 
 
 class Broken(NamedTuple):
@@ -153,3 +162,27 @@ def with_address(sector: ReadableBuffer, address: ReadableBuffer, carry: bool = 
     Raises NotMode1; Damaged, but not with `carry`; ValueError for other sizes."""
     call = library.cdpatch_carry_address if carry else library.cdpatch_change_address
     return _accepted(*_changed(call, sector, lent(address, ADDRESS_SIZE)))
+
+
+def merge_sector(address: ReadableBuffer, sector: ReadableBuffer, copies: Iterable[ReadableBuffer]) -> Optional[Choice]:
+    """Returns the Choice of the copy that replaces a sector, among its copies in other dumps, all of 2352 bytes. A copy can replace it if
+    the copy is a consistent Mode 1 sector with these 3 bytes as its address; of these, the first with the best fit is chosen. Returns None
+    if there is none, or if the sector is a consistent Mode 1 sector itself. Raises ValueError for other sizes.
+
+    It chooses a copy for audio and Mode 2 too, so call it only for sectors that should be Mode 1. Damage may be deliberate, so ask before
+    you repair it."""
+    sectors = [_copied(copy) for copy in copies]
+    place = ctypes.c_size_t()
+    fit: int = library.cdpatch_merge_sector(lent(address, ADDRESS_SIZE), lent(sector, SECTOR_SIZE), b''.join(sectors), len(sectors),
+                                            ctypes.byref(place))
+    return None if fit == Fit.NONE else Choice(place.value, FITS[fit])
+
+
+def correct_sector(sector: ReadableBuffer) -> Optional[bytes]:
+    """Returns a damaged Mode 1 sector of 2352 bytes as its own P and Q parity corrects it, or None if that is not possible: Intermediate
+    field, EDC, and all parity are then right. The header and the EDC field are never changed, so the EDC confirms the result. Returns None
+    for a sector without damage, too. Raises ValueError for a different size.
+
+    Damage may be deliberate, so ask before you correct it."""
+    made = _copied(sector)
+    return made.raw if library.cdpatch_correct_sector(made) else None

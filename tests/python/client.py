@@ -13,7 +13,12 @@ def on_sectors(sector: memoryview, user: bytearray) -> List[bytes]:
                             cdpatch.with_user(sector, 0, user, carry=True), cdpatch.with_address(sector, b'123')]
     sound: bool = cdpatch.is_consistent(sector) and cdpatch.defect(sector).zeros
     number: int = cdpatch.edc(sector) + cdpatch.defect(sector).p + len(cdpatch.broken(sector).columns)
+    corrected: Optional[bytes] = cdpatch.correct_sector(sector)
+    choice: Optional[cdpatch.Choice] = cdpatch.merge_sector(b'123', sector, [user, corrected or sector])
+    sound = sound or (choice is not None and choice.fit == cdpatch.FITS[choice.place])
     cdpatch.with_user(sector, b'', 0)  # type: ignore[arg-type]
+    cdpatch.correct_sector('sector')  # type: ignore[arg-type]
+    cdpatch.merge_sector(b'123', sector, sector)  # type: ignore[arg-type]
     cdpatch.kind('sector')  # type: ignore[arg-type]
     return sectors if sound and number and cdpatch.kind(sector) in cdpatch.KINDS else []
 

@@ -135,7 +135,8 @@ def test_each_name_says_what_it_is():
 
 
 def test_a_call_with_a_size_names_it_and_its_error():
-    for name in ('kind', 'encode', 'with_parity', 'is_consistent', 'defect', 'broken', 'rebuild', 'with_user', 'with_address'):
+    for name in ('kind', 'encode', 'with_parity', 'is_consistent', 'defect', 'broken', 'rebuild', 'with_user', 'with_address',
+                 'merge_sector', 'correct_sector'):
         assert re.search(r'2352.*ValueError', getattr(cdpatch, name).__doc__, re.DOTALL), name
 
 

@@ -2,6 +2,7 @@
 
 import pickle
 import tracemalloc
+from ctypes import create_string_buffer
 from random import Random
 
 import cdpatch
@@ -9,7 +10,7 @@ import pytest
 from cases import some_case
 from hypothesis import example, given
 from hypothesis import strategies as st
-from model import DAMAGED, NOT_MODE1, OK, OUT_OF_RANGE, broken, changed, content_with, parity_of, some_sector
+from model import DAMAGED, NOT_MODE1, OK, OUT_OF_RANGE, broken, changed, choice, content_with, harms_of, parity_of, some_copies, some_sector
 from sector import NO_DEFECT, SYNC, address_of, consistent, damage, edc_bytes, kind, sector_with
 
 ERRORS = {NOT_MODE1: cdpatch.NotMode1, DAMAGED: cdpatch.Damaged, OUT_OF_RANGE: cdpatch.OutOfRange}
@@ -49,6 +50,62 @@ def test_each_call_agrees_with_the_model(seed):
         assert result_of(cdpatch.with_address, sector, address, carry=carry) == changed(sector, readdressed, not carry)
 
 
+@given(st.integers(0, 10 ** 9))
+def test_the_choice_among_copies_agrees_with_the_model(seed):
+    random = Random(seed)
+    sector = some_sector(random)
+    copies = some_copies(random, sector)
+    number, place = choice(sector[12:15], sector, copies)
+    wanted = (place, cdpatch.FITS[number]) if number else None
+    assert cdpatch.merge_sector(sector[12:15], sector, copies) == wanted
+    assert cdpatch.merge_sector(bytearray(sector[12:15]), memoryview(sector), (bytearray(copy) for copy in copies)) == wanted
+
+
+def test_the_copy_that_fits_best_is_chosen():
+    home, other = SECTOR[12:15], cdpatch.encode(SECTOR[12:15], bytes(2048))
+    wrong_edc = SECTOR[:2064] + b'EDC!' + SECTOR[2068:]
+    lost = bytes(2352)
+    moved = cdpatch.with_address(SECTOR, b'\0\2\1')
+    for sector, copies, wanted in [(DAMAGED_SECTOR, [other, SECTOR, SECTOR], (1, 'edc')), (wrong_edc, [moved, other, SECTOR], (2, 'data')),
+                                   (lost, [DAMAGED_SECTOR, moved, other, SECTOR], (2, 'neither')), (lost, [moved], None), (lost, [], None),
+                                   (SECTOR, [other], None), (moved, [SECTOR], None)]:
+        assert cdpatch.merge_sector(home, sector, copies) == wanted
+    found = cdpatch.merge_sector(home, DAMAGED_SECTOR, [SECTOR])
+    assert (found.place, found.fit, cdpatch.FITS) == (0, 'edc', ('none', 'neither', 'data', 'edc'))
+
+
+@given(st.integers(0, 10 ** 9))
+def test_parity_makes_a_sector_sound_as_it_was_or_does_nothing(seed):
+    random = Random(seed)
+    sound = sector_with(SYNC + random.randbytes(3) + b'\1' + random.randbytes(2048), NO_DEFECT)
+    harmed = bytearray(sound)
+    places, is_sure = harms_of(random)
+    for place in places:
+        harmed[place] ^= random.randrange(1, 256)
+    corrected = cdpatch.correct_sector(harmed)
+    assert corrected == sound or (corrected is None and not is_sure)
+    own = create_string_buffer(bytes(harmed), 2352)
+    assert cdpatch.library.cdpatch_correct_sector(own) == (corrected is not None)
+    assert own.raw == (corrected or harmed)
+
+
+@given(st.integers(0, 10 ** 9))
+def test_a_correction_is_consistent_and_keeps_header_and_edc(seed):
+    sector = some_sector(Random(seed))
+    corrected = cdpatch.correct_sector(sector)
+    if corrected is None:
+        return
+    assert kind(sector) == 'mode1' and not consistent(sector) and consistent(corrected)
+    assert (corrected[12:16], corrected[2064:2068]) == (sector[12:16], sector[2064:2068])
+
+
+def test_what_parity_corrects():
+    for first, count, is_corrected in [(16, 1, True), (16, 0, False), (2063, 1, True), (2068, 8, True), (2076, 80, True), (500, 80, True),
+                                       (500, 200, False), (2064, 1, False), (12, 1, False), (0, 1, False)]:
+        harmed = bytes(byte ^ (0xFF if first <= at < first + count else 0) for at, byte in enumerate(SECTOR))
+        assert cdpatch.correct_sector(harmed) == (SECTOR if is_corrected else None), first
+
+
 @given(st.integers(0, 10 ** 9), st.one_of(st.integers(0, 2048), st.sampled_from(FAR)), st.binary(max_size=2050), st.booleans())
 @example(0, 0, bytes(2048), False)
 @example(0, 2047, b'\1', True)
@@ -81,7 +138,9 @@ def test_addresses(block):
 def test_a_sector_of_another_size_is_refused(size):
     sector = (SECTOR + SECTOR + SECTOR)[:size]
     calls = [(call, ()) for call in (cdpatch.kind, cdpatch.is_consistent, cdpatch.defect, cdpatch.broken, cdpatch.with_parity,
-                                     cdpatch.rebuild)]
+                                     cdpatch.rebuild, cdpatch.correct_sector)]
+    calls += [(lambda sector: cdpatch.merge_sector(bytes(3), sector, [SECTOR]), ()),
+              (lambda sector: cdpatch.merge_sector(bytes(3), SECTOR, [SECTOR, sector]), ())]
     for call, more in [*calls, (cdpatch.with_user, (0, b'A')), (cdpatch.with_address, (bytes(3),))]:
         with pytest.raises(ValueError, match=f'^expected 2352 bytes, got {size}$'):
             call(sector, *more)
@@ -92,8 +151,15 @@ def test_an_address_or_user_data_of_another_size_is_refused():
         with pytest.raises(ValueError, match='^expected'):
             cdpatch.encode(address, user)
     for address in (b'', bytes(2), bytes(4)):
-        with pytest.raises(ValueError, match='^expected 3 bytes'):
-            cdpatch.with_address(SECTOR, address)
+        for call in (cdpatch.with_address, lambda sector, address: cdpatch.merge_sector(address, sector, [sector])):
+            with pytest.raises(ValueError, match='^expected 3 bytes'):
+                call(SECTOR, address)
+
+
+def test_copies_are_given_one_by_one():
+    for copies in (SECTOR, 7, None, ['copy'], [SECTOR, 7]):
+        with pytest.raises(TypeError):
+            cdpatch.merge_sector(SECTOR[12:15], DAMAGED_SECTOR, copies)
 
 
 def test_numbers_of_other_types_are_refused():
