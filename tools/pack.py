@@ -16,7 +16,6 @@ A key in braces is replaced by its text in `page/texts/english.js`.
 import argparse
 import ast
 import base64
-import gzip
 import hashlib
 import html
 import json
@@ -28,7 +27,7 @@ import zlib
 from pathlib import Path
 
 TOOLS = Path(__file__).resolve().parent
-LARGEST_PAGE = 400_000
+LARGEST_PAGE = 440_000
 NEEDS = 'cdscript needs node 18 or later'
 # The paths of modules can occur in the output, so esbuild finds all of them under fixed names. It would also use web/tsconfig.json.
 EVERY = ['--bundle', '--charset=utf8', '--legal-comments=none', '--log-level=warning', '--log-limit=0', '--loader:.gz=base64',
@@ -89,7 +88,9 @@ def read(path: Path) -> bytes:
 
 
 def packed(content: bytes) -> bytes:
-    return gzip.compress(content, 9, mtime=0)
+    """The content gzipped. Blocks that end sooner than by default suit base64 beside text: the page is 1.5 KB smaller."""
+    packing = zlib.compressobj(9, zlib.DEFLATED, 16 + zlib.MAX_WBITS, memLevel=6)
+    return packing.compress(content) + packing.flush()
 
 
 def command(parts: Path) -> str:

@@ -10,6 +10,8 @@ import { CHANGES, RAW, blocksOf, changedImage, imageOf as imageWith, sectorAt, s
 const { baseByAddresses } = await core('disc/base.js');
 const { RECORD, RECORD_SIZE, SECTOR_KIND } = await core('module/index.js');
 const { blocksIn, surveyRange } = await core('sectors/index.js');
+const { applyInMemory } = await core('tasks/apply.js');
+const { correctionOf } = await core('tasks/correct.js');
 const { repairTrack } = await core('tasks/repair.js');
 const { commonPart, firstBlock, isSameRange, rangesOf } = await core('tasks/common_part.js');
 
@@ -186,6 +188,27 @@ test('parity changes nothing of a merge but damaged Mode 1 sectors, which become
         doubtful += blocksOf(two.doubtful).filter(({ block }) => corrected.has(block)).length;
     }
     assert.ok(count > CASES / 4 && doubtful > 0, `${count} ${doubtful}`);
+});
+
+test('the lines that correct a sector make it as its parity does, and there are none if the parity cannot', async () => {
+    const counts = [0, 0];
+    for (let seed = 0; seed < CASES; seed++) {
+        const dice = diceOf(seed + 7000);
+        const image = soundImage(dice, 3, BASE);
+        const old = image.slice();
+        const [first, most] = [dice(RAW), [1, 4, 24, 80, 200][dice(5)]];
+        for (let k = 0; k < most; k++) old[RAW + (dice(2) === 0 ? dice(RAW) : Math.min(first + k, RAW - 1))] ^= 1 + dice(255);
+        const [sector, due] = [sectorAt(old, 1), calls.correctedSector(sectorAt(old, 1))];
+        const correction = correctionOf(calls, BASE + 1, sector);
+        counts[Number(due !== null)] += 1;
+        assert.equal(correction === null, due === null, `seed ${seed}`);
+        if (correction === null) continue;
+        sameBytes(correction.fresh, sectorAt(image, 1), `seed ${seed}`);
+        const text = new TextEncoder().encode(`cdpatch 1\n${correction.lines.join('\n')}\n`);
+        const { pieces } = await applyInMemory({ calls, pool: localPool() }, imageOf(old), { text, bases: [] });
+        sameBytes(joinedPieces(old, pieces), image, `seed ${seed}`);
+    }
+    assert.ok(counts.every(count => count > CASES / 10), counts.join(' '));
 });
 
 test('sound sectors that differ are named by their blocks, of each image', async () => {

@@ -5,10 +5,11 @@ import { test } from 'node:test';
 import { calls, core, decoded, encoded, readerOf } from './common.mjs';
 import { localPool } from './pools.mjs';
 import { openedDisc } from './opened.mjs';
+import { recordOf } from './strangers.mjs';
 
-const { applyInMemory, exportTable, importTable, patchedTexts, validScript } = await core('tasks/index.js');
+const { applyInMemory, exportRecords, exportTable, importTable, patchedTexts, validScript } = await core('tasks/index.js');
 const { pieceReader } = await core('readers/index.js');
-const { encodeText } = await core('encodings/encoding.js');
+const { encodeText, withEnd } = await core('encodings/encoding.js');
 const { SEARCHED, encodingOf } = await core('encodings/encodings.js');
 
 const engine = { calls, pool: localPool() };
@@ -59,4 +60,26 @@ test('texts that the script does not write have no new text', async () => {
     const list = await exported(opened, pieces, {});
     const rows = list.split('\n').slice(1, -1).map(row => row.split('\t'));
     assert.deepEqual(rows.filter(row => row[7] !== '').map(row => [row[0], row[1], row[7]]), [['36', '100', 'PRESS']]);
+});
+
+test('an exported table of records has the new texts of the script without their filling', async () => {
+    for (const [filler, end] of [['20', undefined], ['00', undefined], ['FF', undefined], ['FE', 0xFE]]) {
+        const names = ['Herb', 'Sword', ''];
+        const table = Buffer.concat(names.map(name => Buffer.concat([Buffer.from(name), Buffer.alloc(8 - name.length, Number(`0x${filler}`))])));
+        const { opened } = await openedDisc([recordOf('NAMES', 36, 2048, { flags: 0 })], table);
+        const { files: entries } = await opened.contents();
+        const records = { entries, every: 8, length: 8, skip: 100, limit: 3, encoding: encodingOf('CP932'), end };
+        const listed = async freshOf => {
+            const pieces = [];
+            for await (const { text } of (await exportRecords(opened, { ...records, freshOf })).table) pieces.push(text);
+            return pieces.join('');
+        };
+        const list = (await listed(() => '')).replace('Herb\t', 'Herb\tKraut').replace(`{${filler}}\t`, `{${filler}}\tNew name`);
+        const lists = [{ name: 'list', reader: readerOf(encoded(list)) }];
+        const { script } = await importTable(engine, opened, { lists, encodings: SEARCHED.map(it => withEnd(it, end)), isAsked: false, partial: false });
+        const { reader, base } = opened.image;
+        const patched = await applyInMemory(engine, { reader, base }, await validScript(calls, script.pieces));
+        const freshOf = await patchedTexts(opened, pieceReader(reader, patched.pieces), { end, isWritten: () => true });
+        assert.equal(await listed(freshOf), list, filler);
+    }
 });

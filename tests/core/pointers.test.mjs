@@ -9,14 +9,15 @@ import { linesOf, number } from './made_games.mjs';
 import { localPool } from './pools.mjs';
 import { discOf, pointedGames } from './pointed_games.mjs';
 
-const { ListedSpans, exportTable, findPointers, importMoving, applyInMemory } = await core('tasks/index.js');
+const { ListedSpans, PointedTexts, applyInMemory, exportTable, findPointers, importMoving, patchedTexts, textRanges } = await core('tasks/index.js');
 const { TextStarts, findPointerTables, pointerList, tablesOfList, placesOf } = await core('pointers/index.js');
 const { checkMoved } = await core('tasks/check_moved.js');
 const { openPointedFiles } = await core('tasks/pointed_file.js');
 const { Table, unitsOfCell } = await core('texts/index.js');
 const { readScript } = await core('script/index.js');
+const { ScriptModel } = await core('script/model.js');
 const { filesOf, readerOfFile, wholeFile } = await core('iso/index.js');
-const { wholeOf } = await core('bytes.js');
+const { joinedBytes, wholeOf } = await core('bytes.js');
 const { usualBytes } = await core('encodings/encoding.js');
 const { SEARCHED, encodingOf } = await core('encodings/encodings.js');
 
@@ -39,11 +40,11 @@ async function listed(opened) {
 const fileIn = text => ({ name: 'list.tsv', reader: readerOf(encoded(text)) });
 
 /** Imports new texts for rows. */
-function moved(opened, rows, pointers, options = {}) {
+async function moved(opened, rows, pointers, options = {}) {
     const names = ['block', 'offset', 'room', 'encoding', 'text', 'new'];
     const text = [names, ...rows.map(row => names.map(name => row[name] ?? ''))].map(cells => `${cells.join('\t')}\n`).join('');
     const how = { encodings: SEARCHED, isAsked: false, partial: true, isKept: () => false, ...options };
-    return importMoving(engine, opened, { lists: [fileIn(text)], pointers: fileIn(pointers), ...how });
+    return importMoving(engine, opened, { lists: [fileIn(text)], tables: await tablesOfList(readerOf(encoded(pointers))), ...how });
 }
 
 /** The files of a disc after a script. */
@@ -379,4 +380,34 @@ test('the tables of MO files are found, and their texts stay, because the length
         assert.deepEqual([made.moved.length, made.left.every(({ why }) => why.code.startsWith('pointers/'))], [0, true]);
     }
     assert.ok(sums.found >= 0.9 * sums.named && sums.false <= 0.01 * sums.found, JSON.stringify(sums));
+});
+
+test('a list of the texts has those that moved: each is read where its pointer leads on the patched disc', async () => {
+    for (const name of ['16 bits from the file', '16 bits from the table, the greatest byte first, even', 'two tables', '32-bit addresses in records', 'a table in another file',
+        'in pools of code', '16 bits from the pointer']) {
+        const game = gameNamed(name);
+        const { reader, opened, rows, pointers } = await prepared(game);
+        const { script, left, moved: all } = await moved(opened, rows, pointers);
+        assert.ok(all.length > 3, name);
+        const { image } = await opened.contents();
+        const { pieces } = await applyInMemory({ calls }, image, await readScript(calls, script.pieces, script.long));
+        const patched = readerOf(joinedPieces(await wholeOf(reader), pieces));
+        const model = new ScriptModel(calls, decoded(joinedBytes(script.pieces)));
+        const tables = await tablesOfList(readerOf(encoded(pointers)));
+        const pointed = new PointedTexts(await openPointedFiles(opened, tables));
+        const freshOf = await patchedTexts(opened, patched, { isWritten: range => model.lineAt(range) > 0, pointed });
+        const isLeft = new Set(left.map(({ text }) => text.number));
+        for (const row of rows) {
+            const due = row.new === '' || isLeft.has(row.number) ? '' : row.new;
+            const listed = { ...row, block: Number(row.block), offset: Number(row.offset), room: Number(row.room) };
+            assert.equal((await freshOf(listed)).trimEnd(), due.trimEnd(), `${name}, row ${row.number}`);
+        }
+        // All lines of the script belong to texts, and no other bytes do.
+        const listed = rows.map(row => ({ ...row, block: Number(row.block), offset: Number(row.offset), room: Number(row.room) }));
+        const isOfTexts = await textRanges(opened, [pointed.files], listed);
+        for (const { patch, text } of model.lines) if (patch !== null) assert.ok(isOfTexts(patch), `${name}: ${text}`);
+        const last = game.files[game.file].length - 1;
+        assert.equal(isOfTexts({ block: 20 + Math.floor(last / 2048), offset: last % 2048, size: 1 }), game.table !== game.file, name);
+        assert.equal(isOfTexts({ block: 16, offset: 0, size: 2048 }), false, name);
+    }
 });

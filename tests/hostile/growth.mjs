@@ -22,7 +22,7 @@ const { Pool, localWorker } = await core('pool/pool.js');
 const { JOBS } = await core('jobs/jobs.js');
 const { replaceFile } = await core('tasks/replace_file.js');
 const { importMoving, openTrack } = await core('tasks/index.js');
-const { TextStarts, findPointerTables } = await core('pointers/index.js');
+const { TextStarts, findPointerTables, tablesOfList } = await core('pointers/index.js');
 const { readScript } = await core('script/script.js');
 const { codesLeftOut } = await core('texts/codes.js');
 const { encodingOf } = await core('encodings/encodings.js');
@@ -266,7 +266,8 @@ function movingRows(tables, rows, tableOf_) {
     const pointers = listFile('p.tsv', head + tableOf_(tables));
     return async () => {
         const opened = openTrack(await openDisc(calls, [{ name: 'game.bin', reader }]));
-        const options = { lists: [list], pointers, encodings: [CP932], isAsked: true, partial: true, isKept: () => false };
+        const tables = await tablesOfList(pointers.reader);
+        const options = { lists: [list], tables, encodings: [CP932], isAsked: true, partial: true, isKept: () => false };
         return importMoving({ calls, pool: new Pool([localWorker(calls, JOBS)]) }, opened, options);
     };
 }

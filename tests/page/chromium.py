@@ -99,7 +99,7 @@ MISFITS = '''const [width] = arguments, within = '.scroll, .hex, .editor, .hide,
         const { right, left } = it.getBoundingClientRect();
         return right > width + 1 || left < -1;
     });
-    const sheet = document.querySelector('dialog[open], :popover-open');
+    const sheet = document.querySelector('dialog[open], :popover-open, #menu:not([hidden])');
     const controls = shown.filter(it => it.matches('button, input, select, textarea') && (!sheet || sheet.contains(it)));
     const over = controls.flatMap((one, i) => controls.slice(i + 1).filter(other => {
         const [a, b] = [one, other].map(it => it.getBoundingClientRect());

@@ -191,6 +191,12 @@ class PageTest(unittest.TestCase):
         """Presses the first visible button whose label begins with this text."""
         self.browser.click_found(f'(it => {{ it?.scrollIntoView({{ block: "center" }}); return it; }})((function () {{ {BUTTON} }})(...given))', text)
 
+    def press_in(self, menu: str, item: str) -> None:
+        """Opens a menu by its key, unless it is open, and presses its item whose label begins with this text."""
+        if not self.browser.run('return document.querySelector(arguments[0])?.ariaExpanded === "true"', f'[data-menu={menu}]'):
+            self.browser.click(f'[data-menu={menu}]')
+        self.browser.click_found("[...document.querySelectorAll('#menu:not([hidden]) button')].find(it => it.innerText.trim().startsWith(given[0]))", item)
+
     def press_save(self) -> None:
         """Presses the button of the panel Script that applies the script and saves, under either of its labels."""
         self.press(str(common.waited(lambda: self.browser.run(SAVE), 'nothing saves')))
@@ -216,8 +222,8 @@ class PageTest(unittest.TestCase):
     def script_text(self) -> str:
         """The script as the page saves it."""
         self.press('Save…')
-        if self.browser.run('return document.querySelector("#sheet[open]") !== null'):
-            self.browser.answer(common.text('scriptSaveScript'))
+        if self.browser.run('return !document.querySelector("#menu").hidden'):
+            self.press(common.text('scriptSaveScript'))
         name = self.browser.text('#panel-script header h2')
         path = self.browser.downloaded('script.txt' if name == 'New script' else name)
         text = path.read_text()
@@ -226,8 +232,7 @@ class PageTest(unittest.TestCase):
 
     def save_undo(self) -> None:
         """Saves the undo script."""
-        self.press('Save…')
-        self.browser.answer(common.text('scriptUndoScript'))
+        self.press_in('save', common.text('scriptUndoScript'))
 
     def chosen_bytes(self) -> bytes:
         """The bytes written to the chosen file."""

@@ -6,6 +6,7 @@ import random
 
 import common
 import discs
+from states import SENTENCES
 
 NEW = 'cdpatch 1\n'
 SCRIPTS = {'one.txt': 'cdpatch 1\nfill 120 5 4 01\n', 'two.txt': 'cdpatch 1\n# two\nfill 130 5 4 02\nrebuild 131\n',
@@ -13,10 +14,34 @@ SCRIPTS = {'one.txt': 'cdpatch 1\nfill 120 5 4 01\n', 'two.txt': 'cdpatch 1\n# t
 DAMAGED = {'sound.bin': (), 'bad.bin': (40, 60), 'worse.bin': (60, 80, 100)}
 
 
+# A file with each sentence twice. Typed bytes change the first byte of a block, which is not in a sentence.
+TALK = bytes(16) + b''.join(text.encode('cp932') + b'\0' for text in SENTENCES * 2)
+
+
 @functools.cache
 def images() -> dict[str, bytes]:
-    """An undamaged dump and two damaged ones."""
-    return {name: functools.reduce(common.damaged, blocks, discs.game()) for name, blocks in DAMAGED.items()}
+    """An undamaged dump of the game with the sentences, and two damaged ones."""
+    files = {'DATA/MSG00.DAT': discs.messages(), 'DATA/STAGE.DAT': bytes(range(256)) * 32, 'DATA/TALK.DAT': TALK, 'README.TXT': b'Start'}
+    game = common.image_of(common.iso_of(files))
+    assert discs.first_block() == game.find(discs.messages()[:200]) // common.SECTOR_SIZE
+    return {name: functools.reduce(common.damaged, blocks, game) for name, blocks in DAMAGED.items()}
+
+
+def new_texts(image: bytes, patched: bytes) -> dict[str, str]:
+    """The new text of each sentence in a patched image, '' for those that are as in the image. It is the same at both places."""
+    start = image.find(TALK)
+    found: dict[str, str] = {}
+    for text in SENTENCES:
+        old = text.encode('cp932')
+        for at in (start + TALK.index(old), start + TALK.rindex(old)):
+            new = patched[at:at + len(old)]
+            assert found.setdefault(text, '' if new == old else new.rstrip(b' \0').decode()) == ('' if new == old else new.rstrip(b' \0').decode()), text
+    return found
+
+
+def new_text(dice: random.Random) -> str:
+    """A random new text that fits in place of each sentence, or none."""
+    return dice.choice(['', *(f'{word} {dice.randrange(100)}.' for word in ('Start', 'Save', 'The door', 'A detective'))])
 
 
 def repaired(image: bytes, other: bytes) -> bytes | None:
@@ -52,6 +77,8 @@ class Model:
     def __init__(self) -> None:
         self.image = self.second = self.panel = self.title = ''
         self.edited = False
+        # The earlier new texts of those that were typed in the table of texts; None if it is not shown.
+        self.typed_texts: list[dict[str, str]] | None = None
         self.saving: Saving | None = None
         self.waits = False
         self.done: list[Edit] = []
@@ -126,7 +153,7 @@ class Model:
     def close(self) -> None:
         """Closes the image and all that depends on it."""
         self.image = self.second = self.panel = self.title = ''
-        self.edited, self.done, self.undone = False, [], []
+        self.edited, self.done, self.undone, self.typed_texts = False, [], [], None
 
     def begin(self, card: str, due: bytes) -> None:
         self.saving = Saving(card, due)

@@ -6,6 +6,7 @@ from typing import Any
 
 import common
 import discs
+import pointed
 from keys import Keys
 from pages import PICKER, PageTest, applied, patcher
 
@@ -148,15 +149,48 @@ class States(PageTest):
         self.browser.wait('#sector-title', 'block')
         self.browser.click('#findings .fold')
 
+    def to_disc_correctable(self) -> None:
+        """A damaged sector that its own parity corrects."""
+        self.begin(discs.scratched())
+        self.go_to(discs.first_block() + 1)
+        self.browser.wait('#panel-disc .say.bad', 'Correct it')
+
+    def to_disc_corrected(self) -> None:
+        """The lines of the script correct a sector."""
+        self.to_disc_correctable()
+        self.press('Correct it')
+        self.browser.wait('#panel-disc .say.bad', 'correct this sector from its own parity')
+
+    def to_disc_corrected_all(self) -> None:
+        """The damaged sectors that their own parity corrects have been counted, and a corrected image has been saved."""
+        self.begin(common.damaged(discs.changed(discs.game(), (20, 2065)), discs.first_block() + 1))
+        self.go_to(discs.first_block() + 1)
+        self.press('Correct all sectors of this kind')
+        self.browser.wait('#correct-body .tally', 'cannot be corrected')
+        self.press('Save repaired image')
+        self.browser.wait('#correct-body .say.warn', 'Saved: ')
+        self.browser.wait('#corrected-sha1', common.sha1(self.chosen_bytes()))
+
     def to_disc_runs(self) -> None:
         """The runs of sectors of one kind."""
-        self.begin(discs.scratched())
-        self.browser.click('#findings [data-tab=runs]')
+        self.details('runs')
 
     def to_disc_text(self) -> None:
         """The report as the program prints it."""
+        self.details('audit')
+
+    def details(self, detail: str) -> None:
         self.begin(discs.scratched())
-        self.browser.click('#findings [data-tab=text]')
+        self.browser.click('#findings [data-tab=details]')
+        self.browser.choose('#findings select', detail)
+
+    def to_disc_menu(self) -> None:
+        """The menu of a sector, with a setting and the copies of the selected bytes."""
+        self.begin(discs.scratched())
+        self.press('Next finding')
+        self.browser.wait('#sector-title', 'block')
+        self.browser.click('[data-menu=sector]')
+        self.browser.wait('#menu', 'Copy as hex')
 
     def to_disc_files(self) -> None:
         """The files of the disc, with one selected and its sector open."""
@@ -238,7 +272,7 @@ class States(PageTest):
         """The image is being closed although unsaved work would be lost."""
         self.begin(discs.game())
         self.edit(Keys.ARROW_DOWN, 'rebuild 1')
-        self.press('Close')
+        self.press_in('image', 'Close the image')
         self.browser.wait('#sheet', 'Close it anyway')
 
     # ---- the script
@@ -374,7 +408,7 @@ class States(PageTest):
         """The texts of the disc have been saved as a table."""
         self.begin(spoken_texts())
         self.browser.click('#tab-text')
-        self.press('Export a table')
+        self.press_in('export', 'Export a table')
         self.browser.wait('#panel-text .say.good', 'Saved: ')
 
     def to_texts_typed(self) -> None:
@@ -406,7 +440,33 @@ class States(PageTest):
         image = self.table({2: 'The game starts.', 3: 'Save?'})
         self.browser.wait('#panel-text .say.good', 'All 2 translations fit.')
         self.import_table(image, {2: 'The game starts.'})
-        self.browser.wait('#panel-text .say.warn', 'The table has no new text for line 3 of the script.')
+        self.browser.wait('#panel-text .say.warn', 'The list has no new text for line 3 of the script.')
+
+    def pointers(self) -> None:
+        """Opens a disc whose texts have pointers, and finds these."""
+        self.begin(pointed.game())
+        self.browser.click('#tab-text')
+        self.press('Show all texts')
+        self.browser.wait('.all-texts tbody input')
+        self.press('Find pointers')
+        self.browser.wait('#let-move:enabled')
+
+    def to_text_pointers(self) -> None:
+        """The tables of pointers to the texts of a disc, all of which are used."""
+        self.pointers()
+        self.browser.run('document.querySelector("#pointers-title").scrollIntoView()')
+
+    def to_text_moved(self) -> None:
+        """A text that is longer than its room has moved, and a different one waits for the script."""
+        self.pointers()
+        self.browser.click('#let-move')
+        self.browser.click('.all-texts tbody tr[aria-rowindex="2"] input')
+        self.browser.press('The hero found the herb in the tower of the north, and took it home.', Keys.ENTER)
+        self.press('Make the script')
+        self.browser.wait('[aria-labelledby=pointers-title] .say.good')
+        self.browser.click('.all-texts tbody tr[aria-rowindex="3"] input')
+        self.browser.press('A villager', Keys.ENTER)
+        self.browser.wait('[aria-labelledby=pointers-title] .moved li')
 
     # ---- publishing, and the page of a patcher
 
@@ -510,7 +570,8 @@ class States(PageTest):
 
     def to_note_proved(self) -> None:
         """The note on what is proved and what is not."""
-        self.note('proved')
+        self.note('about')
+        self.browser.click('#proved summary')
 
 
 def each_state(kind: type[States], judge: Callable[[Any, str], None], step: int = 1) -> None:

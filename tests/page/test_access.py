@@ -93,6 +93,32 @@ class Access(States):
         self.browser.press(Keys.TAB)
         self.assertEqual(self.has_focus(), 'Save repaired image…')
 
+    def test_a_menu_is_used_by_the_keyboard_and_gives_the_focus_back(self) -> None:
+        self.to_disc_menu()
+        state = 'const it = document.activeElement; return [it.dataset.menu, it.ariaExpanded, document.querySelector("#menu").hidden]'
+        self.assertEqual(self.has_focus(), '☐ Offsets in hexadecimal')
+        for keys, due in ((Keys.ARROW_DOWN, 'Copy as hex'), (Keys.END, 'Copy as text'), (Keys.ARROW_DOWN, '☐ Offsets in hexadecimal')):
+            self.browser.press(keys)
+            self.assertEqual(self.has_focus().split(' Copied')[0], due)
+        self.browser.press(Keys.ESCAPE)
+        self.assertEqual(self.browser.run(state), ['sector', 'false', True])
+        self.browser.press(Keys.ENTER, Keys.ENTER)
+        self.assertEqual(self.browser.run(state), ['sector', 'false', True])
+        self.browser.press(Keys.ENTER, Keys.TAB)
+        self.assertTrue(self.browser.run('return document.querySelector("#menu").hidden && !document.activeElement.matches("#menu *, [data-menu], body")'))
+        self.browser.click('[data-menu=sector]')
+        self.browser.click('#sector-title')
+        self.assertTrue(self.browser.run('return document.querySelector("#menu").hidden'))
+
+    def test_the_first_finding_and_the_field_to_find_a_text_get_the_focus(self) -> None:
+        self.begin(discs.scratched())
+        self.press('Go to the first finding')
+        self.wait_for_focus('.hex')
+        self.setUp()
+        self.begin(discs.game())
+        self.press('Find a text')
+        self.wait_for_focus('#find-text')
+
     def test_the_line_under_the_bytes_is_spoken_after_a_pause(self) -> None:
         self.begin(discs.game())
         self.browser.click('#tab-disc')
@@ -148,11 +174,12 @@ class Access(States):
         self.browser.press(Keys.ESCAPE)
         ends: list[Callable[[], None]] = [lambda: self.browser.press(Keys.ESCAPE), lambda: self.browser.answer('Cancel')]
         for end in ends:
-            self.press_by_key('Close')
+            self.press_by_key('⋯')
+            self.browser.press(Keys.ARROW_DOWN, Keys.ENTER)
             self.browser.wait('#sheet', 'Close it anyway')
             end()
             self.browser.wait('#panel-script')
-            self.assertEqual(self.has_focus(), 'Close the image')
+            self.assertEqual(self.has_focus(), '⋯')
 
     def test_the_focus_stays_in_a_sheet_while_it_asks(self) -> None:
         self.to_second_asked()
@@ -175,7 +202,7 @@ class Access(States):
     def test_a_note_has_a_button_that_closes_it(self) -> None:
         for width in (360, 1280):
             self.browser.size(width, 740)
-            for name in ('about', 'proved', 'keys', 'words'):
+            for name in ('about', 'keys', 'words'):
                 self.browser.click(f'[popovertarget={name}]:not([popovertargetaction])')
                 self.browser.click(f'#{name} .shut')
                 self.assertFalse(self.browser.run('return document.querySelector(":popover-open") !== null'), f'{name} at {width}')

@@ -150,6 +150,7 @@ class Actions(PageTest):
         image = discs.written(game=common.image_of(common.iso_of({'DATA/MSG00.DAT': data})))['game']
         self.chooses('Translate a disc', image)
         self.wait_for_hash()
+        self.presses('Export')
         self.presses('Export a table')
         table = self.browser.downloaded('game (texts).csv')
         self.browser.wait('#panel-text .say.good', 'Saved: game (texts).csv')

@@ -90,12 +90,11 @@ class Disc(PageTest):
 
     def test_an_image_that_begins_before_block_0_is_not_said_to_be_audited_to_the_byte(self) -> None:
         browser = self.opened(file_of(bytes(150 * SECTOR_SIZE) + discs.game()))
-        browser.click('#findings [data-tab=text]')
+        browser.click('#findings [data-tab=details]')
+        browser.choose('#findings select', 'audit')
         browser.wait('#findings', 'cdpatch counts from block 0')
-        browser.run("""const choice = document.querySelector('#findings select');
-            choice.value = 'list';
-            choice.dispatchEvent(new Event('change'));""")
-        browser.wait('#findings', 'Exactly what the command cdpatch prints')
+        browser.choose('#findings select', 'list')
+        browser.wait('#findings', 'Exactly what the command cdpatch list prints')
 
     def test_it_opens_by_the_button_from_a_file_and_sends_nothing(self) -> None:
         image = scratched()
@@ -154,13 +153,13 @@ class Disc(PageTest):
         iso = b''.join(discs.game()[at + 16:at + 2064] for at in range(0, len(discs.game()), SECTOR_SIZE))
         others = {'game.chd': (b'MComprHD' + bytes(5000), 'chdman extractcd -i "game.chd"'), 'game.iso': (iso, 'an ISO image'),
                   'game.zip': ((place / 'game.zip').read_bytes(), 'an archive'), 'game.ecm': (b'ECM\0' + bytes(99), 'unecm'),
-                  'game.txt': (b'hello', 'Choose a raw image'), 'game.bin': (b'', 'an empty file')}
+                  'game.txt': (b'hello', 'choose a raw image'), 'game.bin': (b'', 'an empty file')}
         browser = self.browser
         for name, (data, words) in others.items():
             with self.subTest(name):
                 browser.give('#files', [file_of(data, name)])
-                browser.wait('.say.bad', words)
-                self.assertIn(name, browser.text('.say.bad'))
+                browser.wait('#start-message .say', words)
+                self.assertIn(name, browser.text('#start-message .say'))
                 self.assertEqual(browser.run("return document.querySelector('#start').hidden"), False)
 
     def test_a_cue_sheet_says_which_files_it_does_not_name(self) -> None:
@@ -233,7 +232,7 @@ class Disc(PageTest):
         browser = self.opened(file_of(discs.game()))
         browser.wait('.sha1', sha1(discs.game()))
         browser.run(CLIPBOARD)
-        self.press('Copy all hashes')
+        self.press('Copy')
         lines = ['game.bin', f'size {len(discs.game())}', f'CRC-32 {zlib.crc32(discs.game()):08x}', f'SHA-1 {sha1(discs.game())}', '']
         self.assertEqual(browser.run('return globalThis.copied'), '\n'.join(lines))
 
@@ -288,8 +287,7 @@ class Disc(PageTest):
         browser = self.opened(discs.written(game=discs.scratched())['game'])
         browser.wait('#disc-line .lead button', 'Repair from another dump')
         browser.wait('.sha1', sha1(discs.scratched()))
-        self.press('Details')
-        browser.click('#disc-line .change')
+        self.press_in('image', 'Set the base')
         browser.type('#base', '100')
         browser.press(Keys.ENTER)
         browser.wait('#disc-line .lead', 'the base is probably 0, not 100. 1 sector is damaged.')
@@ -332,16 +330,17 @@ class Disc(PageTest):
         browser.give('#files', [file_of(discs.game() * 120)])
         browser.wait(VERDICT, 'Reading the disc')
         shown = browser.text(VERDICT)
-        self.press('Details')
-        browser.run("globalThis.kept = ['.lead .btn', '.change'].map(it => document.querySelector(`#disc-line ${it}`)); kept[1].focus()")
+        browser.run("globalThis.kept = ['.lead .btn', '[data-menu=image]'].map(it => document.querySelector(`#disc-line ${it}`)); kept[1].focus()")
+        waited(lambda: browser.run('return waiting.length') >= 4, 'nothing is read')
         browser.run('letGo(4)')
         waited(lambda: browser.text(VERDICT) != shown, 'the disc is not read')
         self.assertEqual(browser.run('return kept.map(it => it.isConnected)'), [True, True])
-        change = browser.hold('document.querySelector("#disc-line .change")')
+        more = browser.hold('document.querySelector("#disc-line [data-menu=image]")')
         browser.run('letGo()')
         browser.wait('#disc-line .sha1')
         self.assertTrue(browser.run('return document.activeElement === kept[1]'))
-        browser.mouse('Released', change)
+        browser.mouse('Released', more)
+        self.press('Set the base')
         browser.wait('#disc-line #base')
 
     # ---- the map
@@ -430,7 +429,7 @@ class Disc(PageTest):
             browser = self.opened(file_of(discs.game() if shown else image_of([b'no volume'] * 30)))
             browser.wait('.sha1')
             waited(lambda: bool(self.pixels('--k-shade')) == shown and self.pixels('--k-mode1'), f'another shade: {not shown}')
-            self.assertEqual('different shades' in browser.text('#panel-disc header'), shown)
+            self.assertEqual('two shades' in browser.text('#panel-disc .legend-row'), shown)
             self.setUp()
 
     def test_a_sound_disc_begins_with_the_sector_of_its_first_file(self) -> None:
@@ -487,12 +486,13 @@ class Disc(PageTest):
     def test_the_texts_are_the_programs_to_the_byte(self) -> None:
         path = file_of(scratched(b'tail'))
         browser = self.opened(path)
-        for tab, name in (('findings', 'audit'), ('runs', 'list')):
-            browser.click(f'#findings [data-tab={tab}]')
-            browser.run("[...document.querySelectorAll('#findings header button')].find(it => it.innerText === 'Save…').click()")
-            saved = browser.downloaded(f'{name}.txt').read_text()
-            self.assertEqual(saved, run_program(name, path)[1])
-        browser.click('#findings [data-tab=text]')
+        browser.click('#findings [data-tab=details]')
+        for detail, name in (('runs', 'list'), ('list', 'list'), ('audit', 'audit')):
+            browser.choose('#findings select', detail)
+            self.press('Save…')
+            saved = browser.downloaded(f'{name}.txt')
+            self.assertEqual(saved.read_text(), run_program(name, path)[1])
+            saved.unlink()
         self.assertEqual(browser.text('#findings pre').rstrip('\n'), run_program('audit', path)[1].rstrip('\n'))
 
     def test_all_of_a_row_does_what_its_button_does(self) -> None:
@@ -501,10 +501,10 @@ class Disc(PageTest):
         browser.wait('#findings tr.sub')
         browser.click('#findings tr.sub td:nth-child(3)')
         browser.wait('#sector-title', f"block {browser.text('#findings tr.sub .fold')}")
-        for tab in ('runs', 'files'):
+        for tab in ('details', 'files'):
             browser.click(f'#findings [data-tab={tab}]')
             browser.click('#findings tbody tr:last-child td:last-child')
-            if tab == 'runs':
+            if tab == 'details':
                 browser.wait('#sector-title', f"block {browser.text('#findings tbody tr:last-child .fold').partition('–')[0]}")
         browser.wait('#findings tbody tr:last-child[aria-selected=true]')
 
@@ -530,7 +530,7 @@ class Disc(PageTest):
         self.assertEqual(bytes.fromhex(digits), image[block * SECTOR_SIZE:(block + 1) * SECTOR_SIZE])
         self.assertIn('スタート', browser.text('.hex'))
         browser.wait('#panel-disc .foot', 'file /DATA/MSG00.DAT at 0')
-        browser.choose('#panel-disc select', 'UTF-16BE')
+        browser.choose('#panel-disc .side + .side select', 'UTF-16BE')
         waited(lambda: 'スタート' not in browser.text('.hex'), 'the encoding stays')
 
     def test_the_bytes_are_outlined_where_broken_columns_and_diagonals_cross(self) -> None:
@@ -614,7 +614,7 @@ class Disc(PageTest):
     def test_parity_cannot_be_typed_over(self) -> None:
         browser = self.opened(file_of(discs.game()))
         browser.send('#map', Keys.ENTER)
-        browser.wait('.fields')
+        self.press('Fields of the sector')
         browser.run("[...document.querySelectorAll('.fields button')].find(it => it.innerText.startsWith('P parity')).click()")
         browser.send('.hex', '00')
         self.assertIn('Only the user data', browser.text('#announced'))

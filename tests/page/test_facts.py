@@ -199,7 +199,7 @@ class Facts(PageTest):
 
     def test_a_sector_that_has_lost_its_sync_is_called_so_in_runs_too(self) -> None:
         self.open_image(discs.written(lost=with_lost(discs.game(), 90))['lost'])
-        self.browser.click('#findings [data-tab=runs]')
+        self.browser.click('#findings [data-tab=details]')
         self.browser.wait('#findings tbody tr:nth-child(2)', 'sync or mode lost')
         self.assertNotIn('audio', self.browser.text('#findings tbody'))
 
@@ -239,7 +239,7 @@ class Facts(PageTest):
             path.write_bytes(data)
             self.setUp()
             self.open_files(path)
-            self.browser.wait('#start-message .say.bad')
+            self.browser.wait('#start-message .say', 'is not a disc image')
 
     def test_a_patcher_is_said_to_have_the_name_that_it_has(self) -> None:
         self.open_image(discs.written(game=discs.game())['game'])

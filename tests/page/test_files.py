@@ -58,6 +58,8 @@ class Files(PageTest):
         self.sort('Block')
         self.assertEqual(self.shown(), [f'{path} {int(size):,} {block}' for block, size, path in rows])
         self.assertEqual(self.browser.text('#findings [data-tab=files]'), f'Files {len(rows)}')
+        self.browser.click('#findings [data-tab=details]')
+        self.browser.choose('#findings select', 'files')
         self.press('Save…')
         self.assertEqual(common.waited(self.browser.downloaded('files.txt').read_text, 'the list is empty'), printed)
 
@@ -104,7 +106,7 @@ class Files(PageTest):
         self.press('▸ /DIR4/')
         files = [f'/DIR4/FILE{i}.DAT' for i in range(400, 420)]
         self.assertEqual(self.names()[5:], files)
-        self.assertEqual(self.focused(), 'Findings, files and runs: ▾ /DIR4/')
+        self.assertEqual(self.focused(), 'Findings, files, and details: ▾ /DIR4/')
         self.sort('Name')
         self.assertEqual(self.names()[1:21], files[::-1])
         self.press('▾ /DIR4/')

@@ -34,8 +34,9 @@ class Hex(PageTest):
         browser.wait('#panel-disc .foot', '8 bytes selected, starting at offset 0')
         browser.run(CLIPBOARD)
         for label, text in (('Copy as hex', start), ('Copy as text', 'スタート')):
-            browser.run("[...document.querySelectorAll('.copies button')].find(it => it.innerText === arguments[0]).click()", label)
+            self.press_in('sector', label)
             waited(lambda: browser.run('return globalThis.copied') == text, f'{label} copies something else')
+        browser.focus('.hex')
         self.assertEqual(self.copied(), start)
         browser.press('t')
         self.assertEqual(self.copied(), 'スタート')
@@ -103,6 +104,7 @@ class Hex(PageTest):
     def test_offsets_and_bytes_of_the_sector_are_told_apart(self) -> None:
         browser = self.sector_of(60, discs.game())
         browser.wait('.hex .cut', 'User data: offset 0 to 2047, which are bytes 16 to 2063 of the sector')
+        self.press('Fields of the sector')
         self.assertEqual(browser.text('.fields').split()[:2], ['Bytes', 'sync0–11'])
 
     def test_the_tools_of_a_sector_are_one_row(self) -> None:
@@ -111,29 +113,23 @@ class Hex(PageTest):
             self.browser.size(width)
             self.assertEqual(self.browser.run(TOOL_ROWS), [1, 3], width)
 
-    def test_the_keys_stand_over_the_bytes_in_one_line(self) -> None:
-        browser = self.sector_of(discs.first_block(), discs.game())
-        browser.size(1280, 800)
-        browser.run('scrollTo(0, 0)')
-        place = '''const [keys, hex] = [...document.querySelectorAll('.keys-line, .hex')].map(it => it.getBoundingClientRect());
-            return [keys.bottom <= Math.min(hex.top, innerHeight), keys.height < 30]'''
-        for words in ('arrows move · 0–F change · T for text · Ctrl+Z undoes · Ctrl+C copies', 'Esc for digits'):
-            browser.wait('.keys-line', words)
-            self.assertEqual(browser.run(place), [True, True], words)
-            browser.press('t')
-        browser.press(Keys.ESCAPE)
-        browser.run('document.querySelector("#byte-3").click()')
-        waited(lambda: 'change' not in browser.text('.keys-line'), 'a sync field is changed')
+    def test_the_fields_of_a_sector_are_opened_by_a_press_and_gone_to(self) -> None:
+        browser = self.sector_of(60, discs.game())
+        self.assertFalse(browser.run('return document.querySelector(".fields").checkVisibility()'))
+        self.press('Fields of the sector')
+        self.press('EDC')
+        browser.wait('#panel-disc .foot', 'byte 2064 of the sector')
 
     def test_one_byte_is_copied_and_said_to_be(self) -> None:
         browser = self.sector_of(discs.first_block(), discs.game())
         self.assertEqual(self.copied(), discs.START.hex()[:2].upper())
-        browser.wait('.keys-line', 'Copied 1 byte')
+        browser.wait('#panel-disc .foot', 'Copied 1 byte')
         browser.press(Keys.ARROW_RIGHT)
-        waited(lambda: 'Copied' not in browser.text('.keys-line'), 'another byte is called copied')
+        waited(lambda: 'Copied' not in browser.text('#panel-disc .foot'), 'another byte is called copied')
         browser.run(CLIPBOARD)
-        browser.click('.copies button')
-        waited(lambda: browser.run('return globalThis.copied') == discs.START.hex()[2:4].upper(), 'the button copies something else')
+        self.press_in('sector', 'Copy as hex')
+        waited(lambda: browser.run('return globalThis.copied') == discs.START.hex()[2:4].upper(), 'the menu copies something else')
+        browser.wait('#menu', 'Copied')
 
     def test_the_wheel_goes_on_to_the_page_at_the_end_of_the_bytes(self) -> None:
         browser = self.sector_of(60, discs.game())
@@ -150,8 +146,12 @@ class Hex(PageTest):
         browser.wait('#panel-disc .foot', '0x21')
         rows = "return [...document.querySelectorAll('.hex .line .o')].slice(1, 5).map(it => it.innerText)"
         self.assertEqual(browser.run(rows), ['0', '16', '32', '48'])
-        browser.run("[...document.querySelectorAll('#panel-disc header button')].find(it => it.innerText === 'Show hex offsets').click()")
-        self.assertEqual(browser.run(rows), ['000', '010', '020', '030'])
+        checked = 'return document.querySelector("#menu [role=menuitemcheckbox]").getAttribute("aria-checked")'
+        for due, shown in (('false', ['000', '010', '020', '030']), ('true', ['0', '16', '32', '48'])):
+            browser.click('[data-menu=sector]')
+            self.assertEqual(browser.run(checked), due)
+            self.press('☑' if due == 'true' else '☐')
+            self.assertEqual(browser.run(rows), shown)
 
     def test_a_finger_changes_bytes_in_a_field(self) -> None:
         image = discs.game()
@@ -162,6 +162,7 @@ class Hex(PageTest):
         browser.tap('#byte-18')
         browser.wait('.byte-field', 'New bytes from offset 2 on, in hex')
         self.assertLessEqual(browser.run(UNSEEN, '#new-bytes'), 0)
+        self.assertTrue(self.is_off('Undo')) # it has its place from the start, and does not appear under the finger
         for text, says in (('c', 'These are not pairs of hexadecimal digits.'), ('c0 ff', 'offset 4')):
             browser.tap('#new-bytes')
             self.wait_for_focus('#new-bytes')

@@ -31,10 +31,11 @@ WHOLE = {'cdpatch', 'carry', 'rebuild', 'was', 'cdpatch check', 'cdpatch apply',
 WITHIN = [
     r'\b[0-9a-f]{8,}\b', r'\b(esbuild|zlib|cdpatch) [\d.]+', '^cdpatch: ', 'Shift-JIS', r'\bWindows-125\d\b', r'\baudit\b', r'\bset \d+ \d+ [0-9A-F]+ was [0-9A-F]+',
     'set, fill, rebuild(, address)?', r'\d and \d',  # Intl.ListFormat
+    r'\b(cdpatch (audit|list|check|apply)|cdscript files)\b',
     r'Hoshizora Tantei \(Japan\).bin', r'english\.txt', 'Starlit Detective in English', 'Team Comet · version', '^All menus and chapters .*', '^Start␣*$',
     '^Continue␣*$', '^New game␣*$', r'^Set\.$', '^Cont$', '^much too long .*', '^also too long .*', r'^(Start a new game|The game starts)\.␣*$',
     r'^Do you want to save first, or go on playing\?', r'^The door is locked\. Is there anybody inside\?', r'^Enter the detective\. The case goes on\.',
-    r'^Save\?␣*$', r'^The end\.␣*$', '^It is lo$',
+    r'^Save\?␣*$', r'^The end\.␣*$', '^It is lo$', r'^The hero found the herb in the tower of the north, and took it home\.$', '^A villager$',
 ]
 
 # English texts from the module and the core's sentences, by their source.
@@ -43,9 +44,11 @@ CORE = {
     'Calls.outcomeLine': r'(refused: )?old bytes differ at block \d+ offset \d+|no block \d+|block \d+ is damaged',
     'SectorCalls.auditLine': r'edc p=\d+ q=\d+',
     'script/left of sentences/english.js, with blocksText of sentences/blocks.js': r'is damaged in blocks [\d, ]+ and \d+ more',
+    'blocksText of sentences/blocks.js': r'\bblock \d+\.',
     'verdictText of sentences/verdict.js': r'(?i:^the only data sector is sound|(all )?[\d,]+ (of [\d,]+ )?(data |Mode 2 |extra )?(sectors?|blocks?|tracks?)( of the volume)? .*(sound|damaged|lost|address|missing|tested|damage).*)',
     'kind/what of sentences/kinds.js': '^(not recognised|an ISO image, 2048 bytes per sector)$',
     'list/new-characters of sentences/english.js': r'\d+ characters are in no old text: .* Does the font of the game have them\?',
+    'pointers/moved of sentences/english.js': r'Row \d+: moved in /EVENT\d\.DAT from \d+ to \d+; pointers \d+\.',
     'replace/no-room of sentences/english.js': r'the new text has \d+ bytes in CP932, and there is room for \d+: \d+ too many',
 }
 

@@ -55,9 +55,10 @@ class Layout(PageTest):
         self.browser.wait('#sector-title', 'block')
         self.browser.click('#findings .fold')
         self.judge('findings')
-        for tab in ('runs', 'text'):
-            self.browser.click(f'#findings [data-tab={tab}]')
-            self.judge(tab)
+        self.browser.click('#findings [data-tab=details]')
+        for detail in ('runs', 'audit'):
+            self.browser.choose('#findings select', detail)
+            self.judge(detail)
 
     def test_two_dumps_make_the_page_no_longer(self) -> None:
         place = self.begin(discs.scratches()).parent
@@ -117,13 +118,14 @@ class Layout(PageTest):
         tops = self.browser.run(places)
         self.assertEqual(tops, sorted(tops))
         self.assertLess(tops[-1], 400)
-        shown = "return [...document.querySelectorAll('.disc-line .fact, .disc-line .rest')].map(it => it.checkVisibility())"
+        shown = "return [...document.querySelectorAll('.disc-line .fact')].map(it => it.checkVisibility())"
         self.assertFalse(any(self.browser.run(shown)))
         self.press('Details')
         common.waited(lambda: all(self.browser.run(shown)), 'the facts are not shown')
-        self.browser.size(1280)
         self.press('Details')
-        common.waited(lambda: self.browser.run(shown) == [True, True, False], 'the base can be set at once')
+        common.waited(lambda: not any(self.browser.run(shown)), 'the facts stay')
+        self.browser.size(1280)
+        common.waited(lambda: all(self.browser.run(shown)), 'a wide window folds the facts')
 
     def test_a_map_without_a_ruler_leaves_no_room_for_one(self) -> None:
         lefts = '''return ['#map', '.readout button'].map(css =>

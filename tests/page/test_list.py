@@ -73,9 +73,9 @@ class Lists(PageTest):
     def lines(self) -> list[str]:
         """The lines that the page saves, sorted. Those that it copies are the same."""
         self.browser.run(CLIPBOARD)
-        self.press('Copy as a table')
+        self.press_in('list', 'Copy as a table')
         common.waited(lambda: self.browser.run('return globalThis.copied'), 'nothing is copied')
-        self.press(common.text('listSave'))
+        self.press_in('list', common.text('listSave'))
         path = self.browser.downloaded('list.tsv')
         saved = path.read_bytes().decode()
         path.unlink()
@@ -121,7 +121,7 @@ class Lists(PageTest):
         paths = collection()
         self.list_files(*(paths[name] for name in ('mode1.bin', 'mode2.bin', 'audio.bin', 'hurt.bin', 'data.iso')))
         self.assertEqual(self.browser.run(TALLY), {'without findings': '2', 'with findings': '1', 'not tested': '1', 'not an image': '1'})
-        self.assertEqual(self.browser.run(CELLS, 'audio.bin')[1:5], ['audio', '-', '-', '-'])
+        self.assertEqual([self.browser.run(CELLS, name)[2] for name in ('audio.bin', 'mode1.bin', 'hurt.bin')], ['–', 'none', '1 damaged'])
 
     def test_two_discs_with_sheets_are_a_list_and_are_opened_by_their_names(self) -> None:
         files = discs.written(one=discs.game(), two=common.damaged(discs.game(), 40))

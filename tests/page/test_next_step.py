@@ -106,7 +106,8 @@ class NextStep(PageTest):
             for words in ('Apply and save', 'Saves a new image', *([] if name == 'other' else ['Another release'])):
                 self.assertNotIn(words, shown)
         self.open_script(files['some'])
-        self.browser.wait(f'{SAID}.warn', '1 of 4 places to patch contains different bytes. 1 of 4 places to patch is damaged. Repair the image first')
+        for row, why in enumerate(('1 of 4 places to patch contains different bytes.', '1 of 4 places to patch is damaged. Repair the image first'), 1):
+            self.browser.wait(f'{SAID}.warn .reasons li:nth-child({row})', why)
         self.browser.wait(f'{SAID}.warn', 'A new image can be saved without those patches.')
         self.browser.wait(f'{SAID}.warn .btn', 'Save with the other 2 patches…')
 

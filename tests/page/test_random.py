@@ -15,6 +15,7 @@ import random_model
 from keys import Keys
 from pages import PICKER, PageTest, applied
 from random_model import Model
+from states import SENTENCES
 from test_publish import data_of
 
 ACTIONS = int(os.environ.get('RANDOM_ACTIONS', '300'))
@@ -80,7 +81,8 @@ class Random(PageTest):
         if model.panel == 'script':
             some += [self.type_line, self.type_line, self.undo, self.redo, self.save_script]
         if model.image:
-            some += {'disc': [self.type_byte, self.type_byte], 'text': [self.add_text],
+            table = [self.show_texts] if model.typed_texts is None else [self.type_text, self.type_text, self.filter_texts, self.undo_text, self.replace_texts]
+            some += {'disc': [self.type_byte, self.type_byte], 'text': [self.add_text, self.export_texts, *table],
                      'script': [self.check, self.apply, self.undo_script] if model.patches() else [],
                      'publish': [self.type_title, self.see, self.publish]}[model.panel]
         if model.panel == 'disc' and model.second:
@@ -109,7 +111,7 @@ class Random(PageTest):
             raise AssertionError(f'the page has, and the model: {differing}') from error
         if self.model.panel == 'script':
             # Opening a script again under the name of the last one needs a moment.
-            common.waited(lambda: '\n'.join(row.split('|')[1] for row in self.rows()) == self.model.text(), 'the lines of the script differ')
+            common.waited(lambda: self.lines() == self.model.text(), 'the lines of the script differ')
 
     # ---- opening
 
@@ -155,7 +157,7 @@ class Random(PageTest):
 
     def close_image(self) -> None:
         lost = self.model.unsaved() or self.model.edited
-        self.browser.run('document.querySelector("#disc-line .bare.tiny:last-child, #disc-line button.tiny").click()')
+        self.press_in('image', 'Close the image')
         if self.model.saving:
             self.browser.wait('#messages .say.warn', common.text('imageBeingSaved'))
             return
@@ -250,6 +252,91 @@ class Random(PageTest):
         self.browser.press(Keys.ENTER)
         self.browser.wait('#panel-text .hits', 'in the script')
         self.model.add_line(f"set {discs.first_block()} 0 {'Start   '.encode().hex().upper()} was {discs.START.hex().upper()}")
+
+    # ---- the table of texts
+
+    def show_texts(self) -> None:
+        self.press('Show all texts')
+        self.browser.wait('.all-texts tbody input')
+        self.model.typed_texts = []
+
+    def patched(self, text: str) -> bytes:
+        """The open image with the patches of a script."""
+        return applied(self.paths[self.model.image], discs.written(script=text)['script'], '--carry')[2]
+
+    def news(self, text: str) -> dict[str, str]:
+        """The new texts of the sentences in a script."""
+        image = self.images[self.model.image]
+        return random_model.new_texts(image, self.patched(text))
+
+    def find_in_texts(self, words: str) -> None:
+        """Shows the texts that contain these words."""
+        self.browser.run('document.querySelector("[aria-labelledby=all-texts-title] [aria-pressed]").click()')
+        self.browser.type('#texts-find', words)
+
+    def becomes(self, changes: dict[str, str]) -> None:
+        """Waits until the script has these new texts, and no other one has changed. Notes its text, which is one edit."""
+        due = {**self.news(self.model.text()), **changes}
+        self.browser.click('#tab-script')
+        self.model.panel = 'script'
+        common.waited(lambda: self.news(self.lines()) == due, f'the script does not have {due}')
+        if self.lines() != self.model.text():
+            self.model.edit(self.lines())
+
+    def lines(self) -> str:
+        """The script as the editor shows it."""
+        return '\n'.join(row.split('|')[1] for row in self.rows())
+
+    def type_text(self) -> None:
+        if len(self.model.text().split('\n')) > 16 or self.model.typed_texts is None:
+            return
+        old, new = self.dice.choice(SENTENCES), random_model.new_text(self.dice)
+        before = self.news(self.model.text())[old]
+        self.find_in_texts(old)
+        self.browser.wait('.all-texts tbody tr[aria-rowindex="2"] .old', old)
+        self.browser.type('.all-texts tbody tr[aria-rowindex="2"] input', new)
+        self.browser.press(Keys.ENTER)
+        if new != before:
+            self.model.typed_texts.append({old: before})
+        self.becomes({old: new})
+
+    def filter_texts(self) -> None:
+        self.browser.type('#texts-find', self.dice.choice(['', 'Start', 'ー', 'nowhere']))
+        self.browser.run('const all = [...document.querySelectorAll("[aria-labelledby=all-texts-title] [aria-pressed]")]; all[Math.floor(arguments[0] * all.length)].click()',
+                         self.dice.random())
+
+    def undo_text(self) -> None:
+        if not self.model.typed_texts:
+            self.assertTrue(self.is_off('Undo'))
+            return
+        self.press('Undo')
+        self.becomes(self.model.typed_texts.pop())
+
+    def replace_texts(self) -> None:
+        if self.model.typed_texts is None:
+            return
+        words, others = self.dice.choice(['Start', 'Save', 'e', '1']), self.dice.choice(['Go', '2', 'ee'])
+        before = self.news(self.model.text())
+        changed = {old: fresh for old, fresh in before.items() if words in fresh}
+        self.find_in_texts(words)
+        self.browser.type('#texts-others', others)
+        self.press('Replace in all shown')
+        self.browser.wait('#panel-text .said .say', 'Replaced in ')
+        if changed and words != others:
+            self.model.typed_texts.append(changed)
+        self.becomes({old: fresh.replace(words, others) for old, fresh in changed.items()})
+
+    def export_texts(self) -> None:
+        """Saves the list of texts, which has the new texts of the script. Importing it changes nothing."""
+        self.press_in('export', 'Export a table')
+        path = self.browser.downloaded(f'{self.model.image[:-4]} (texts).csv')
+        table = common.waited(path.read_text, 'the table is empty')
+        for old, fresh in self.news(self.model.text()).items():
+            self.assertEqual([row.rsplit(',', 1)[1] for row in table.splitlines() if f',{old},' in row], [fresh] * 2, old)
+        self.browser.give('#panel-text input[accept^=".tsv"]', [path])
+        outcomes = ('unchanged', 'Nothing was added')
+        common.waited(lambda: any(it in self.browser.text('#panel-text') for it in outcomes), 'the list is not imported')
+        path.unlink()
 
     def check(self) -> None:
         if self.model.saving and self.model.saving.card == 'script':
@@ -353,11 +440,11 @@ class Random(PageTest):
             self.model.second = ''
 
     def open_instead(self) -> None:
-        self.press('Open it instead')
+        self.press_in('second', 'Open it instead')
         if self.model.saving:
             self.browser.wait('#panel-disc .said .say.warn', common.text('imageBeingSaved'))
             return
-        self.model.image, self.model.second = self.model.second, ''
+        self.model.image, self.model.second, self.model.typed_texts = self.model.second, '', None
         self.browser.wait('#disc-line .name', self.model.image)
         self.wait_for_hash()
 

@@ -72,12 +72,15 @@ class Script(PageTest):
         shown = self.browser.text('#panel-script .two')
         for word in ('applied', 'status'):
             self.assertNotIn(word, shown)
-        self.press('Output of cdpatch check (dry run: nothing is saved)')
+        self.press_in('save', 'Output of cdpatch check (dry run: nothing is saved)')
         self.browser.wait('pre.log', 'refused 2')
+        self.wait_for_focus('pre.log')
         self.press('Check again')
         self.browser.wait('pre.log', 'refused 2')
         self.press('Go to line')
         self.browser.wait('.explain', f'It is refused: old bytes differ at block {discs.first_block()} offset 600.')
+        self.press('line 12')
+        self.browser.wait('.explain', 'It is refused: no block 99999')
 
     def test_apply_saves_what_the_program_writes(self) -> None:
         files = self.open_both(discs.scratched() + b'tail', discs.refused())
@@ -87,7 +90,11 @@ class Script(PageTest):
         self.assertEqual(saved.read_bytes(), out)
         self.browser.wait('#panel-script .side', 'without 3 of 8 patches')
         self.assertEqual(self.browser.run('return document.querySelector("pre.log").textContent'), text)
-        self.assertEqual(self.browser.text('#panel-script summary'), 'Output of cdpatch apply')
+        self.press_in('save', 'Output of cdpatch apply')
+        self.browser.wait('[aria-label=Log] h2', 'Output of cdpatch apply')
+        self.browser.click('[aria-label=Log] [aria-label=Close]')
+        self.is_gone('pre.log')
+        self.assertEqual(self.focused().split('\n')[0], 'Script: Save…')
         self.browser.wait('#saved-sha1', common.sha1(out))
         self.assertEqual(self.browser.text('#saved-crc32'), f'{zlib.crc32(out):08x}')
         one_line = 'return document.querySelector("#saved-sha1").offsetHeight === document.querySelector("#saved-crc32").offsetHeight'
@@ -156,7 +163,7 @@ class Script(PageTest):
         self.browser.downloaded('game (patched).bin').unlink()
         self.browser.wait('#panel-script .side h2', 'Saving by your browser')
         self.assertTrue(self.browser.asks_before_leaving())
-        self.press(common.text('saveIsComplete'))
+        self.press('Mark as saved')
         self.browser.wait('#panel-script .say.good', 'Saved: game (patched).bin')
         self.assertFalse(self.browser.asks_before_leaving())
 
@@ -407,7 +414,7 @@ class Script(PageTest):
         self.browser.click('#tab-script')
         self.save_undo()
         self.browser.downloaded('english (undo).txt')
-        self.assertEqual(self.focused(), 'Script: Save…')
+        self.assertEqual(self.focused().split('\n')[0], 'Script: Save…')
 
     def test_the_head_of_the_script_is_one_row(self) -> None:
         files = discs.written(game=discs.game(), english=discs.script())
@@ -423,6 +430,7 @@ class Script(PageTest):
 
     def test_a_file_that_shrinks_saves_nothing(self) -> None:
         files = self.open_both(discs.game(), discs.script())
+        self.browser.wait('#panel-script .say.good', 'patches match')
         files['game'].write_bytes(discs.game()[:100000])
         self.press_save()
         self.browser.wait('#panel-script .say.bad', 'cannot be read any more')
@@ -467,6 +475,16 @@ class Streaming(PageTest):
         self.browser.wait('#panel-script .say.good', 'patches match')
         script = f'{BUTTON.replace("return", "const it =", 1)}; it.click(); return chosen.asked'
         self.assertEqual(self.browser.run(script, 'Apply and save'), 1)
+
+    def test_nothing_is_saved_if_every_patch_is_refused(self) -> None:
+        self.open_image(discs.written(game=discs.game())['game'])
+        self.edit(Keys.ARROW_DOWN, 'set 99999 0 41')
+        self.press('Apply and save')
+        self.browser.wait('#panel-script .side .say.bad', common.text('scriptNothingToSave'))
+        self.assertEqual(self.browser.run('return [chosen.asked, chosen.state]'), [0, 'none'])
+        self.edit(Keys.ENTER, 'rebuild 20')
+        self.press('Apply and save')
+        self.browser.wait('#panel-script .say.warn', 'Saved: game (patched).bin, without 1 of 2 patches')
 
     def test_a_saved_file_that_cannot_be_read_again_is_saved_all_the_same(self) -> None:
         self.begin()

@@ -97,7 +97,7 @@ class Second(PageTest):
         self.assertEqual(saved.read_bytes(), bytes(due))
         self.assertEqual(audited(saved), {60})
         self.browser.wait('#repaired-sha1', sha1(bytes(due)))
-        self.press(text('saveIsComplete'))
+        self.press('Mark as saved')
         self.browser.wait('#second-body .say.warn', 'Saved: game (repaired).bin')
         self.assertFalse(self.browser.asks_before_leaving())
         saved.unlink()
@@ -164,7 +164,8 @@ class Second(PageTest):
     def test_a_repair_as_a_script_gives_the_same_image(self) -> None:
         first, second = with_faults((40, 9), (60, 9)), with_faults()
         path = self.pair(first, second)
-        self.press('Write it as a script')
+        self.browser.wait('.tally', 'can be repaired')
+        self.press_in('second', 'Write the repair as a script')
         self.press('Save the script')
         script = self.browser.downloaded('game (repair).txt')
         out = path.parent / 'repaired.bin'
@@ -180,7 +181,7 @@ class Second(PageTest):
         self.open_files(files['other'])
         self.browser.answer()
         self.assertEqual(self.tally(), [3, 0, 0])
-        self.press('Write it as a script')
+        self.press_in('second', 'Write the repair as a script')
         self.browser.wait('#second-body .say.warn', '2 Mode 2 sectors are left out: a script changes only Mode 1.')
         self.press('Save the script')
         script = self.browser.downloaded('game (repair).txt')
@@ -258,8 +259,7 @@ class Second(PageTest):
                 files = discs.written(game=image_of(users), other=image_of([b'new', *users[1:]], first))
                 self.open_image(files['game'])
                 self.browser.wait('.sha1', sha1(files['game'].read_bytes()))
-                self.browser.click('#disc-line .unfold')
-                self.browser.click('#disc-line .change')
+                self.press_in('image', 'Set the base')
                 self.browser.type('#base', '1000')
                 self.browser.press(Keys.ENTER)
                 self.browser.wait('#disc-line .lead', 'the base is probably 0, not 1000.')
@@ -267,7 +267,7 @@ class Second(PageTest):
                 self.browser.answer('Compare')
                 self.browser.wait('.tally')
                 self.assertEqual(self.tally()[0], 1 if first == 0 else 40)
-                self.press('Open it instead')
+                self.press_in('second', 'Open it instead')
                 self.browser.wait('#disc-line .name', 'other.bin')
                 self.browser.wait('#disc-line .lead', 'All 40 data sectors are sound')
 
@@ -283,7 +283,7 @@ class Second(PageTest):
         rows = """return [...document.querySelectorAll('[aria-label="Bytes that differ, by field"] tbody tr')].map(it => it.lastChild.innerText.trim())"""
         files = ['volume descriptor 1 sector', 'in a directory 1 sector', '/DATA/MSG00.DAT 1 sector', 'in no file 420 sectors']
         waited(lambda: self.browser.run(rows) == [f'▸ {name}' for name in files], f'other files are named: {self.browser.run(rows)[:9]}')
-        self.press('Save the list')
+        self.press_in('differences', 'Save the list')
         saved = self.browser.downloaded('other (differences).txt')
         self.assertEqual(saved.read_text(), ''.join(f'{block}\t0\t1\t0\t0\t{file}\n' for block, file in due.items()))
         saved.unlink()
@@ -341,6 +341,19 @@ class Second(PageTest):
         self.press('Save the script')
         self.browser.wait('#second-body .say.bad', 'Without these blocks the script would have no patches.')
         self.assertNotIn('Leave', self.browser.text('#second-body'))
+
+    def test_one_damaged_sector_of_the_second_is_one_in_the_message(self) -> None:
+        self.pair(with_faults(), with_faults((33, 5)))
+        self.press('Save the script')
+        self.browser.wait('#second-body .say.bad', 'Its wrong bytes would get a correct EDC')
+
+    def test_patches_of_the_script_are_not_in_a_repaired_image(self) -> None:
+        note = 'The new image does not have the patches of the script'
+        self.pair(with_faults((40, 9)), with_faults(), ('.tally', 'can be repaired'))
+        self.assertNotIn(note, self.browser.text('#second-body'))
+        self.edit(Keys.ARROW_DOWN, 'set 20 0 41')
+        self.browser.click('#tab-disc')
+        self.browser.wait('#second-body', note)
 
     def test_a_tail_that_differs_is_said(self) -> None:
         image = with_faults()

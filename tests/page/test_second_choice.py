@@ -98,7 +98,7 @@ class SecondChoice(PageTest):
     # ---- closing
 
     def close(self) -> None:
-        self.browser.click('#disc-line .name + button')
+        self.press_in('image', 'Close the image')
 
     def test_a_closed_image_leads_back_to_the_start(self) -> None:
         files = self.begin(discs.game(), discs.game())
@@ -122,7 +122,7 @@ class SecondChoice(PageTest):
         self.browser.type('#patcher-title', 'Mine')
         self.close()
         self.browser.wait('#sheet', 'Your script is not saved. Your entries under Publish have not been saved in a patcher yet.')
-        self.assertEqual(self.buttons(), ['Save the script and close', 'Close it anyway', 'Cancel'])
+        self.assertEqual(self.buttons(), ['Save and close', 'Close it anyway', 'Cancel'])
         self.browser.answer('Cancel')
         self.browser.wait('#disc-line .name', 'game.bin')
         self.assertTrue(self.browser.asks_before_leaving())
@@ -135,7 +135,7 @@ class SecondChoice(PageTest):
         self.begin(discs.game(), discs.game())
         self.edit(Keys.ARROW_DOWN, 'rebuild 1')
         self.close()
-        self.browser.answer('Save the script and close')
+        self.browser.answer('Save and close')
         self.browser.wait('#start h1')
         saved = self.browser.downloaded('script.txt')
         self.assertEqual(common.waited(saved.read_text, 'the script is empty'), 'cdpatch 1\nrebuild 1')
@@ -147,7 +147,7 @@ class SecondChoice(PageTest):
         self.browser.click('#tab-publish')
         self.browser.type('#patcher-title', 'Mine')
         self.close()
-        self.browser.answer('Save the script and close')
+        self.browser.answer('Save and close')
         self.browser.downloaded('script.txt')
         common.waited(lambda: self.buttons() == ['Close it anyway', 'Cancel'], 'the script is offered again')
         self.assertNotIn('script', self.browser.text('#sheet'))

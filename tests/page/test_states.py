@@ -22,7 +22,7 @@ MOST_OF_OTHERS = 34
 ZOOMED = 640
 
 # The visible lists that have more than one Tab stop.
-LISTS = '''return [...document.querySelectorAll('tbody, [role=tablist], .legend, .fields, .hex')].filter(it => it.checkVisibility()).flatMap(list => {
+LISTS = '''return [...document.querySelectorAll('tbody, [role=tablist], [role=menu], .legend, .fields, .hex')].filter(it => it.checkVisibility()).flatMap(list => {
     const stops = [list, ...list.querySelectorAll('a, button, input, select, textarea, [tabindex]')].filter(it => it.tabIndex >= 0 && it.checkVisibility());
     return stops.length > 1 ? `${list.tagName} ${list.className} ${list.getAttribute('aria-label')}: ${stops.length}` : [];
 })'''

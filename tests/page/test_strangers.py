@@ -168,7 +168,7 @@ class Names(Stranger):
         other = path.with_name('nib\u202e.txt')
         other.write_text('no script')
         self.open_files(other)
-        self.browser.wait('#messages .say.bad', 'Not opened.')
+        self.browser.wait('#messages .say', 'is not a disc image')
         self.assertIn('nib·.txt', self.browser.text('#messages'))
         self.assertEqual(self.browser.run(UNSEEN), 0)
 

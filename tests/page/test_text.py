@@ -336,6 +336,22 @@ class Text(PageTest):
         self.browser.wait('#panel-text .say.warn', f'block {discs.first_block() + 1} is damaged: repair it first')
         self.assertEqual(self.browser.text('#count-script').split()[0], '3')
 
+    def test_a_hit_in_a_mode_2_sector_is_not_offered_for_replacement(self) -> None:
+        image = common.image_of([b'', b'2121'] + [b''] * 18) + discs.mode2(4, 20)
+        self.open_image(discs.written(video=image)['video'])
+        self.browser.click('#tab-text')
+        self.browser.wait('#panel-text .hint', common.text('imageModeTwoNotPatched'))
+        self.browser.click('#find-text')
+        self.search('2121')
+        self.browser.wait('#panel-text [aria-label=Replace]', 'Replace: block 1 offset 0')
+        self.browser.wait('#panel-text [aria-label=Replace] .btn.main', 'Replace')
+        self.browser.click('.hits tbody tr:nth-child(2) button')
+        self.browser.wait('#panel-text [aria-label=Replace] .say.warn', common.text('textModeTwoNotPatched'))
+        self.assertEqual(self.browser.run('return [...document.querySelectorAll("[aria-label=Replace] :is(button, input)")].filter(it => it.checkVisibility()).map(it => it.innerText)'), ['Skip ▸'])
+        self.browser.click('.hits tbody tr:nth-child(1) button')
+        self.wait_for_focus('.hits tbody tr:nth-child(1) button')
+        self.browser.wait('#panel-text [aria-label=Replace] .btn.main', 'Replace')
+
     def test_no_hit_says_what_was_searched(self) -> None:
         self.open_image(discs.written(game=discs.game())['game'])
         self.browser.click('#tab-text')

@@ -33,7 +33,7 @@ class TextsTable(PageTest):
 
     def test_the_table_is_what_cdscript_prints(self) -> None:
         image = self.begin(spoken_texts())
-        self.press('Export a table')
+        self.press_in('export', 'Export a table')
         self.browser.wait('#panel-text .say.good', 'Saved: game (texts).csv')
         saved = common.waited(self.browser.downloaded('game (texts).csv').read_bytes, 'the table is empty').decode()
         self.assertEqual(saved, common.cdscript_prints('texts', '--csv', image))
@@ -46,25 +46,25 @@ class TextsTable(PageTest):
         image = self.begin(spoken_texts())
         self.assertIn(ascii_text, image.read_bytes())
         self.browser.wait('#panel-text .texts-table + p', 'For English and other European languages choose Windows-1252')
-        self.press('Export a table')
+        self.press_in('export', 'Export a table')
         saved = self.browser.downloaded('game (texts).csv')
         self.assertNotIn(ascii_text, common.waited(saved.read_bytes, 'the table is empty'))
         saved.unlink()
         self.browser.choose('#find-encoding', 'Windows-1252')
-        self.press('Export a table')
+        self.press_in('export', 'Export a table')
         self.assertIn(ascii_text, common.waited(self.browser.downloaded('game (texts).csv').read_bytes, 'the table is empty'))
         saved.unlink()
         tbl = image.with_name('ascii.tbl')
         tbl.write_text(''.join(f'{code:02X}={chr(code)}\n' for code in range(0x20, 0x7F)))
         self.browser.give('[aria-label="A table to load"]', [tbl])
         self.browser.wait('#panel-text .say.good', 'Loaded: ascii.tbl')
-        self.press('Export a table')
+        self.press_in('export', 'Export a table')
         self.assertIn(ascii_text, common.waited(self.browser.downloaded('game (texts).csv').read_bytes, 'the table is empty'))
 
     def test_the_byte_that_ends_texts_is_that_of_the_field(self) -> None:
         image = self.begin(spoken_texts())
         self.browser.type('#texts-end', '0A')
-        self.press('Export a table')
+        self.press_in('export', 'Export a table')
         self.browser.wait('#panel-text .say.good', 'Saved: game (texts).csv')
         saved = common.waited(self.browser.downloaded('game (texts).csv').read_bytes, 'the table is empty').decode()
         self.assertEqual(saved, common.cdscript_prints('texts', '--csv', '--end', '0A', image))
@@ -91,7 +91,7 @@ class TextsTable(PageTest):
         self.press('Open Script')
         script = self.script_text()
         self.browser.click('#tab-text')
-        self.press('Export PO')
+        self.press_in('export', 'Export PO')
         self.browser.wait('#panel-text .say.good', 'Saved: game (texts).po')
         self.assertIn('It has 2 translations from the script.', self.browser.text('#panel-text .say.good'))
         saved = common.waited(self.browser.downloaded('game (texts).po').read_bytes, 'the PO file is empty').decode()
@@ -183,7 +183,7 @@ class TextsTable(PageTest):
         corrected = self.table(image, {2: 'The game begins.', 5: 'The end.'})
         self.give(corrected)
         self.browser.wait('#panel-text .say.warn', 'All 2 translations fit.')
-        self.browser.wait('#panel-text .say.warn', 'The table has no new text for the lines 3, 5 of the script.')
+        self.browser.wait('#panel-text .say.warn', 'The list has no new text for the lines 3, 5 of the script.')
         self.press('Remove from the script')
         self.browser.wait('#panel-text .say.good', 'Lines removed: 2. Ctrl+Z in the script brings them back.')
         self.press('Open Script')
@@ -193,13 +193,13 @@ class TextsTable(PageTest):
         self.browser.click('#tab-text')
         self.give(self.table(image, {}))
         self.browser.wait('#panel-text .say.warn', common.text('discNothingAdded'))
-        self.browser.wait('#panel-text .say.warn', 'The table has no new text for the lines 2, 3, 4, 5 of the script.')
+        self.browser.wait('#panel-text .say.warn', 'The list has no new text for the lines 2, 3, 4, 5 of the script.')
         # A row whose new text does not fit has one all the same, and so has a row whose place occurs again without a new text.
         mine = self.table(image, {2: 'The game begins.', 3: 'much too long ' * 9})
         mine.write_text(mine.read_text() + self.printed(image).splitlines()[1] + '\n')
         self.give(mine)
         self.browser.wait('#panel-text .say.warn', '1 translation fits. 1 translation does not fit: 1 too long.')
-        self.browser.wait('#panel-text .say.warn', 'The table has no new text for the lines 4, 5 of the script.')
+        self.browser.wait('#panel-text .say.warn', 'The list has no new text for the lines 4, 5 of the script.')
 
     def test_rows_that_do_not_fit_are_a_list_to_walk(self) -> None:
         image = self.begin(spoken_texts())
@@ -249,6 +249,21 @@ class TextsTable(PageTest):
         self.press('Open Script')
         corrected = self.table(image, {2: 'The game starts.', 3: 'Save?', 4: 'No sign.', 5: 'Too long.'})
         self.assertEqual(sorted(self.script_text().splitlines()), sorted(common.cdscript_prints('replace', image, '--list', corrected).splitlines()))
+
+    def test_rows_that_do_not_fit_are_in_the_table_that_is_shown_after_the_import(self) -> None:
+        image = self.begin(spoken_texts())
+        self.give(self.table(image, {2: 'The game starts.', 3: 'much too long ' * 9}))
+        self.browser.wait('#panel-text h2', '1 row does not fit')
+        self.press('Show all texts')
+        self.browser.wait('#panel-text [aria-pressed]:nth-child(3)', 'Do not fit 1')
+        field = '.all-texts tbody tr[aria-rowindex="3"] input'
+        self.assertEqual(self.browser.run('return document.querySelector(arguments[0]).value', field), 'much too long ' * 9)
+        # A text that is corrected in the table fits, and the list of the rows that do not fit ends.
+        self.browser.type(field, 'Save?')
+        self.browser.press(Keys.ENTER)
+        self.browser.wait('#panel-text [aria-pressed]:nth-child(3)', 'Do not fit 0')
+        common.waited(lambda: 'row does not fit' not in self.browser.text('#panel-text'), 'the row still does not fit')
+        self.assertNotIn('does not fit', self.browser.text('#panel-text'))
 
     def test_equal_rows_are_corrected_together(self) -> None:
         places = [20 * i for i in range(5)]
@@ -338,7 +353,7 @@ class TextsTable(PageTest):
     def test_cancel_ends_the_looking_for_texts(self) -> None:
         self.begin(spoken_texts())
         self.browser.run('Worker.prototype.postMessage = () => {}')
-        self.press('Export a table')
+        self.press_in('export', 'Export a table')
         self.browser.wait('#panel-text .progress')
         self.press('Cancel')
         self.browser.wait('#panel-text .say', 'No list was saved.')

@@ -163,4 +163,4 @@ class Choice(PageTest):
         self.wait_for_hash()
         self.assertEqual(self.browser.run('return document.documentElement.lang'), 'en-GB')
         self.assertEqual(self.browser.text('#open-about'), 'About')
-        self.browser.wait('#disc-line', 'Close')
+        self.browser.wait('#disc-line', 'all hashes')

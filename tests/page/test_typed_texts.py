@@ -78,15 +78,42 @@ class TypedTexts(PageTest):
         self.browser.wait('#count-script', '6')
         self.press('Do not fit')
         self.assertEqual([cells[1] for cells in self.cells()], [SENTENCES[1]])
-        self.press('Close')
+        self.press_in('image', 'Close the image')
         self.browser.wait('#sheet', common.text('textTypedAreLost'))
         self.browser.answer('Cancel')
         self.press('Undo')
         self.becomes(1, 2, 'Save?')
         self.browser.wait('#panel-text [aria-pressed]:nth-child(3)', 'Do not fit 0')
-        self.press('Close')
+        self.press_in('image', 'Close the image')
         self.browser.wait('#sheet')
         self.assertNotIn(common.text('textTypedAreLost'), self.browser.text('#sheet'))
+
+    def test_typed_texts_that_do_not_fit_stay_if_the_texts_are_listed_again_and_are_not_lost_without_a_question(self) -> None:
+        text = b'\0'.join(it.encode('cp932') for it in SENTENCES) + b'\0'
+        self.begin(common.image_of(common.iso_of({'A.DAT': text, 'B.DAT': text.replace(SENTENCES[1].encode('cp932'), SENTENCES[3].encode('cp932'))})))
+        long = 'much too long ' * 4
+        self.browser.click(self.field(2))
+        self.browser.press(long, Keys.ENTER)
+        self.becomes(2, 3, 'too many.')
+        self.press('Show all texts')
+        self.browser.wait('#panel-text [aria-pressed]:nth-child(3)', 'Do not fit 1')
+        self.becomes(2, 2, long)
+        self.wait_for_focus('#all-texts-title')
+        self.assertTrue(self.browser.asks_before_leaving())
+        # In the other file the text does not occur.
+        self.browser.click('.what-to-list summary')
+        self.browser.type('#list-file', 'B.DAT')
+        self.press('Show all texts')
+        self.browser.wait('#sheet', '1 typed text is not in the script, and the other list has no row for it.')
+        self.browser.answer('Cancel')
+        self.becomes(2, 2, long)
+        self.press('Show all texts')
+        self.browser.wait('#sheet')
+        self.browser.answer('Save a list, then show')
+        saved = common.waited(self.browser.downloaded('game (texts).csv').read_text, 'the list is empty')
+        self.assertIn(long, saved)
+        self.browser.wait('#panel-text .meter', '0 of 3 done')
+        self.assertFalse(self.browser.asks_before_leaving())
 
     def test_a_removed_text_is_removed_from_the_script(self) -> None:
         image = self.begin(spoken_texts())
@@ -109,8 +136,7 @@ class TypedTexts(PageTest):
         self.browser.wait('#count-script', '6')
         saved: dict[str, str] = {}
         for form, label in (('csv', 'textAsCsv'), ('tsv', 'textAsTsv'), ('po', 'textAsPo')):
-            self.browser.run('document.querySelector("[aria-labelledby=all-texts-title] header > .btn:last-child").click()')
-            self.browser.answer(common.text(label))
+            self.save_list(common.text(label))
             path = self.browser.downloaded(f'game (texts).{form}')
             saved[form] = common.waited(path.read_bytes, 'the list is empty').decode()
         mine = common.folder('table') / 'mine.tsv'
@@ -132,6 +158,47 @@ class TypedTexts(PageTest):
         self.browser.click('#tab-text')
         self.becomes(1, 2, 'The game starts.')
 
+    def save_list(self, label: str) -> None:
+        """Presses the table's button Save, without moving the focus, and chooses a form."""
+        self.browser.run('document.querySelector("[aria-labelledby=all-texts-title] header > .btn:last-child").click()')
+        self.browser.answer(label)
+
+    def test_a_text_in_a_field_is_not_lost_and_a_saved_list_has_it(self) -> None:
+        image = self.begin(spoken_texts())
+        self.browser.click(self.field(1))
+        self.browser.press('The game starts.')
+        self.assertTrue(self.browser.asks_before_leaving())
+        self.save_list(common.text('textAsTsv'))
+        path = self.browser.downloaded('game (texts).tsv')
+        saved = common.waited(path.read_bytes, 'the list is empty').decode()
+        self.assertEqual(saved.count('The game starts.'), 6)
+        self.browser.wait('#count-script', '6')
+        mine = common.folder('table') / 'mine.tsv'
+        mine.write_text(saved)
+        self.assertEqual(saved, common.cdscript_prints('texts', '--list', mine, image))
+        self.browser.wait('[aria-labelledby=all-texts-title] .say.good', 'Saved: game (texts).tsv')
+        self.same_lines(self.written(image, {SENTENCES[0]: 'The game starts.'}))
+        self.assertFalse(self.browser.asks_before_leaving())
+
+    def test_a_list_that_was_not_saved_does_not_count_as_saved(self) -> None:
+        self.begin(spoken_texts())
+        self.browser.click(self.field(1))
+        self.browser.press('much too long ' * 4, Keys.ENTER)
+        self.browser.wait('#panel-text [aria-pressed]:nth-child(3)', 'Do not fit 1')
+        self.save_list('Cancel')
+        self.assertTrue(self.browser.asks_before_leaving())
+        self.browser.run('globalThis.address = URL.createObjectURL; URL.createObjectURL = () => { throw new Error("no room for the list"); }')
+        self.save_list(common.text('textAsCsv'))
+        self.browser.wait('#panel-text .say.bad', 'No room for the list')
+        self.assertTrue(self.browser.asks_before_leaving())
+        self.press_in('image', 'Close the image')
+        self.browser.wait('#sheet', common.text('textTypedAreLost'))
+        self.browser.run('URL.createObjectURL = address')
+        self.browser.answer('Save and close')
+        self.browser.downloaded('game (texts).csv')
+        self.browser.wait('#start h1')
+        self.assertFalse(self.browser.asks_before_leaving())
+
     def test_words_are_found_and_replaced_in_the_new_texts_that_are_shown(self) -> None:
         image = self.begin(spoken_texts())
         for number, text in ((1, 'The Hero starts.'), (2, 'Hero, save?'), (3, 'A door.')):
@@ -151,6 +218,7 @@ class TypedTexts(PageTest):
         self.browser.click('#tab-text')
         self.press('Undo')
         self.browser.wait('#panel-text .meter', '3 of 4 done')
+        self.assertNotIn('Replaced in', self.browser.text('#panel-text'))
         self.same_lines(self.written(image, {SENTENCES[0]: 'The Hero starts.', SENTENCES[1]: 'Hero, save?', SENTENCES[2]: 'A door.'}))
 
     def test_only_the_rows_on_the_screen_are_drawn_and_the_row_that_is_typed_in_stays(self) -> None:

@@ -13,10 +13,6 @@ def repairable() -> tuple[bytes, bytes]:
     return common.damaged(common.damaged(discs.game(), 40), 60), discs.game()
 
 
-# Presses the button that closes the open image or the second one, in the part of the page with this id.
-CLOSE = 'document.getElementById(arguments[0]).querySelectorAll("button").forEach(it => { if (it.textContent.startsWith("Close")) it.click(); })'
-
-
 class Unsaved(PageTest):
     stub = PICKER
 
@@ -67,12 +63,12 @@ class Unsaved(PageTest):
 
     def test_no_button_ends_the_saving_of_a_repaired_image_but_its_own(self) -> None:
         self.repairs()
-        for card, place in (('disc-line', '#messages'), ('panel-disc', '#panel-disc .said')):
-            self.browser.run(CLOSE, card)
-            self.browser.wait(f'{place} .say.warn', common.text('imageBeingSaved'))
-        self.press('Open it instead')
-        self.press('Details')
-        self.press('Set the base')
+        self.press_in('image', 'Close the image')
+        self.browser.wait('#messages .say.warn', common.text('imageBeingSaved'))
+        self.browser.click('[aria-labelledby=second-title] header [aria-label=Close]')
+        self.browser.wait('#panel-disc .said .say.warn', common.text('imageBeingSaved'))
+        self.press_in('second', 'Open it instead')
+        self.press_in('image', 'Set the base')
         self.browser.wait('#disc-line form', 'Set it only if a script or list numbers the blocks of this file differently.')
         self.press('Set')
         self.browser.wait('#disc-line .name', 'first.bin')
@@ -98,8 +94,9 @@ class Unsaved(PageTest):
 
     def test_a_second_press_does_not_save_twice(self) -> None:
         self.repairs()
-        for button in ('Save repaired image', 'Save repaired image', 'Write it as a script'):
-            self.press(button)
+        for _ in range(2):
+            self.press('Save repaired image')
+        self.press_in('second', 'Write the repair as a script')
         self.assertEqual(self.browser.run('return [chosen.asked, document.querySelectorAll("#second-body .progress").length]'), [1, 1])
         self.assertTrue(self.browser.asks_before_leaving())
         self.ends_well(discs.game())
@@ -289,7 +286,7 @@ class Unsaved(PageTest):
         self.press('Find')
         self.browser.wait('#panel-text .progress')
         self.browser.click('#tab-disc')
-        self.press('Open it instead')
+        self.press_in('second', 'Open it instead')
         self.browser.wait('#disc-line .name', 'other.bin')
         self.browser.click('#tab-text')
         self.browser.run('late.forEach(it => it())')

@@ -145,7 +145,7 @@ test_refusals() {
     refuses page 'it has another end or another script' page/page.html sed 's/<p id/<script>x<\/script><p id/'
     refuses page 'stands there 0 times, and not once' page/page.html sed '/stylesheet/d'
     refuses page 'stands there 2 times, and not once' page/page.html sed 's/^<meta.*/&&/'
-    refuses page 'bytes, more than 400000' page/style.css sh -c 'yes "p { color: black; }" | head -n 60000'
+    refuses page 'bytes, more than 440000' page/style.css sh -c 'yes "p { color: black; }" | head -n 60000'
     python=$(python3 -c 'import sys; print(sys.executable)')
     judge 'without esbuild its package is named' eval '! PATH=/nothing "$python" -B "$top/tools/pack.py" page module out --web small 2> errors &&
         grep -qF "package esbuild" errors'
@@ -172,8 +172,8 @@ release_tree() {
         -e "s|^key:\$|& $(cut -d ' ' -f 1,2 owner.pub)|" release/tools/owner.txt
     echo terms > release/LICENSE
     sed -i '/^## Unreleased$/d' release/CHANGELOG.md
-    grep -rliE 'no licence has been chosen|no public release' release --include=*.md --include=*.[13] --include=copyright |
-        xargs sed -i -E 's/no licence has been chosen|no public release//I'
+    grep -rliE 'no licence has been chosen|not released yet|no public release' release --include=*.md --include=*.[13] --include=copyright |
+        xargs sed -i -E 's/no licence has been chosen|not released yet|no public release//I'
     mkdir release/completions
     : | tee release/completions/{_cdpatch,cdpatch.bash,cdpatch.fish,_cdscript,cdscript.bash} > release/completions/cdscript.fish
     : | tee release/library/{libcdpatch.a,libcdpatch.so.2} > release/library/x86-64-v3/libcdpatch.so.2

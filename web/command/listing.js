@@ -1,5 +1,6 @@
 // The jobs `replace --list`, which writes the script for lists with the new texts of a disc, and `replace --check`, which checks lists.
 
+import { tablesOfList } from '../core/pointers/views.js';
 import { checkLists, importMoving, importTable } from '../core/tasks/index.js';
 import { ownFault, sentenceOf } from '../sentences/index.js';
 import { openTrackOf } from './opening.js';
@@ -86,9 +87,10 @@ export async function importOptions(job, names) {
  */
 async function importedMoving(job, opened, names, pointers) {
     const { keep = [] } = job.options;
-    const [list] = await filesNamed(job, [pointers]);
+    const [{ reader }] = await filesNamed(job, [pointers]);
+    const options = await importOptions(job, names);
     const isKept = (/** @type {{ number: number }} */ { number }) => keep.includes(number);
-    const made = await importMoving(job, opened, { ...await importOptions(job, names), pointers: list, isKept }, job.watch);
+    const made = await importMoving(job, opened, { ...options, tables: await tablesOfList(reader), isKept }, job.watch);
     for (const remarks of [made.moved, made.few, made.sharing]) sayOfRuns(job, remarks, it => sentenceOf(it));
     job.say(`texts moved ${made.moved.length}`);
     return made;

@@ -5,7 +5,7 @@ import { hexText } from '../core/hex_digits.js';
 import { filesLines } from '../core/iso/views.js';
 import { USER_SIZE, kindName } from '../core/module/index.js';
 import { FIELDS, addressIn, addressText, findingOf } from '../core/sectors/views.js';
-import { sectorsOfRange } from '../core/tasks/index.js';
+import { entriesNamed, pathFromRoot, sectorsOfRange } from '../core/tasks/index.js';
 import { FilesAlong, LONGEST_CHARACTER, LOOKED_BACK, bytesAround, bytesInside, charactersFrom } from '../core/texts/views.js';
 import { contextsOf, shownPlace, shownCell } from '../core/texts/views.js';
 import { ownFault, sentenceOf } from '../sentences/index.js';
@@ -41,10 +41,9 @@ const BYTES_SHOWN = 128;
  */
 export async function entriesAtPath(opened, path) {
     const { files } = volumeIn(await opened.contents());
-    const rooted = (/** @type {string} */ name) => `/${name}`.replace(/^\/+/, '/');
-    const named = files.filter(file => [file.path, visible(file.path)].map(rooted).includes(rooted(path)));
+    const named = entriesNamed(files, path);
     if (named.length > 0) return named;
-    const meant = nearest(rooted(path), files.map(file => rooted(file.path)));
+    const meant = nearest(pathFromRoot(path), files.map(file => pathFromRoot(file.path)));
     throw ownFault(`no file ${path} on the disc; ${meant === null ? 'cdscript files lists the files' : `did you mean ${meant}?`}`);
 }
 

@@ -4,6 +4,7 @@ import { LAST_TRACK } from '../core/disc/views.js';
 import { ENCODINGS, encodingOf } from '../core/encodings/views.js';
 import { bytesOfHex } from '../core/hex_digits.js';
 import { LAST_BASE, LAST_BLOCK } from '../core/module/index.js';
+import { LAYOUT_LIMITS } from '../core/tasks/index.js';
 import { ownFault } from '../sentences/index.js';
 import { numberOf } from './numbers.js';
 
@@ -13,11 +14,6 @@ import { numberOf } from './numbers.js';
  * @typedef {{ word: string, short?: string, value: string, does: string, parse?: (text: string) => unknown, values?: readonly string[],
  *     repeated?: boolean, excludes?: readonly string[], needs?: Readonly<Record<string, string>> }} OptionRow
  */
-
-/** The greatest distance of records, the most bytes of the text of one, and the most bytes before the first. */
-const MOST_EVERY = 1 << 20;
-const LONGEST_RECORD = 4096;
-const MOST_SKIPPED = 1e12;
 
 const NAMES = ENCODINGS.map(({ name }) => name);
 
@@ -104,15 +100,15 @@ const ROWS = /** @type {const} */ ({
     in: { word: '--in', value: 'PATH', does: 'search only this file or directory; may be repeated', repeated: true },
     every: {
         word: '--every', value: 'N', does: 'print a row for each record; the distance of records is N bytes',
-        parse: numberFrom('--every', 1, MOST_EVERY), excludes: ['lines', 'min'], needs: { texts: 'length' },
+        parse: numberFrom('--every', ...LAYOUT_LIMITS.every), excludes: ['lines', 'min'], needs: { texts: 'length' },
     },
     length: {
         word: '--length', value: 'N', does: 'the size in bytes of the text field that begins each record',
-        parse: numberFrom('--length', 1, LONGEST_RECORD), needs: { texts: 'every' },
+        parse: numberFrom('--length', ...LAYOUT_LIMITS.length), needs: { texts: 'every' },
     },
     skip: {
         word: '--skip', value: 'N', does: 'how many bytes precede the first record; the default is 0',
-        parse: numberFrom('--skip', 0, MOST_SKIPPED), needs: { texts: 'every' },
+        parse: numberFrom('--skip', ...LAYOUT_LIMITS.skip), needs: { texts: 'every' },
     },
     min: {
         word: '--min', value: 'N', does: 'print text of N characters or more; the default is 2', parse: numberFrom('--min', 1, LAST_BLOCK),

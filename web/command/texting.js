@@ -4,7 +4,7 @@ import { wholeOf } from '../core/bytes.js';
 import { encodingOf, tableTextOf } from '../core/encodings/views.js';
 import { failedBy } from '../core/faults.js';
 import { hexText } from '../core/hex_digits.js';
-import { ListedSpans, exportRecords, exportTable, findPointers, newTextsOf } from '../core/tasks/index.js';
+import { ListedSpans, exportRecords, exportTable, findPointers, newTextsOf, recordsOverlap } from '../core/tasks/index.js';
 import { ownFault, rowName, sentenceOf } from '../sentences/index.js';
 import { filesNamed } from './listing.js';
 import { entriesAtPath, sayNoVolume } from './looking.js';
@@ -81,7 +81,7 @@ async function writeRecords(job, target, opened, { encoding, ...how }) {
  */
 function assertRecords({ every, length, in: paths = [], file }) {
     if (every === undefined || length === undefined) return;
-    if (every < length) throw ownFault(`--every must be at least --length, so at least ${length}`);
+    if (recordsOverlap({ every, length })) throw ownFault(`--every must be at least --length, so at least ${length}`);
     if (paths.length + Number(file !== undefined) !== 1) throw ownFault('--every needs one --in PATH, or --file FILE');
 }
 

@@ -15,3 +15,8 @@ declare class CompressionStream {
 declare const trustedTypes: {
     createPolicy(name: string, rules: { createScriptURL: (given: string) => string }): { createScriptURL: (given: string) => string };
 };
+
+interface Navigator {
+    /** Whether the user has pressed something shortly before, so that the browser opens a dialog. Browsers with a save dialog have it. */
+    userActivation: { isActive: boolean };
+}

@@ -2,6 +2,6 @@
 
 export { MOST_CODES, numberFor, placesOf, putNumber, storedAt, targetOf } from './forms.js';
 export { findPointerTables } from './find.js';
-export { layOut } from './layout.js';
+export { joinedSpans, layOut } from './layout.js';
 export { TextStarts } from './starts.js';
 export { pointerList, tablesOfList } from './tsv.js';

@@ -5,8 +5,9 @@ import { storedAt, targetOf } from './forms.js';
 /** @typedef {import('./forms.js').PointerForm} PointerForm */
 /** @typedef {import('./starts.js').TextStarts} TextStarts */
 /**
- * The bytes of a file that may have pointers, and its own texts, if it has any: no pointer begins in one.
- * @typedef {{ path: string, bytes: Uint8Array, own: TextStarts | null }} Searched
+ * The bytes of a file that may have pointers, and its own texts, if it has any: no pointer begins in one. `note` receives which share of
+ * the search is done.
+ * @typedef {{ path: string, bytes: Uint8Array, own: TextStarts | null, note?: (share: number) => void }} Searched
  */
 /** @typedef {{ at: number, target: number, text: number, isFirst: boolean }} Hit a pointer, and the index of the text that it leads to */
 /**

@@ -17,6 +17,9 @@ const DISTANCES = /** @type {[number, number[]][]} */ ([
     [4, [4, 8, 12, 16, 6, 20, 24, 5, 10]], [2, [2, 4, 6, 8, 12, 16, 3, 10]], [3, [3, 4, 6]],
 ]);
 
+/** How often a file is searched: for each distance, in both orders of bytes. */
+const PASSES = 2 * DISTANCES.reduce((sum, [, distances]) => sum + distances.length, 0);
+
 /** How many numbers are looked at before other tasks get a turn. */
 const SEARCHED_AT_ONCE = 1 << 15;
 
@@ -178,11 +181,14 @@ class Search {
 
     /** Finds all runs. */
     async all() {
-        const { own } = this.file;
+        const { own, note } = this.file;
+        let done = 0;
         for (const [width, distances] of DISTANCES) {
             for (const big of [false, true]) {
                 const numbers = await this.numbers(width, big);
                 for (const distance of distances) {
+                    note?.(done / PASSES);
+                    done += 1;
                     await this.byDifferences(numbers, { width, big }, distance, false);
                     if (own !== null && distance === width) await this.byDifferences(numbers, { width, big }, distance, true);
                 }

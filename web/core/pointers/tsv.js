@@ -25,9 +25,9 @@ const MOST_POINTERS = 1 << 18;
 
 /**
  * A base in the notation of the list.
- * @param {PointerTable} table
+ * @param {Pick<PointerTable, 'base' | 'own'>} table
  */
-function baseText({ base, own }) {
+export function baseText({ base, own }) {
     const number = `0x${Math.abs(base).toString(16).toUpperCase()}`;
     if (!own) return `${base < 0 ? '-' : ''}${number}`;
     return base === 0 ? SELF : `${SELF}${base < 0 ? '-' : '+'}${number}`;

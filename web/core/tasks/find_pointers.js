@@ -3,6 +3,7 @@
 import { wholeOf } from '../bytes.js';
 import { failedBy } from '../faults.js';
 import { readerOfFile, wholeFile } from '../iso/index.js';
+import { USER_SIZE } from '../module/index.js';
 import { TextStarts, findPointerTables, pointerList } from '../pointers/index.js';
 import { visible } from '../texts/index.js';
 import { letOthersIn } from '../turns.js';
@@ -77,14 +78,18 @@ export function filesByPath(entries) {
  * @returns {AsyncGenerator<Searched>}
  */
 async function* searchedFiles(part, files, starts, { signal, progress }) {
-    let done = 0;
-    for (const [path, file] of files) {
+    const mostOf = (/** @type {string} */ path) => starts.has(path) ? MOST_SEARCHED : MOST_SEARCHED_WITHOUT_TEXTS;
+    const searched = Array.from(files).filter(([path, { size }]) => size <= mostOf(path));
+    const sectors = (/** @type {number} */ bytes) => Math.ceil(bytes / USER_SIZE);
+    const all = searched.reduce((sum, [, { size }]) => sum + size, 0);
+    let before = 0;
+    for (const [path, file] of searched) {
         await letOthersIn(signal);
-        if (progress) progress(done, files.size);
-        done += 1;
-        const own = starts.get(path) || null;
-        if (file.size > (own === null ? MOST_SEARCHED_WITHOUT_TEXTS : MOST_SEARCHED)) continue;
-        yield { path, bytes: await wholeOf(readerOfFile(part, file).reader), own };
+        const from = before;
+        const note = (/** @type {number} */ share) => progress?.(sectors(from + share * file.size), sectors(all));
+        note(0);
+        yield { path, bytes: await wholeOf(readerOfFile(part, file).reader), own: starts.get(path) || null, note };
+        before += file.size;
     }
 }
 
@@ -93,7 +98,7 @@ async function* searchedFiles(part, files, starts, { signal, progress }) {
  * `cancelled`, and what the reader throws.
  * @param {Pick<OpenedTrack, 'contents'>} opened
  * @param {ListedSpans} listed
- * @param {Watch} [watch] receives the number of files
+ * @param {Watch} [watch] receives the number of sectors of files
  */
 export async function findPointers(opened, { spans }, watch = {}) {
     const { part, files: entries } = await opened.contents();

@@ -2,7 +2,7 @@
 
 import { ScriptParts } from '../script/index.js';
 import { Fault, failedBy, remark } from '../faults.js';
-import { layOut, tablesOfList } from '../pointers/index.js';
+import { layOut } from '../pointers/index.js';
 import { sortedInTurns } from '../turns.js';
 import { checkMoved } from './check_moved.js';
 import { encodingsOfRows, fittedLists } from './fitted_lists.js';
@@ -15,7 +15,7 @@ import { sharingWith } from './replace_file.js';
 import { placeInImage } from './rows_in_image.js';
 import { fittingScript } from './script_for.js';
 
-/** @typedef {import('../disc/disc.js').DiscFile} DiscFile */
+/** @typedef {import('../pointers/tsv.js').ListedTable} ListedTable */
 /** @typedef {import('../script/script_writer.js').Script} Script */
 /** @typedef {import('./engine.js').Engine} Engine */
 /** @typedef {import('./engine.js').Watch} Watch */
@@ -31,13 +31,14 @@ import { fittingScript } from './script_for.js';
 /** @typedef {import('./table.js').ImportOptions} ImportOptions */
 /** @typedef {import('../facts.js').Remark<'pointers/moved' | 'pointers/few' | 'replace/shared-blocks'>} MovedRemark */
 /**
- * An import with the list of pointer tables; `isKept` selects rows that stay in place.
- * @typedef {Omit<ImportOptions, 'isAlso'> & { pointers: DiscFile, isKept: (row: ListRow) => boolean }} MovingOptions
+ * An import with tables of pointers; `isKept` selects rows that stay in place.
+ * @typedef {Omit<ImportOptions, 'isAlso'> & { tables: ListedTable[], isKept: (row: ListRow) => boolean }} MovingOptions
  */
 /**
  * The rows as in other imports, the finished script, and remarks: on each text that has moved, on those with fewer pointers than the texts
- * beside them, and on other files that change too.
- * @typedef {FittedLists & { script: Script | null, moved: MovedRemark[], few: MovedRemark[], sharing: MovedRemark[] }} MovingImport
+ * beside them, and on other files that change too. `longer` is how many texts fit only because texts have moved.
+ * @typedef {FittedLists & { script: Script | null, moved: MovedRemark[], few: MovedRemark[], sharing: MovedRemark[],
+ *     longer: number }} MovingImport
  */
 
 /** The import of lists into a track, whose texts may move. */
@@ -175,6 +176,12 @@ class MovingRows {
         }
     }
 
+    /** How many of the texts that were laid out have more bytes than their room. */
+    get longer() {
+        const isLonger = (/** @type {MovableText} */ { text: { fresh, room } }) => fresh.length > room;
+        return this.layouts.reduce((sum, { texts: { movable } }) => sum + movable.filter(isLonger).length, 0);
+    }
+
     /** Writes the layouts, and reports what has moved. */
     async write() {
         const { volume, part } = await this.opened.contents();
@@ -216,8 +223,8 @@ class MovingRows {
 
 /**
  * Creates the script of lists with new texts, which may be longer than their room if pointers lead to them. Before it is returned, it is
- * applied in memory, and all pointers and texts are read again. Throws a Fault if the lists or the tables of pointers cannot be read, if
- * the result is not as it should be, or `cancelled`.
+ * applied in memory, and all pointers and texts are read again. Throws a Fault if the lists cannot be read, if the tables are not those of
+ * the disc, if the result is not as it should be, or `cancelled`.
  * @param {Engine} engine
  * @param {OpenedTrack} opened
  * @param {MovingOptions} options
@@ -225,8 +232,8 @@ class MovingRows {
  * @returns {Promise<MovingImport>}
  */
 export async function importMoving(engine, opened, options, watch = {}) {
-    const { lists, pointers, partial, encodings, isAsked } = options;
-    const files = await openPointedFiles(opened, await tablesOfList(pointers.reader, watch.signal), watch.signal);
+    const { lists, tables, partial, encodings, isAsked } = options;
+    const files = await openPointedFiles(opened, tables, watch.signal);
     const moving = new MovingRows(engine, opened, files, options, watch);
     const fitted = await fittedLists(lists, await moving.place(true), { encodings, isAsked, isAlso: () => true }, watch);
     if (fitted.count === 0 && fitted.fuzzy === 0) throw new Fault('list/no-new-text', {});
@@ -236,5 +243,5 @@ export async function importMoving(engine, opened, options, watch = {}) {
     const { image } = await opened.contents();
     const script = partial || left.length === 0 ? await fittingScript(engine.calls, image, moving.parts) : null;
     if (script !== null) await checkMoved(engine.calls, opened, script, moving, watch.signal);
-    return { ...fitted, left, script, ...moving.remarks };
+    return { ...fitted, left, script, longer: moving.longer, ...moving.remarks };
 }

@@ -85,6 +85,10 @@ class RangeMerge {
         const { found } = this;
         const block = this.first + i;
         const address = addressOf(this.calls, block + this.args.shift);
+        if (this.isSettled(i, address)) {
+            found.tested += 1;
+            return;
+        }
         const copies = this.images.map((_, image) => this.copyIn(image, i, address));
         const [own, ...others] = copies;
         const isSoundIn = (/** @type {Copy} */ { state }) => state === STATE.SOUND;
@@ -105,6 +109,17 @@ class RangeMerge {
             const differing = others.filter(it => isSoundIn(it) && !hasSameContents(own, it));
             for (const { image } of differing) addToRuns(found.differing[image - 1], runOf(block));
         }
+    }
+
+    /**
+     * Whether a sector is sound Mode 1 with the address of its block, and has the same bytes in all images. Nearly all sectors are, so that
+     * this decides the time of a merge.
+     * @param {number} i
+     * @param {Uint8Array | null} address of the block, null if it has none
+     */
+    isSettled(i, address) {
+        return this.unlike[i] === 0 && isSound(this.tested[0].records, i * RECORD_SIZE) && address !== null
+            && sameBytes(address, addressIn(this.images[0], i));
     }
 
     /**

@@ -37,7 +37,8 @@ const END_OF_CONTENTS = 2348;
  */
 export function replacementOf(calls, address, own, copies) {
     const possible = copies.filter(copy => copy.state === STATE.SOUND && copy.isHome && canReplace(own, copy));
-    const fitting = address === null ? [] : fittingCopies(calls, address, own, possible);
+    if (address === null || possible.length === 0) return null; // as for nearly all sectors
+    const fitting = fittingCopies(calls, address, own, possible);
     if (fitting.length === 0) return null;
     const { copy, fit } = fitting.reduce((best, it) => it.fit > best.fit ? it : best);
     const isDisputed = possible.some(({ bytes }) => !sameBytes(copy.bytes, bytes));

@@ -36,12 +36,12 @@ const LEAST_LENGTHS = 3;
 const MOST_MEASURED = 1024;
 
 /**
- * The byte that ends most texts of a file, 0 if none does. If the list has few texts, it is the byte before most places to which pointers
+ * The byte that ends most texts of a file, 0 if none does. If there are few texts, it is the byte before most places to which pointers
  * lead.
  * @param {PointedFile} file
  * @param {PointedRow[]} texts
  */
-function usualEndOf({ bytes, targets }, texts) {
+export function usualEndOf({ bytes, targets }, texts) {
     const places = texts.length < LEAST_ENDED_ALIKE ? targets.map(target => target - 1) : texts.map(({ at, known }) => at + known);
     const counts = new Uint32Array(256);
     for (const at of places) counts[bytes[at] || 0] += 1;
@@ -60,10 +60,10 @@ function isCodeByte(byte) {
 /**
  * The end of a text with its filling and the bytes that end it, and these; -1 if it has no such bytes.
  * @param {PointedFile} file
- * @param {PointedRow} text
+ * @param {Pick<PointedRow, 'at' | 'known' | 'encoding'> & { row: Pick<ListRow, 'room'> }} text
  * @param {number} usual the byte that ends most texts of the file
  */
-function endWithMark({ bytes, size }, { at, known, row, encoding }, usual) {
+export function endWithMark({ bytes, size }, { at, known, row, encoding }, usual) {
     const ended = withEnd(encoding, encoding.end || usual);
     const mark = endOf(ended);
     const from = at + known;
@@ -71,6 +71,22 @@ function endWithMark({ bytes, size }, { at, known, row, encoding }, usual) {
     const filled = from + Math.min(fillingAfter(ended, bytes, from, size), most);
     const isMarked = filled + mark.length <= size && sameBytes(mark, bytes.subarray(filled, filled + mark.length));
     return { mark, after: isMarked && (row.room < 0 || row.room >= known) ? filled + mark.length : -1 };
+}
+
+/**
+ * The place of the first code before a text to which a pointer leads, or the place of the text. No byte that ends texts is between them,
+ * because a different text, which has no row, begins after it.
+ * @param {PointedFile} file
+ * @param {number} at the place of the text
+ * @param {number} low
+ * @param {Uint8Array} mark the bytes that end texts
+ */
+export function firstPointed(file, at, low, mark) {
+    const { bytes } = file;
+    let first = at;
+    while (first > Math.max(low, at - MOST_CODES) && bytes[first - 1] !== 0 && bytes[first - 1] !== mark[0]) first -= 1;
+    const [pointer] = file.leadingTo(first, at + 1);
+    return pointer === undefined ? at : pointer.target;
 }
 
 /** The texts of a file, which move or stay. */
@@ -125,7 +141,7 @@ export class MovedTexts {
         const { file } = this;
         const { at, known, row, fresh } = text;
         const { mark, after: marked } = endWithMark(file, text, this.usual);
-        const first = this.firstPointed(at, low, mark);
+        const first = firstPointed(file, at, low, mark);
         const pointers = file.leadingTo(first, at + 1);
         if (this.isKept(row)) return 'kept';
         if (pointers.length === 0) return 'no-pointer';
@@ -143,21 +159,6 @@ export class MovedTexts {
         bytes.set(fresh, at - first);
         bytes.set(mark, at - first + fresh.length);
         return { first, after, bytes, text, pointers, ...limitsOf(pointers, first) };
-    }
-
-    /**
-     * The place of the first code before a text to which a pointer leads, or the place of the text. No byte that ends texts is between
-     * them, because a different text, which has no row, begins after it.
-     * @param {number} at
-     * @param {number} low
-     * @param {Uint8Array} mark
-     */
-    firstPointed(at, low, mark) {
-        const { bytes } = this.file;
-        let first = at;
-        while (first > Math.max(low, at - MOST_CODES) && bytes[first - 1] !== 0 && bytes[first - 1] !== mark[0]) first -= 1;
-        const [pointer] = this.file.leadingTo(first, at + 1);
-        return pointer === undefined ? at : pointer.target;
     }
 
     /** The byte that ends the texts. */

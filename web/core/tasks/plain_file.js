@@ -4,13 +4,14 @@ import { readBytes } from '../bytes.js';
 import { newBytes } from '../faults.js';
 import { SECTOR_SIZE, USER_SIZE } from '../module/index.js';
 import { USER_OFFSET } from '../sectors/index.js';
-import { fittedLists } from './fitted_lists.js';
+import { fittedLists, fittedRows } from './fitted_lists.js';
 import { placeInImage } from './rows_in_image.js';
 
 /** @typedef {import('../bytes.js').Reader} Reader */
 /** @typedef {import('../disc/disc.js').DiscFile} DiscFile */
 /** @typedef {import('./engine.js').Watch} Watch */
-/** @typedef {{ at: number, bytes: Uint8Array }} FileChange new bytes at a place in a plain file */
+/** @typedef {import('./list_rows.js').ListRow} ListRow */
+/** @typedef {{ at: number, bytes: Uint8Array, row: ListRow }} FileChange new bytes at a place in a plain file, and their row */
 /** @typedef {import('./opened.js').OpenedTrack} OpenedTrack */
 /** @typedef {import('./opened.js').TrackContents} TrackContents */
 /** @typedef {Omit<import('./table.js').ImportOptions, 'isAlso'>} ImportOptions */
@@ -66,10 +67,34 @@ export function openPlainFile({ name, reader }) {
  * @returns {Promise<FileImport>}
  */
 export async function importIntoFile(opened, { lists, fill, partial, ...options }, watch = {}) {
+    const { changes, place } = await changesInFile(opened, fill);
+    const fitted = await fittedLists(lists, place, options, watch);
+    return { ...fitted, changes: partial || fitted.left.length === 0 ? changes : null };
+}
+
+/**
+ * Finds the changes of a plain file that write the new texts of rows, in the order of their places, and the rows that do not fit. Throws a
+ * Fault, `cancelled`.
+ * @param {Pick<OpenedTrack, 'contents'>} opened
+ * @param {ListRow[]} rows
+ * @param {import('./table.js').RowOptions} options
+ * @param {Watch} [watch] receives the number of rows
+ */
+export async function importRowsIntoFile(opened, rows, { fill, ...options }, watch = {}) {
+    const { changes, place } = await changesInFile(opened, fill);
+    const { left } = await fittedRows(rows, place, options, watch);
+    return { changes, left };
+}
+
+/**
+ * A plain file as the place of rows, and the changes of those that fit.
+ * @param {Pick<OpenedTrack, 'contents'>} opened
+ * @param {import('../encodings/encoding.js').Filler} [fill]
+ */
+async function changesInFile(opened, fill) {
     const { part } = await opened.contents();
     /** @type {FileChange[]} */
     const changes = [];
-    const place = placeInImage(part, fill, ({ offset }, _, __, bytes) => changes.push({ at: offset, bytes }));
-    const fitted = await fittedLists(lists, place, options, watch);
-    return { ...fitted, changes: partial || fitted.left.length === 0 ? changes : null };
+    const place = placeInImage(part, fill, (row, _, __, bytes) => changes.push({ at: row.offset, bytes, row }));
+    return { changes, place };
 }

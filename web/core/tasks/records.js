@@ -21,9 +21,13 @@ import { exportedPieces } from './table.js';
  */
 /**
  * The file, and the encoding, or null for the usual one in which the records read best; and the byte that ends texts, if it is known.
- * @typedef {Layout & { entries: FileEntry[], encoding: Encoding | null } & Pick<ExportOptions, 'form' | 'freshOf' | 'end'>} RecordOptions
+ * @typedef {Layout & { entries: FileEntry[], encoding: Encoding | null } & Pick<ExportOptions, 'end'>} ListedRecords
  */
+/** @typedef {ListedRecords & Pick<ExportOptions, 'form' | 'freshOf'>} RecordOptions */
 /** @typedef {{ at: number, bytes: Uint8Array }} TableRecord where its text begins in the file, and the bytes of the text */
+
+/** The least and the greatest value of each number of a layout. */
+export const LAYOUT_LIMITS = /** @type {const} */ ({ every: [1, 1 << 20], length: [1, 4096], skip: [0, 1e12] });
 
 /** How many records are read in all usual encodings. */
 const MOST_RECORDS_COMPARED = 1 << 16;
@@ -32,26 +36,45 @@ const MOST_RECORDS_COMPARED = 1 << 16;
 const ROWS_AT_ONCE = 1024;
 
 /**
- * The table of the records of a file, with a row for each record that is whole. `encoding` is the one in which they are read, and `filler`
- * has the bytes of the most frequent character after their texts. Throws what the reader throws, and a Fault: `path` or `extents` if the
- * bytes of the file are not simply those of its blocks, `cancelled`.
+ * Whether the text of a record would overlap the next record.
+ * @param {Layout} layout
+ */
+export function recordsOverlap({ every, length }) {
+    return every < length;
+}
+
+/**
+ * The table of the records of a file, as listRecords lists them.
  * @param {Pick<OpenedTrack, 'contents'>} opened
  * @param {RecordOptions} options
  * @param {Watch} [watch]
  */
-export async function exportRecords(opened, { entries, form, freshOf, ...options }, watch = {}) {
+export async function exportRecords(opened, { form, freshOf, ...listed }, watch = {}) {
+    const { texts, ...made } = await listRecords(opened, listed, watch);
+    return { ...made, table: exportedPieces(texts, { form, freshOf }, true) };
+}
+
+/**
+ * Lists the records of a file that are whole, as texts. `encoding` is the one in which they are read, and `filler` has the bytes of the
+ * most frequent character after their texts. Throws what the reader throws, and a Fault: `path` or `extents` if the bytes of the file are
+ * not simply those of its blocks, `cancelled`.
+ * @param {Pick<OpenedTrack, 'contents'>} opened
+ * @param {ListedRecords} options
+ * @param {Watch} [watch]
+ */
+export async function listRecords(opened, { entries, ...options }, watch = {}) {
     const { part } = await opened.contents();
     const file = wholeFile(entries);
     const { reader, placeOf } = readerOfFile(part, file);
     const records = () => recordsIn(reader, options, watch);
-    const encoding = withEnd(options.encoding || await bestEncoding(records()), options.end);
+    const encoding = withEnd(options.encoding || await bestEncoding(records(), watch.signal), options.end);
     const filler = await usualFiller(encoding, records());
     const fill = codeOfBytes(filler);
     const listed = (/** @type {TableRecord} */ { at, bytes }) => {
         const place = { ...shownPlace(part, placeOf(at)), file: `${visible(file.path)}+${at}` };
         return { ...place, ...textOf(encoding, bytes), room: options.length, encoding: encoding.name, fill };
     };
-    return { encoding, filler, table: exportedPieces(listedIn(records(), listed), { form, freshOf }, true) };
+    return { encoding, filler, texts: listedIn(records(), listed) };
 }
 
 /**
@@ -92,9 +115,11 @@ async function* recordsIn(reader, { every, length, skip = 0, limit = Infinity },
 /**
  * The usual encoding in which the first records read best.
  * @param {AsyncIterable<TableRecord>} records
+ * @param {Watch['signal']} signal
  */
-async function bestEncoding(records) {
+async function bestEncoding(records, signal) {
     const chooser = new EncodingChooser();
+    await chooser.prepare(signal);
     let count = 0;
     for await (const { bytes } of records) {
         chooser.add(bytes);
@@ -136,6 +161,7 @@ function fillerIfNone(encoding) {
  * Yields records as listed texts.
  * @param {AsyncIterable<TableRecord>} records
  * @param {(record: TableRecord) => ListedText} listed
+ * @returns {AsyncGenerator<ListedText[]>}
  */
 async function* listedIn(records, listed) {
     let some = [];

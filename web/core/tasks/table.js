@@ -7,6 +7,7 @@ import { letOthersIn } from '../turns.js';
 import { fittedLists, fittedRows } from './fitted_lists.js';
 import { placeInImage, roomOfRow } from './rows_in_image.js';
 import { rowsOfLists } from './list_rows.js';
+import { pathFromRoot } from './named_files.js';
 import { replaceBytes } from './replace_bytes.js';
 import { fittingScript } from './script_for.js';
 
@@ -56,7 +57,7 @@ const FILL_COLUMN = 'fill';
  * @param {string[]} paths of files or directories; if there are none, all stretches are returned
  */
 function stretchesIn(stretches, paths) {
-    const rooted = (/** @type {string} */ path) => `/${path}`.replace(/^\/+/, '/').replace(/\/+$/, '');
+    const rooted = (/** @type {string} */ path) => pathFromRoot(path).replace(/\/+$/, '');
     const isIn = (/** @type {Stretch} */ { path }, /** @type {string} */ below) =>
         path !== '' && `${rooted(path)}/`.startsWith(`${rooted(below)}/`);
     const missing = paths.find(path => !stretches.some(it => isIn(it, path)));
@@ -65,7 +66,7 @@ function stretchesIn(stretches, paths) {
 }
 
 /** The new texts of lists, by the places and texts to which they belong. */
-class NewTexts {
+export class NewTexts {
     /** @param {ListRow[]} rows of which those that cannot be read as they were meant are not used */
     constructor(rows) {
         /** @type {Map<string, ListRow>} */
@@ -75,6 +76,14 @@ class NewTexts {
         this.unused = new Set([...rows.filter(row => row.fault !== null), ...this.rows.values()]);
         /** How many rows of records met a text without a filler. They stay in their own list, since they would be padded differently. */
         this.records = 0;
+    }
+
+    /**
+     * Whether there is a new text at the place of a text.
+     * @param {Pick<ListedText, 'block' | 'offset'>} listed
+     */
+    has({ block, offset }) {
+        return this.rows.has(`${block}+${offset}`);
     }
 
     /**

@@ -4,6 +4,7 @@ import { cancelled } from '../faults.js';
 import { hexText } from '../hex_digits.js';
 import { SECTOR_SIZE, USER_SIZE } from '../module/index.js';
 import { sliceOf } from '../readers/index.js';
+import { letOthersIn } from '../turns.js';
 import { bytesBefore } from './context.js';
 import { BEYOND, keptOf } from './overlap.js';
 import { visible } from './visible.js';
@@ -45,6 +46,10 @@ const LEAST_OF_LINES = 1;
  * have been joined: then each of these codes counts too.
  */
 const ENDED = 6;
+
+/** How many sectors are searched in a worker at a time, so that those full of texts give a short answer; and how many texts are listed. */
+const SEARCHED_SECTORS = 256;
+const LISTED_AT_ONCE = 1024;
 
 /** How many stretches are searched at the same time. */
 const STRETCHES_AT_ONCE = 64;
@@ -138,7 +143,8 @@ async function recognisedIn(pool, { reader, order }, stretch, options, watch) {
     const { first, size } = stretch;
     const sectors = sliceOf(order ? order.reader : reader, first * SECTOR_SIZE, (first + sectorsOf(stretch)) * SECTOR_SIZE);
     const take = (/** @type {FoundText[]} */ texts) => void found.push(texts);
-    await pool.share('texts', [sectors], { ...options, size }, { ...watch, beyond: BEYOND }, take);
+    await pool.share('texts', [sectors], { ...options, size }, { ...watch, step: SEARCHED_SECTORS, beyond: BEYOND }, take);
+    await letOthersIn(watch.signal);
     return keptOf(found.flat());
 }
 
@@ -192,6 +198,28 @@ export async function* allTexts(pool, part, stretches, how) {
         if (signal && signal.aborted) throw cancelled();
         const some = stretches.slice(i, i + STRETCHES_AT_ONCE);
         const found = await Promise.all(some.map(stretch => textsOf(pool, part, stretch, how, watchOne())));
-        yield found.flatMap((texts, k) => texts.filter(isLong).map(it => listedText(part, some[k], it)));
+        yield* listedInParts(part, some, found, isLong, signal);
     }
+}
+
+/**
+ * Yields the texts that were found in stretches, in parts. Other tasks get turns in between.
+ * @param {OrderedImage} part
+ * @param {Stretch[]} stretches
+ * @param {FoundText[][]} found
+ * @param {(text: FoundText) => boolean} isLong
+ * @param {TextsHow['signal']} signal
+ */
+async function* listedInParts(part, stretches, found, isLong, signal) {
+    let listed = [];
+    for (const [k, texts] of found.entries()) {
+        for (const it of texts) {
+            if (isLong(it)) listed.push(listedText(part, stretches[k], it));
+            if (listed.length < LISTED_AT_ONCE) continue;
+            yield listed;
+            listed = [];
+            await letOthersIn(signal);
+        }
+    }
+    yield listed;
 }

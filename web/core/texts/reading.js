@@ -1,8 +1,10 @@
 // Chooses the encoding in which bytes that are known to be texts read best.
 
 import { sizeBeforeFilling } from '../encodings/index.js';
-import { allScores, codeAt } from './scores.js';
+import { letOthersIn } from '../turns.js';
+import { codeAt, usualScores } from './scores.js';
 
+/** @typedef {import('../turns.js').Signal} Signal */
 /** @typedef {import('./scores.js').Scores} Scores */
 
 /**
@@ -25,7 +27,19 @@ function scoreOf(scores, field) {
 /** Compares the usual encodings on one field after another. */
 export class EncodingChooser {
     constructor() {
-        this.all = allScores().map(scores => ({ scores, sum: 0 }));
+        /** @type {{ scores: Scores, sum: number }[]} */
+        this.all = [];
+    }
+
+    /**
+     * Prepares the scores. Other tasks get turns in between. Throws a Fault, `cancelled`.
+     * @param {Signal} [signal]
+     */
+    async prepare(signal) {
+        for (const scores of usualScores()) {
+            this.all.push({ scores, sum: 0 });
+            await letOthersIn(signal);
+        }
     }
 
     /** @param {Uint8Array} field */

@@ -145,13 +145,21 @@ function* scoredIn(encoding, known) {
     }
 }
 
-/** The scores of the encodings whose texts can be recognised without naming them: those that are searched. */
-export function allScores() {
+/**
+ * The scores of the encodings whose texts can be recognised without naming them: those that are searched. Each of them takes a while.
+ * @returns {Generator<Scores>}
+ */
+export function* usualScores() {
     const known = knownCharacters();
-    return SEARCHED.map(encoding => {
+    for (const encoding of SEARCHED) {
         const size = encodeText(encoding, 'あ').length;
-        return scoresOf(encoding, scoredIn(encoding, known), { size, wide: encodeText(encoding, 'a').length === 2 });
-    });
+        yield scoresOf(encoding, scoredIn(encoding, known), { size, wide: encodeText(encoding, 'a').length === 2 });
+    }
+}
+
+/** All usual scores at once. */
+export function allScores() {
+    return [...usualScores()];
 }
 
 /** The score of rare pairs of bytes of a language other than Japanese, and its signs, which are as frequent as its usual characters. */

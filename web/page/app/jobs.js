@@ -4,7 +4,7 @@ import { askBeforeLeaving, drawLongJobs, fill, jobBar, sayBusy } from '../ui/ind
 
 /** @typedef {import('../ui/fill.js').Child} Child */
 /** @typedef {import('./state.js').App} App */
-/** @typedef {import('./store.js').RunningJob} RunningJob */
+/** @typedef {import('./hub.js').RunningJob} RunningJob */
 /** @typedef {Omit<ReturnType<typeof jobBar>, 'parts'>} Bar */
 /**
  * A job: its name; what ends it when that is closed (`of`), beside Cancel; the name of the things that it counts, in the plural; whether it
@@ -29,7 +29,7 @@ export async function jobAt(app, place, job) {
     const { name, of = 'page', saves = false } = job;
     if (job.replaces) app.endJobAt(place);
     if (app.jobAt(place) !== undefined) return sayBusy(place);
-    const { image, second } = app;
+    const { opened, second } = app;
     /** @type {HTMLElement[]} */
     const shown = [];
     const showAlone = (/** @type {RunningJob} */ running) => {
@@ -40,7 +40,7 @@ export async function jobAt(app, place, job) {
         return bar;
     };
     let isReplaced = false;
-    const isCurrent = () => !isReplaced && (of === 'page' || app.image === image) && (of !== 'pair' || app.second === second);
+    const isCurrent = () => !isReplaced && (of === 'page' || app.opened === opened) && (of !== 'pair' || app.second === second);
     try {
         const result = await app.run({ name, place, of, saves }, async running => {
             try {

@@ -13,7 +13,7 @@ import { Store } from './store.js';
 /** @typedef {import('../../core/tasks/opened.js').OpenedTrack} OpenedTrack */
 /** @typedef {import('./marks.js').SurveyMarks} SurveyMarks */
 /** @typedef {import('./script_lines.js').Edit} Edit */
-/** @typedef {import('./store.js').RunningJob} RunningJob */
+/** @typedef {import('./hub.js').RunningJob} RunningJob */
 /** @typedef {import('../ui/fill.js').Child} Child */
 
 /** The module, the workers, and the build tools of the page. The joined page and a served one load them in different ways. */
@@ -28,6 +28,11 @@ import { Store } from './store.js';
  */
 
 /**
+ * An ordinary file whose texts are translated without an image.
+ * @typedef {DiscFile & { opened: ReturnType<typeof import('../../core/tasks/index.js').openPlainFile> }} PlainFile
+ */
+
+/**
  * The survey of an image: `records` of RECORD_SIZE bytes for its sectors, of which the first `known` are read so far; what was found in
  * its Mode 2 sectors (`mode2`), settled when all is read; the runs of sectors `filled` with one byte, and of those `moved` to other blocks;
  * the `tracks` that are judged by themselves; the `marks` for the map; and the `verdict` and what its volumes lack (`lacks`), known when
@@ -38,17 +43,17 @@ import { Store } from './store.js';
  */
 
 /**
- * An event. An image was opened or closed (`image`), or closed with all work on it (`closed`). More of it was surveyed (`survey`), or
- * all of it (`surveyed`). More of it was hashed (`hash`, with the number of bytes, or -1 if hashing has stopped). Its files are known
- * (`files`). The second image was opened or closed (`second`, with the first job for it). The repair from it is known (`repair`). A place
- * was chosen (`place`).
+ * An event. An image was opened or closed (`image`), or closed with all work on it (`closed`). An ordinary file was opened (`plain`). More
+ * of the image was surveyed (`survey`), or all of it (`surveyed`). More of it was hashed (`hash`, with the number of bytes, or -1 if
+ * hashing has stopped). Its files are known (`files`). The second image was opened or closed (`second`, with the first job for it). The
+ * repair from it is known (`repair`). All sectors are to be corrected from their own parity (`correct`). A place was chosen (`place`).
  * The script has changed (`script`, with a function `back` that restores the last one if that is not saved, or with null if a line was
  * typed in the panel Script), or is to be checked (`check`). One of its lines was chosen (`line`, from 0). The encoding was chosen, or a
  * table was loaded (`encoding`). A job began, has done more, or ended (`jobs`). No image is being saved any more (`saved`).
  * A list of known dumps was loaded (`dumps`). A different panel is shown (`panel`). The list of files was shown or closed (`listed`). The
  * data of a patcher are to be edited (`patcher`).
- * @typedef {'image' | 'closed' | 'survey' | 'surveyed' | 'hash' | 'files' | 'second' | 'repair' | 'place' | 'script' | 'check' | 'line' |
- *     'encoding' | 'jobs' | 'saved' | 'dumps' | 'panel' | 'listed' | 'patcher'} Happening
+ * @typedef {'image' | 'closed' | 'plain' | 'survey' | 'surveyed' | 'hash' | 'files' | 'second' | 'repair' | 'correct' | 'place' |
+ *     'script' | 'line' | 'check' | 'encoding' | 'jobs' | 'saved' | 'dumps' | 'panel' | 'listed' | 'patcher'} Happening
  */
 
 /**
@@ -60,10 +65,11 @@ import { Store } from './store.js';
  * Services of parts of the page for all others: `open` opens files, as if they were dropped; `choose` lets the user choose them;
  * `dropSays` returns the text on what happens to files that are dropped; `turnBytes` undoes the last edit of the script, or redoes the one
  * that was undone last, if bytes of a sector were typed by it, and returns it; `saveScript` saves the script in a file; `list` lists what
- * is found in files with different names; `convert` offers to convert a file to a raw image.
+ * is found in files with different names; `convert` offers to convert a file to a raw image; `close` closes what is open, after a
+ * question if work would be lost.
  * @typedef {{ open: (files: File[], aim: Aim) => Promise<void>, choose: (aim: Aim) => void, dropSays: () => Child[],
  *     turnBytes: (way: 'undo' | 'redo') => Edit | null, saveScript: () => void, list: (files: File[]) => void,
- *     convert: (file: DiscFile, kind: ConvertibleKind) => void }} Services
+ *     convert: (file: DiscFile, kind: ConvertibleKind) => void, close: () => Promise<unknown> }} Services
  */
 
 /**
@@ -171,6 +177,12 @@ export class App extends Store {
     /** Checks a script on the open image after a change by another panel, which stays. The panel Script has the result when it is shown. */
     checkAfterChange() {
         if (this.script.patches > 0 || this.script.long !== null) this.notify('check');
+    }
+
+    /** Begins the correction of all damaged sectors from their own parity. Its result replaces the open sector. */
+    correctAll() {
+        this.goTo(-1);
+        this.notify('correct');
     }
 
     /** Ends the jobs with the second image. */

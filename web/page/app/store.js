@@ -1,9 +1,10 @@
-// The state of the page: the disc, the findings in it, the script, the second image, and the listeners for changes.
+// The state of the page: the disc, the findings in it, the script, and the second image.
 
 import { USUAL_ENCODING } from '../../core/encodings/views.js';
 import { newBytes } from '../../core/faults.js';
 import { RECORD_SIZE } from '../../core/module/index.js';
 import { addToRuns } from '../../core/sectors/views.js';
+import { Hub } from './hub.js';
 import { SurveyMarks } from './marks.js';
 import { ScriptLines } from './script_lines.js';
 
@@ -16,38 +17,30 @@ import { ScriptLines } from './script_lines.js';
 /** @typedef {import('../../core/sectors/survey.js').Survey} Survey */
 /** @typedef {import('../../core/tasks/inform.js').SurveyedTrack} SurveyedTrack */
 /** @typedef {import('../../core/encodings/encoding.js').Encoding} Encoding */
-/** @typedef {import('./state.js').Happening} Happening */
 /** @typedef {import('./state.js').Image} Image */
 /** @typedef {import('./state.js').PairJob} PairJob */
 /** @typedef {import('./state.js').PanelName} PanelName */
 /** @typedef {import('./state.js').Parts} Parts */
-/** @typedef {import('./state.js').Services} Services */
+/** @typedef {import('./state.js').PlainFile} PlainFile */
 /** @typedef {import('./state.js').Surveyed} Surveyed */
-/** @typedef {import('./state.js').Taker} Taker */
-/**
- * A job that runs: its name; the place of its bar, null without one; whether it saves an image, so that no image may be opened or closed;
- * whether leaving the page would lose what it saves; when it began, in milliseconds; how much is done, in percent; what ends it; and
- * whether its result is no longer needed.
- * @typedef {{ name: string, place: Element | null, saves: boolean, isLost: boolean, began: number, percent: number, signal: AbortSignal,
- *     cancel: () => void, isReplaced: boolean }} RunningJob
- */
-
 /** Milliseconds between the `survey` events while an image is read. */
 const TOLD_EVERY = 150;
 
 /** The state of the page. Only its methods change it, and they notify the listeners. */
-export class Store {
+export class Store extends Hub {
     /**
      * @param {Calls} calls of a module, for short work in the page's own thread
      * @param {Pool} pool of workers, for longer work
      * @param {Parts} parts to start workers that are not of the pool
      */
     constructor(calls, pool, parts) {
+        super();
         this.calls = calls;
         this.pool = pool;
         this.parts = parts;
         this.image = /** @type {Image | null} */ (null);
         this.second = /** @type {Image | null} */ (null);
+        this.plain = /** @type {PlainFile | null} */ (null);
         /** The repair from the second image, if it was determined. */
         this.repair = /** @type {Repair | null} */ (null);
         this.survey = /** @type {Surveyed | null} */ (null);
@@ -61,53 +54,14 @@ export class Store {
         /** @type {KnownDumps[]} the lists of known dumps that were opened */
         this.dumps = [];
         this.panel = /** @type {PanelName} */ ('disc');
-        /** @type {Map<string, ((detail: any) => void)[]>} */
-        this.listeners = new Map();
-        /** @type {Set<RunningJob>} */
-        this.jobs = new Set();
         /** Ends the reading of the open image. */
         this.reading = new AbortController();
         /** Ends the jobs with the open image, except its reading. */
         this.closing = new AbortController();
         /** Ends the jobs with the second image. */
         this.pairing = new AbortController();
-        /** @type {Services} */
-        this.services = { open: async () => {}, choose: () => {}, dropSays: () => [], turnBytes: () => null, saveScript: () => {},
-            list: () => {}, convert: () => {} };
-        this.takers = /** @type {Taker[]} */ ([]);
         /** The time of the last `survey` event, in milliseconds. */
         this.told = 0;
-    }
-
-    /**
-     * @param {Happening} name
-     * @param {(detail: any) => void} listener
-     */
-    on(name, listener) {
-        this.listeners.set(name, [...this.listeners.get(name) || [], listener]);
-    }
-
-    /**
-     * @param {Happening} name
-     * @param {unknown} [detail]
-     */
-    notify(name, detail) {
-        for (const listener of this.listeners.get(name) || []) listener(detail);
-    }
-
-    /**
-     * Replaces services. Returns a function that restores them.
-     * @param {Partial<Services>} services
-     */
-    serve(services) {
-        const before = this.services;
-        this.services = { ...before, ...services };
-        return () => { this.services = before; };
-    }
-
-    /** @param {Taker} taker is called with each file that is opened */
-    addTaker(taker) {
-        this.takers.push(taker);
     }
 
     /**
@@ -120,6 +74,7 @@ export class Store {
         this.reading = new AbortController();
         this.closing = new AbortController();
         this.image = image;
+        this.plain = null;
         this.second = null;
         this.repair = null;
         this.survey = null;
@@ -129,6 +84,18 @@ export class Store {
         this.notify('image');
         this.notify('second');
         return this.reading.signal;
+    }
+
+    /** @param {PlainFile} plain an ordinary file, which is open in place of an image */
+    openPlain(plain) {
+        this.setImage(null);
+        this.plain = plain;
+        this.notify('plain');
+    }
+
+    /** What is open: an image, or an ordinary file. */
+    get opened() {
+        return this.image || this.plain;
     }
 
     /**
@@ -192,52 +159,6 @@ export class Store {
         survey.over = true;
         this.notify('survey');
         if (isWhole) this.notify('surveyed');
-    }
-
-    /** How many images are being saved. Meanwhile no image is opened or closed. */
-    get saves() {
-        return [...this.jobs].filter(({ saves }) => saves).length;
-    }
-
-    /**
-     * The job whose bar is at a place; undefined if none runs there.
-     * @param {Element} place
-     */
-    jobAt(place) {
-        return [...this.jobs].find(job => job.place === place);
-    }
-
-    /**
-     * Notes that a job runs.
-     * @param {Pick<RunningJob, 'name'> & Partial<RunningJob>} job
-     */
-    beginJob(job) {
-        /** @type {RunningJob} */
-        const running = {
-            place: null, saves: false, isLost: false, began: performance.now(), percent: 0, signal: new AbortController().signal,
-            cancel() {}, isReplaced: false, ...job,
-        };
-        this.jobs.add(running);
-        this.notify('jobs');
-        return running;
-    }
-
-    /**
-     * @param {RunningJob} job
-     * @param {number} percent
-     * @param {string} [name] which may have changed with the language
-     */
-    noteJob(job, percent, name = job.name) {
-        job.percent = percent;
-        job.name = name;
-        this.notify('jobs');
-    }
-
-    /** @param {RunningJob | null} job */
-    endJob(job) {
-        if (job === null || !this.jobs.delete(job)) return;
-        this.notify('jobs');
-        if (job.saves && this.saves === 0) this.notify('saved');
     }
 
     /** @param {VolumeFiles | null} files */

@@ -2,7 +2,7 @@
 
 import * as texts from '../texts/index.js';
 import { format } from '../texts/index.js';
-import { button, element, fill } from '../ui/index.js';
+import { button, element, fill, setDisabled } from '../ui/index.js';
 import { placeName } from './hex_lines.js';
 
 /** @typedef {import('./hex_view.js').HexView} HexView */
@@ -37,7 +37,7 @@ export class ByteField {
         const place = placeName(shown, view.selection().first);
         fill(this.label, format(column === 'text' ? texts.sectorNewTextFrom : texts.sectorNewBytesFrom, { place }));
         const { done, undone } = this.edit.app.script;
-        this.undo.hidden = done[done.length - 1]?.typed !== 'bytes';
+        setDisabled(this.undo, done[done.length - 1]?.typed !== 'bytes'); // never hidden, or it would appear under the finger
         this.redo.hidden = undone[undone.length - 1]?.typed !== 'bytes';
     }
 

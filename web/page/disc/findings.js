@@ -1,4 +1,4 @@
-// The card under the map: findings grouped into places, files, runs of one kind, and the output of the program.
+// The card under the map: findings grouped into places, files, and details: runs of one kind, or the output of the program.
 
 import { auditText, kindRuns, listText } from '../../core/sectors/views.js';
 import { shiftInFile } from '../../core/tasks/index.js';
@@ -14,7 +14,11 @@ import { addressWords, findingAt } from './sector_text.js';
 /** @typedef {import('../app/state.js').App} App */
 /** @typedef {import('../app/state.js').Surveyed} Surveyed */
 /** @typedef {import('./places.js').Place} Place */
-/** @typedef {'findings' | 'files' | 'runs' | 'text'} FindingsTab */
+/** @typedef {'findings' | 'files' | 'details'} FindingsTab */
+/** @typedef {'runs' | 'audit' | 'list' | 'files'} Detail a table of runs, or the output of a command */
+
+/** The command that prints each detail as a text; `runs` are shown as a table, too. */
+const COMMANDS = { runs: 'cdpatch list', audit: 'cdpatch audit', list: 'cdpatch list', files: 'cdscript files' };
 
 const MOST_ROWS = 400;
 const MOST_TEXT_LINES = 3000;
@@ -31,18 +35,22 @@ export class Findings {
     constructor(app) {
         this.app = app;
         this.tab = /** @type {FindingsTab} */ ('findings');
-        this.text = /** @type {'audit' | 'list'} */ ('audit');
+        this.detail = /** @type {Detail} */ ('runs');
         /** @type {Set<number>} the first sectors of the places that are open */
         this.opened = new Set();
         this.tabs = element('div', { class: 'seg', role: 'tablist', 'aria-label': texts.discFindingsTabs });
         this.body = element('div', { class: 'scroll fit', id: 'findings-body', role: 'tabpanel' });
         this.foot = element('p', { class: 'foot' });
         this.files = new FilesList(app);
-        const tools = element('span', { class: 'row to-end' }, copyButton('slim bare', () => this.report(), texts.copy,
-            texts.discCopyReportWhat), button('slim bare', () => downloadText(this.report(), `${this.reportName()}.txt`),
-                texts.discSaveReport));
+        const choice = element('select', { class: 'slim', 'aria-label': texts.discWhichDetails,
+            change: ({ target }) => this.chooseDetail(target.value) },
+            ...Object.entries(COMMANDS).map(([name, command]) => element('option', { value: name }, name === 'runs'
+                ? texts.discRunsOfSectors : format(texts.discWhatProgramPrints, { command }))));
+        this.tools = element('div', { class: 'row pad details' }, choice, element('span', { class: 'row to-end' },
+            copyButton('slim bare', () => this.report(), texts.copy, texts.discCopyReportWhat),
+            button('slim bare', () => this.save(), texts.discSaveReport)));
         this.part = element('section', { class: 'card', id: 'findings', 'aria-label': texts.discFindingsCard },
-            element('header', {}, this.tabs, tools), this.files.tools, this.body, this.foot);
+            element('header', {}, this.tabs), this.files.tools, this.tools, this.body, this.foot);
         oneTabStop(this.tabs, '[role=tab]', tab => this.choose(/** @type {FindingsTab} */ (tab.dataset.tab)));
         oneTabStop(this.body, 'tbody button');
         this.body.addEventListener('click', event => this.clicked(/** @type {HTMLElement} */ (event.target)));
@@ -71,41 +79,41 @@ export class Findings {
         return this.tab === 'findings' && survey !== null && survey.marks.findings() === 0 ? 'files' : this.tab;
     }
 
-    reportName() {
-        const tab = this.shown();
-        if (tab === 'files') return 'files';
-        return tab === 'runs' || (tab === 'text' && this.text === 'list') ? 'list' : 'audit';
+    /** @param {Detail} detail */
+    chooseDetail(detail) {
+        this.detail = detail;
+        this.draw();
     }
 
-    /** The output of `cdpatch audit`, `cdpatch list`, or `cdscript files`. */
+    /** The output of the command of the chosen detail. */
     report() {
         const { survey, image, calls } = this.app;
         if (survey === null || image === null) return '';
-        if (this.shown() === 'files') return this.files.text();
-        const report = this.reportName() === 'list' ? listText : auditText;
+        if (this.detail === 'files') return this.files.text();
+        const report = this.detail === 'audit' ? auditText : listText;
         return new TextDecoder().decode(report(calls, survey, image.tail).text);
+    }
+
+    save() {
+        downloadText(this.report(), `${COMMANDS[this.detail].replace(/^.* /, '')}.txt`);
     }
 
     draw() {
         const { survey } = this.app;
         this.part.hidden = survey === null || survey.ended === 0 || survey.known === 0;
         if (survey === null || this.part.hidden) return;
-        const runs = [...kindRuns(survey)];
-        this.drawTabs(survey.marks.findings(), counted(runs.length));
+        this.drawTabs(survey.marks.findings());
         this.files.tools.hidden = this.shown() !== 'files';
-        const drawn = { findings: () => this.drawFindings(survey), files: () => this.drawFiles(), runs: () => this.drawRuns(runs),
-            text: () => this.drawText() };
+        this.tools.hidden = this.shown() !== 'details';
+        const drawn = { findings: () => this.drawFindings(survey), files: () => this.drawFiles(),
+            details: () => this.detail === 'runs' ? this.drawRuns([...kindRuns(survey)]) : this.drawText(this.detail) };
         drawn[this.shown()]();
     }
 
-    /**
-     * @param {number} findings
-     * @param {string} runs
-     */
-    drawTabs(findings, runs) {
+    /** @param {number} findings */
+    drawTabs(findings) {
         /** @type {[FindingsTab, string, string][]} */
-        const all = [['files', texts.discFilesTab, this.files.count()], ['runs', texts.discRunsTab, runs], ['text', texts.discAsTextTab,
-            '']];
+        const all = [['files', texts.discFilesTab, this.files.count()], ['details', texts.discDetailsTab, '']];
         if (findings > 0) all.unshift(['findings', texts.discFindingsTab, counted(findings)]);
         const [shown] = all.filter(([name]) => name === this.shown());
         setAttribute(this.body, 'aria-label', shown[1]);
@@ -127,7 +135,7 @@ export class Findings {
 
     /**
      * Shows a table with a label. If it was already shown, the focus or a press in it is not interrupted.
-     * @param {FindingsTab} name
+     * @param {string} name
      * @param {string} label
      * @param {HTMLElement} head
      * @param {HTMLElement[]} rows
@@ -203,7 +211,7 @@ export class Findings {
             element('td', { class: 'n', 'data-l': texts.discSectorsLabel }, counted(last - first + 1)),
             element('td', {}, ...this.kindWords(first, kind)),
             element('td', { class: 'num', 'data-l': texts.discBeginsAtLabel }, addressWords(this.app, first))));
-        this.fillTable('runs', texts.discRunsTab, head, rows);
+        this.fillTable('runs', texts.discRunsOfSectors, head, rows);
         const left = runs.length - rows.length;
         fill(this.foot, element('span', {}, left > 0 && `${format(texts.discMoreRuns, { n: left })} `, texts.discRunIsNeighbours));
     }
@@ -220,22 +228,21 @@ export class Findings {
         return [dotOf(colour), name];
     }
 
-    drawText() {
-        const choice = element('select', { class: 'slim', 'aria-label': texts.discWhichText },
-            ...['audit', 'list'].map(name => element('option', { value: name, selected: name === this.text }, `cdpatch ${name}`)));
-        choice.addEventListener('change', () => {
-            this.text = choice.value === 'list' ? 'list' : 'audit';
-            this.draw();
-        });
-        const lines = this.report().split('\n');
+    /** @param {'audit' | 'list' | 'files'} detail */
+    drawText(detail) {
+        const text = this.report();
+        const lines = text.split('\n');
         const shown = lines.slice(0, MOST_TEXT_LINES).join('\n');
         const more = lines.length - 1 - MOST_TEXT_LINES;
-        const label = format(texts.discWhatProgramPrints, { verb: this.text });
-        fill(this.body, element('pre', { class: 'report', tabindex: 0, 'aria-label': label }, shown,
+        const command = COMMANDS[detail];
+        const label = format(texts.discWhatProgramPrints, { command });
+        fill(this.body, element('pre', { class: 'report', tabindex: 0, 'aria-label': label },
+            text === '' && detail === 'files' ? this.files.noneText() : shown,
             more > 0 && `\n${format(texts.discMoreLinesPrinted, { n: more })}`));
         const { survey } = this.app;
-        const isExact = this.text === 'list' || survey === null || survey.tracks.every(track => shiftInFile(track, survey.block) === 0);
-        fill(this.foot, choice, element('span', {}, isExact ? texts.discPrintedToTheByte : texts.discPrintedButForAddresses));
+        const isExact = detail !== 'audit' || survey === null || survey.tracks.every(track => shiftInFile(track, survey.block) === 0);
+        fill(this.foot, element('span', {}, isExact ? format(texts.discPrintedToTheByte, { command })
+            : texts.discPrintedButForAddresses));
     }
 
     /** @param {HTMLElement} target in a row; a click anywhere in it acts like a click on its button */

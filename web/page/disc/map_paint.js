@@ -13,7 +13,7 @@ import { styleValue } from '../ui/index.js';
 export const SHADE = '--k-shade';
 const SHADED = 15;
 
-const LARGEST_CELL = 22;
+const LARGEST_CELL = 14;
 const HIGHEST_OF_CELLS = 280;
 const HIGHEST = 520;
 const PART_OF_WINDOW = 0.62;

@@ -6,6 +6,7 @@ import { SecondCard } from '../second/index.js';
 import * as texts from '../texts/index.js';
 import { format } from '../texts/index.js';
 import { button, element, fill, shownName } from '../ui/index.js';
+import { CorrectCard } from './correct_card.js';
 import { Findings } from './findings.js';
 import { mountDumps } from './known_dumps.js';
 import { Legend } from './legend.js';
@@ -28,6 +29,7 @@ export function mountDisc(app, panel) {
     app.on('image', () => disc.begin());
     app.on('place', ({ show, wasHidden }) => disc.drawPlace(show, wasHidden));
     app.on('second', job => disc.second.begin(job));
+    app.on('correct', () => disc.closeSector());
     mountDumps(app);
 }
 
@@ -48,12 +50,14 @@ class DiscPanel {
         this.steps = element('span', { class: 'row' }, button('slim', () => this.map.chooseFinding(-1), texts.discToPreviousFinding),
             button('slim', () => this.map.chooseFinding(1), texts.discToNextFinding));
         this.below = button('slim below', () => this.sector.scrollTo(), texts.discOpenSector);
-        const header = element('header', {}, element('h2', { id: 'map-title' }, texts.discMapOfDisc), this.map.per, this.legend.only);
-        this.card = element('section', { class: 'card', 'aria-labelledby': 'map-title' }, header, this.legend.part, this.map.part,
+        const header = element('header', {}, element('h2', { id: 'map-title' }, texts.discMapOfDisc), this.legend.only);
+        this.card = element('section', { class: 'card', 'aria-labelledby': 'map-title' }, header,
+            element('div', { class: 'legend-row' }, this.legend.part, this.map.per), this.map.part,
             element('div', { class: 'readout' }, this.words, this.steps, this.below));
         this.left = element('div', { class: 'side' }, this.card, this.findings.part);
         this.second = new SecondCard(app, () => this.drawMap());
-        this.right = element('div', { class: 'side' }, this.second.part, this.sector.part);
+        this.correct = new CorrectCard(app, () => this.drawMap());
+        this.right = element('div', { class: 'side' }, this.second.part, this.correct.part, this.sector.part);
         this.part = element('div', { class: 'disc-grid' }, this.left, this.right);
     }
 
@@ -78,6 +82,11 @@ class DiscPanel {
         if (first && place.block < 0 && second === null && survey.marks.findings() === 0) this.app.goTo(first.block);
     }
 
+    closeSector() {
+        this.sector.close();
+        this.drawMap();
+    }
+
     drawMap() {
         const { survey } = this.app;
         if (survey === null) return;
@@ -86,12 +95,13 @@ class DiscPanel {
         this.map.show(model, alone);
         this.map.per.hidden = alone >= 0;
         const isAsked = this.sector.part.contains(document.activeElement); // the user may type a block while a second image is read
-        this.sector.part.hidden = this.app.second !== null && this.app.place.block < 0 && !isAsked;
+        const isBelowOthers = this.app.second !== null || !this.correct.part.hidden;
+        this.sector.part.hidden = isBelowOthers && this.app.place.block < 0 && !isAsked;
         this.drawReadout();
     }
 
     /**
-     * @param {boolean} wanted whether the place is scrolled to
+     * @param {boolean} wanted whether the place is scrolled to. From a list of the panel, the focus does not follow.
      * @param {boolean} wasHidden whether the panel was hidden before, so that the focus was elsewhere
      */
     drawPlace(wanted, wasHidden) {
@@ -101,7 +111,7 @@ class DiscPanel {
         this.sector.part.hidden = false;
         this.findings.drawPlace();
         this.sector.draw(true, wanted);
-        if (wasHidden) this.sector.focus();
+        if (wasHidden || (wanted && !this.part.contains(document.activeElement))) this.sector.focus();
         this.drawReadout();
     }
 

@@ -7,7 +7,7 @@ import { sectorOfSecond } from '../second/index.js';
 import { bindEncodings, chosenEncoding, encodingLabel } from '../text/index.js';
 import * as texts from '../texts/index.js';
 import { format, say } from '../texts/index.js';
-import { button, copyButton, element, fill, keysIn, nameOf, oneTabStop, showFailure, spokenLine, term } from '../ui/index.js';
+import { element, fill, moreButton, nameOf, oneTabStop, showFailure, spokenLine, term } from '../ui/index.js';
 import { ByteField } from './byte_field.js';
 import { crossingsOf } from './crossings.js';
 import { USER_END, byteWords, digitsOf, placeName } from './hex_lines.js';
@@ -43,13 +43,12 @@ export class SectorCard {
         this.title = element('h2', { id: 'sector-title' });
         this.message = element('div');
         this.fields = element('div', { class: 'fields', role: 'group', 'aria-label': texts.sectorPressFieldToGo });
-        this.keys = element('p', { class: 'small quiet keys-line if-mouse' });
         this.goTo = element('input', { type: 'text', id: 'go-to', class: 'num slim', inputmode: 'numeric', autocomplete: 'off' });
         this.noBlock = element('div');
         this.choice = element('select', { class: 'slim' });
         bindEncodings(app, this.choice, ({ hasCharacters }) => hasCharacters);
-        this.body = element('div', {}, this.message, this.fields, this.keys, this.view.part, this.copies(), this.field.part, this.foot,
-            this.spoken.part);
+        const fields = element('details', { class: 'fields-box' }, element('summary', {}, texts.sectorFields), this.fields);
+        this.body = element('div', {}, this.message, fields, this.view.part, this.field.part, this.foot, this.spoken.part);
         this.empty = element('p', { class: 'pad quiet' }, ...say(texts.sectorHowToOpenSector,
             { tab: element('kbd', {}, texts.sectorTabKey), enter: element('kbd', {}, texts.sectorEnterKey) }));
         this.part = element('section', { class: 'card', 'aria-labelledby': 'sector-title' },
@@ -62,23 +61,24 @@ export class SectorCard {
         this.close();
     }
 
-    /** The buttons that copy the selected bytes. */
-    copies() {
-        return element('div', { class: 'row copies' },
-            copyButton('slim bare tiny', () => this.edit.selectedHex(), texts.sectorCopyAsHex),
-            copyButton('slim bare tiny', () => this.edit.selectedText(), texts.sectorCopyAsText));
+    /**
+     * The further actions: how offsets are shown, and copies of the selected bytes.
+     * @returns {(import('../ui/menu.js').MenuItem | false)[]}
+     */
+    actions() {
+        const { edit, view } = this;
+        const isOpen = !this.body.hidden;
+        return [{ label: texts.sectorOffsetsHexadecimal, checked: view.hexadecimal, press: () => view.setOffsets(!view.hexadecimal) },
+            isOpen && { label: texts.sectorCopyAsHex, copies: () => edit.selectedHex() },
+            isOpen && { label: texts.sectorCopyAsText, copies: () => edit.selectedText() }];
     }
 
-    /** The row of tools: a field to go to a block, and choices of how bytes and offsets are shown. */
+    /** The row of tools: a field to go to a block, the encoding of the bytes, and further actions. */
     tools() {
         const form = element('form', { submit: (/** @type {Event} */ event) => this.goToBlock(event) },
             element('label', { class: 'row small' }, texts.sectorGoToBlock, this.goTo));
-        const offsets = button('slim bare', () => {
-            this.view.setOffsets(!this.view.hexadecimal);
-            fill(offsets, this.view.hexadecimal ? texts.sectorOffsetsDecimal : texts.sectorOffsetsHexadecimal);
-        }, texts.sectorOffsetsHexadecimal);
         const encoding = element('label', { class: 'row small' }, texts.sectorEncodingOfBytes, this.choice);
-        return element('div', { class: 'row' }, form, encoding, offsets);
+        return element('div', { class: 'row' }, form, encoding, moreButton('slim', 'sector', texts.sectorMore, () => this.actions()));
     }
 
     /** Moves the focus to the bytes, now or as soon as they are shown. */
@@ -100,10 +100,15 @@ export class SectorCard {
         this.goTo.select();
     }
 
+    /** Scrolls to this card, to its heading if the card is higher than the window. */
+    reveal() {
+        this.part.scrollIntoView({ block: this.part.offsetHeight > window.innerHeight ? 'start' : 'nearest' });
+    }
+
     takeFocus() {
         this.wantsFocus = false;
-        this.view.hex.focus();
-        this.part.scrollIntoView({ block: 'nearest' });
+        this.view.hex.focus({ preventScroll: true });
+        this.reveal();
     }
 
     close() {
@@ -135,7 +140,7 @@ export class SectorCard {
             const other = await sectorOfSecond(app, place.block);
             if (number !== this.number || image !== app.image) return undefined;
             this.show(old, fresh, other, moved);
-            if (wanted) this.part.scrollIntoView({ block: 'nearest' });
+            if (wanted) this.reveal();
             this.drawn = number;
             if (this.wantsFocus) this.takeFocus();
         } catch (error) {
@@ -179,7 +184,8 @@ export class SectorCard {
 
     /** @param {Field[]} fields */
     drawFields(fields) {
-        const bytes = element('span', { class: 'small quiet' }, texts.discBytesColumn);
+        // Of a sector without fields, the only button is called "bytes" itself.
+        const bytes = fields.length > 1 && element('span', { class: 'small quiet' }, texts.discBytesColumn);
         fill(this.fields, bytes, ...fields.map(({ name, label, from, to }) => element('button', {
             type: 'button', class: `x-${name}`, click: () => {
                 this.view.moveTo(from);
@@ -205,22 +211,15 @@ export class SectorCard {
         if (shown.other !== null && shown.other[at] !== shown.old[at]) {
             parts.push(element('b', {}, format(texts.sectorInSecondImage, { digits: digitsOf(shown.other[at]) })));
         }
-        this.drawKeys(isUser);
         this.field.draw(view, isUser);
         const unchanged = shown.mode1 ? texts.sectorEdcFollowsFromData : texts.sectorOnlyModeOneChanges;
         const hint = isUser ? `${texts.sectorChangeIsLine}${this.damageHint()}` : unchanged;
-        fill(this.foot, fault !== '' && element('b', { class: 'bad-ink' }, fault), ...parts, element('span', {}, hint));
+        fill(this.foot, this.copied !== '' && element('b', { class: 'good-ink' }, this.copied),
+            fault !== '' && element('b', { class: 'bad-ink' }, fault), ...parts, element('span', {}, hint));
         this.spoken.changed();
     }
 
-    /** @param {boolean} isUser whether the chosen byte can be typed over */
-    drawKeys(isUser) {
-        const keys = this.view.column === 'text' ? texts.sectorKeysOfTexts : texts.sectorKeysOfDigits;
-        fill(this.keys, ...this.copied !== '' ? [element('b', { class: 'good-ink' }, this.copied)]
-            : keysIn(isUser ? keys : texts.sectorKeysOfOthers));
-    }
-
-    /** Shows over the bytes that they were copied by a key. */
+    /** Shows under the bytes that they were copied by a key. */
     sayCopied() {
         const { first, end } = this.view.selection();
         this.copied = format(texts.sectorBytesCopied, { n: end - first });

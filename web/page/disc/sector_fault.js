@@ -1,18 +1,21 @@
 // The fault of a sector in words: first the program's line, then what it means.
 
-import { RECORD, SECTOR_KIND, SECTOR_SIZE, USER_SIZE } from '../../core/module/index.js';
+import { RECORD, SECTOR_KIND, SECTOR_SIZE } from '../../core/module/index.js';
 import { firstLinesOf, lineText } from '../../core/script/views.js';
-import { USER_OFFSET, addressIn, addressText, isDamagedMode2, isSoundMode2, surveyRange } from '../../core/sectors/views.js';
+import { addressIn, addressText, isDamagedMode2, isSoundMode2, surveyRange } from '../../core/sectors/views.js';
+import { correctionOf } from '../../core/tasks/index.js';
 import { MARK, mode2Verdict } from '../app/index.js';
 import { repairOf } from '../second/index.js';
 import * as texts from '../texts/index.js';
 import { format, say } from '../texts/index.js';
 import { announce, button, element, hexOf, keyed, nameOf, setDisabled, term } from '../ui/index.js';
+import { correctionOffer, correctionWords } from './correction.js';
 import { byteOfCodes } from './crossings.js';
-import { addressWords, shiftOfSector } from './sector_text.js';
+import { addressWords, placeText, placeWords, shiftOfSector } from './sector_text.js';
 
 /** @typedef {import('../app/state.js').App} App */
 /** @typedef {import('../ui/fill.js').Child} Child */
+/** @typedef {import('../../core/tasks/correct.js').Correction} Correction */
 /** @typedef {ReturnType<typeof import('./crossings.js').crossingsOf>} Crossings */
 
 /**
@@ -28,18 +31,17 @@ export function sectorFault(app, block, sector, found) {
     const line = new TextDecoder().decode(app.calls.auditLine(block, record)).trimEnd();
     const [edc, zeros, parity] = [record[RECORD.EDC] > 0, record[RECORD.ZEROS] > 0, record[RECORD.P] + record[RECORD.Q] > 0];
     if (!edc && !zeros && !parity) return line === '' ? soundSector() : elsewhere(app, block, sector, line);
-    const hint = byteOfCodes(app.calls, sector, found);
+    const correction = correctionOf(app.calls, block, sector);
     const sentences = [
         edc && say(texts.sectorEdcDoesNotFit, { edc: term('edc', texts.sectorEdcField) }),
         zeros && [texts.sectorZerosDoNotFit],
-        parity && crossingWords(found, edc),
-        edc && hint !== null && say(texts.sectorByteOfCodes, { place: placeWords(hint.at), fresh: hexOf(Uint8Array.of(hint.fresh)),
-            old: hexOf(sector.subarray(hint.at, hint.at + 1)) }),
+        parity && crossingWords(found, edc, correction === null),
+        correction === null && edc && hintWords(app, sector, found),
         record[RECORD.ADDRESS] > 0 && say(texts.sectorHeaderHasOtherAddress, { address: addressText(addressIn(sector, 0)) }),
     ].flatMap(it => it ? [...it, ' '] : []);
     return keyed(`damage of ${block}`, element('div', { class: `say ${edc ? 'bad' : 'warn'} thin` },
         element('b', {}, ...say(edc ? texts.sectorDataAreDamaged : texts.sectorOtherBytesDamaged, { line: mono(line) })),
-        ...sentences, ...remedies(app, block)));
+        ...sentences, correction && correctionWords(correction), ...remedies(app, block, correction)));
 }
 
 /** @param {string} text of the program or of a script */
@@ -48,48 +50,68 @@ function mono(text) {
 }
 
 /**
- * Where bytes of a sector are, in words.
- * @param {number} first
- * @param {number} [last]
- * @returns {Child[]}
- */
-function placeWords(first, last = first) {
-    const isUser = first >= USER_OFFSET && last < USER_OFFSET + USER_SIZE;
-    const [from, to] = [first, last].map(at => String(isUser ? at - USER_OFFSET : at));
-    const at = last > first ? format(texts.sectorBytesFromTo, { first: from, last: to }) : from;
-    return isUser ? say(texts.sectorOffsetIs, { offset: term('offset', texts.sectorOffsetWord), at })
-        : [format(texts.sectorByteOfSector, { at })];
-}
-
-/**
  * @param {Crossings} found
  * @param {boolean} either whether the EDC does not match, too
+ * @param {boolean} explained whether `offset` is explained, which is a Tab stop
  * @returns {Child[]}
  */
-function crossingWords({ crossings, ...counts }, either) {
+function crossingWords({ crossings, ...counts }, either, explained) {
     const codes = format(either ? texts.sectorCodesDoNotFitEither : texts.sectorCodesDoNotFit, counts);
     const count = crossings.length;
     if (count === 0) return say(texts.sectorTheyCrossNowhere, { codes });
-    const place = placeWords(crossings[0], crossings[count - 1]);
+    const place = (explained ? placeWords : placeText)(crossings[0], crossings[count - 1]);
     return count > 1 ? say(texts.sectorTheyCross, { codes, count: String(count), place }) : say(texts.sectorTheyCrossOnce, { codes,
         place });
 }
 
 /**
- * The remedies for a damaged sector.
+ * The byte that P and Q give for a sector that is not corrected. It is in the header or in the EDC field.
+ * @param {App} app
+ * @param {Uint8Array} sector
+ * @param {Crossings} found
+ * @returns {Child[] | null}
+ */
+function hintWords(app, sector, found) {
+    const hint = byteOfCodes(app.calls, sector, found);
+    if (hint === null) return null;
+    const [fresh, old] = [Uint8Array.of(hint.fresh), sector.subarray(hint.at, hint.at + 1)].map(hexOf);
+    return [...say(texts.sectorByteOfCodes, { place: placeWords(hint.at), fresh, old }), ' ', texts.sectorNeverCorrected];
+}
+
+/**
+ * The remedies for a damaged sector. A rebuild destroys the EDC that would confirm a correction, so it comes last.
+ * @param {App} app
+ * @param {number} block
+ * @param {Correction | null} correction
+ */
+function remedies(app, block, correction) {
+    const copies = repairOf(app, block);
+    if (copies === 'taken') return [soundCopy(app, copies)];
+    const offer = correction && correctionOffer(app, block, correction);
+    const own = offer === null ? [] : offer.buttons;
+    const note = offer && offer.note;
+    const row = (/** @type {HTMLElement[]} */ ...others) => element('div', { class: 'row' }, ...own, ...others);
+    if (copies === 'doubtful') return [soundCopy(app, copies), offer !== null && row(), note];
+    const repair = offer === null || app.second !== null ? [repairButton(app, offer === null)] : []; // else it is only over the panel
+    const second = noCopy(app, copies, offer !== null);
+    if (offer !== null && offer.isInScript) return [second, row(...repair), note];
+    const rebuild = rebuildOffer(app, block);
+    return [second, row(...repair, rebuild.button), note, ...rebuild.words];
+}
+
+/**
+ * The button that adds a rebuild of a sector, and what a rebuild does.
  * @param {App} app
  * @param {number} block
  */
-function remedies(app, block) {
-    const copies = repairOf(app, block);
-    if (copies === 'taken' || copies === 'doubtful') return [soundCopy(app, copies)];
+function rebuildOffer(app, block) {
     const message = rebuildWords(app, block);
     const verb = () => ({ verb: mono('rebuild') });
     const rebuild = button('slim', () => addRebuild(app, block),
         element('span', {}, ...say(message === '' ? texts.sectorAddToScript : texts.sectorIsInScript, verb())));
     setDisabled(rebuild, message !== '');
-    return [noCopy(app, copies), element('div', { class: 'row' }, repairButton(app), rebuild), message !== '' && element('p', {}, message),
-        element('p', { class: 'small quiet' }, ...say(texts.sectorRebuildHidesDamage, verb()))];
+    return { button: rebuild, words: [message !== '' && element('p', {}, message),
+        element('p', { class: 'small quiet' }, ...say(texts.sectorRebuildHidesDamage, verb()))] };
 }
 
 /**
@@ -105,22 +127,27 @@ function soundCopy({ second }, copies) {
 }
 
 /**
+ * The message that a repair from the second image leaves a sector as it is.
  * @param {App} app
  * @param {ReturnType<typeof repairOf>} copies
+ * @param {boolean} [hasCorrection] whether its own parity can correct it
  */
-function noCopy({ second }, copies) {
-    return copies === 'none' && second !== null && element('p', {}, ...say(texts.sectorHasNoSoundCopy, { name: nameOf(second.name) }), ' ');
+function noCopy({ second }, copies, hasCorrection = false) {
+    return copies === 'none' && second !== null && element('p', {}, ...say(texts.sectorHasNoSoundCopy, { name: nameOf(second.name) }), ' ',
+        hasCorrection && `${texts.sectorParityCanCorrect} `);
 }
 
 /**
  * The button for a repair: from the second image, if it is only compared with so far, else from an image to be chosen.
  * @param {App} app
+ * @param {boolean} [isMain] whether it is the main one
  */
-function repairButton(app) {
+function repairButton(app, isMain = true) {
     const { second, repair } = app;
-    if (second === null || repair !== null) return button('slim main', () => app.choose('repair'), texts.imageRepairFromOther);
+    const looks = isMain ? 'slim main' : 'slim';
+    if (second === null || repair !== null) return button(looks, () => app.choose('repair'), texts.imageRepairFromOther);
     const words = say(texts.sectorRepairFrom, { name: nameOf(second.name) });
-    return button('slim main', () => app.setSecond(second, 'repair'), element('span', {}, ...words));
+    return button(looks, () => app.setSecond(second, 'repair'), element('span', {}, ...words));
 }
 
 /**

@@ -1,15 +1,17 @@
 // Describes a sector in words: its kind, and its finding as the program prints it.
 
-import { RECORD, RECORD_SIZE } from '../../core/module/index.js';
-import { addressOf, addressText, findingOf } from '../../core/sectors/views.js';
+import { RECORD, RECORD_SIZE, USER_SIZE } from '../../core/module/index.js';
+import { USER_OFFSET, addressOf, addressText, findingOf } from '../../core/sectors/views.js';
 import { shiftAt } from '../../core/tasks/index.js';
 import { MARK, lookOfKind, mode2Finding } from '../app/index.js';
 import * as texts from '../texts/index.js';
-import { format } from '../texts/index.js';
+import { format, say } from '../texts/index.js';
+import { term } from '../ui/index.js';
 
 /** @typedef {import('../../core/module/calls.js').Calls} Calls */
 /** @typedef {import('../app/state.js').App} App */
 /** @typedef {import('../app/state.js').Surveyed} Surveyed */
+/** @typedef {import('../ui/fill.js').Child} Child */
 
 /**
  * The finding in a sector, or '': for Mode 1 the text that `cdpatch audit` prints after its block.
@@ -55,4 +57,36 @@ export function shiftOfSector({ survey }, block) {
 export function addressWords(app, block) {
     const address = addressOf(app.calls, block + shiftOfSector(app, block));
     return address === null ? '' : addressText(address);
+}
+
+/**
+ * Where bytes of a sector are, in words, with an explanation of `offset`.
+ * @param {number} first
+ * @param {number} [last]
+ * @returns {Child[]}
+ */
+export function placeWords(first, last = first) {
+    return placeParts(first, last, term('offset', texts.sectorOffsetWord));
+}
+
+/**
+ * Where bytes of a sector are, in a text.
+ * @param {number} first
+ * @param {number} [last]
+ */
+export function placeText(first, last = first) {
+    return placeParts(first, last, texts.sectorOffsetWord).join('');
+}
+
+/**
+ * @param {number} first
+ * @param {number} last
+ * @param {Child} offset the word
+ * @returns {Child[]}
+ */
+function placeParts(first, last, offset) {
+    const isUser = first >= USER_OFFSET && last < USER_OFFSET + USER_SIZE;
+    const [from, to] = [first, last].map(at => String(isUser ? at - USER_OFFSET : at));
+    const at = last > first ? format(texts.sectorBytesFromTo, { first: from, last: to }) : from;
+    return isUser ? say(texts.sectorOffsetIs, { offset, at }) : [format(texts.sectorByteOfSector, { at })];
 }

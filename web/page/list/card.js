@@ -10,8 +10,8 @@ import { unlessEnded } from '../open/index.js';
 import { downloadBytes } from '../save/index.js';
 import * as texts from '../texts/index.js';
 import { format, playerTexts, remarkText } from '../texts/index.js';
-import { announce, button, byId, capital, copyButton, countsRow, element, endMessages, fill, focusAgain, hashParts } from '../ui/index.js';
-import { isCancelled, nameOf, notice, oneTabStop, sentence } from '../ui/index.js';
+import { announce, button, byId, capital, countsRow, crossButton, element, endMessages, fill, focusAgain } from '../ui/index.js';
+import { hashParts, isCancelled, moreButton, nameOf, notice, oneTabStop, sentence } from '../ui/index.js';
 import { examineFiles } from './examine.js';
 
 /** @typedef {import('../app/state.js').App} App */
@@ -20,12 +20,21 @@ import { examineFiles } from './examine.js';
 /** The name of the file in which a list is saved. */
 const SAVED_AS = 'list.tsv';
 
-/** The columns with numbers, and their labels. */
-const NUMBERS = [
-    { column: COLUMN.DAMAGED, label: texts.discIsDamaged },
-    { column: COLUMN.FINDINGS, label: texts.listFindings },
-    { column: COLUMN.ELSEWHERE, label: texts.otherAddress },
-];
+/**
+ * The tag of each kind of finding, and its tone: some do not show damage.
+ * @type {Record<import('../../core/tasks/verdict.js').FindingCode, [`${string}{n}${string}`, 'bad' | 'warn']>}
+ */
+const TAGS = {
+    damaged: [texts.listDamaged, 'bad'],
+    lost: [texts.listLost, 'bad'],
+    short: [texts.listShort, 'bad'],
+    cut: [texts.listCut, 'bad'],
+    gap: [texts.listGap, 'bad'],
+    missing: [texts.listMissing, 'bad'],
+    untested: [texts.listUntestedSectors, 'warn'],
+    unread: [texts.listUnread, 'warn'],
+    address: [texts.listAddress, 'warn'],
+};
 
 /** The list of files, which is shown with the panel Disc until it is closed. */
 class FileList {
@@ -39,14 +48,15 @@ class FileList {
         this.counts = element('div');
         this.rows = element('tbody');
         const head = element('tr', {}, element('th', {}, texts.textColumnFile), element('th', {}, capital(texts.discSectorsLabel)),
-            ...NUMBERS.map(({ label }) => element('th', { class: 'n' }, capital(label))), element('th', {}, 'SHA-1'),
-            element('th', {}, 'DAT'));
+            element('th', {}, texts.listFindings), element('th', {}, 'SHA-1'), element('th', {}, 'DAT'));
         const table = element('div', { class: 'scroll fit' },
             element('table', { 'aria-label': texts.listTitle }, element('thead', {}, head), this.rows));
         oneTabStop(table, 'tbody button');
         fill(this.part, element('header', {}, element('h2', {}, texts.listTitle),
-            copyButton('slim bare', () => this.text(), texts.textCopyAsTable), button('slim', () => this.save(), texts.listSave),
-            button('slim bare away', () => this.close(), playerTexts.close)),
+            button('slim', () => app.choose(''), texts.listOpenMore),
+            moreButton('slim', 'list', texts.listMore, () => [{ label: texts.textCopyAsTable, copies: () => this.text() },
+                { label: texts.listSave, press: () => this.save() }]),
+            crossButton(playerTexts.close, () => this.close())),
         element('div', { class: 'pad stack' }, this.job, this.counts), table);
         app.on('dumps', () => this.draw());
         app.on('panel', () => this.show());
@@ -101,15 +111,18 @@ class FileList {
     }
 
     /**
-     * Examines files, and lists them in place of earlier ones.
+     * Examines files, and lists them with earlier ones, in place of those of the same name.
      * @param {File[]} files
      */
     async examine(files) {
         const all = files.reduce((sum, { size }) => sum + size, 0);
-        const words = () => format(texts.listExamined, { done: this.done(), n: files.length });
+        const names = new Set(files.map(({ name }) => name));
+        const earlier = this.found.filter(({ name }) => !names.has(name));
+        const count = files.length + new Set(earlier.map(({ name }) => name)).size;
+        const words = () => format(texts.listExamined, { done: this.done(), n: count });
         await jobAt(this.app, this.job, {
             name: texts.listExamining, replaces: true, run: (bar, signal) => {
-                this.found = [];
+                this.found = earlier;
                 this.draw();
                 this.app.showPanel('disc');
                 this.part.scrollIntoView({ block: 'nearest' });
@@ -160,19 +173,29 @@ class FileList {
         const open = element('button', { type: 'button', class: 'plain-link', title: texts.listOpenIt, click: () => this.app.open(files) },
             nameOf(name));
         if (summary === null) {
-            return element('tr', {}, element('td', {}, nameOf(name)), element('td', { class: 'wide bad-ink', colspan: 6 }, fault));
+            return element('tr', {}, element('td', {}, nameOf(name)), element('td', { class: 'wide bad-ink', colspan: 4 }, fault));
         }
-        const { kind, size, hashes } = summary;
-        const columns = this.columns(summary, null);
-        const kinds = columns[COLUMN.KINDS];
+        const { kind, size, hashes, verdict } = summary;
+        const kinds = this.columns(summary, null)[COLUMN.KINDS];
         const what = kind === 'image' ? [element('td', {}, open), element('td', { class: 'report' }, kinds.replace(/,/g, ', '))]
             : [element('td', {}, nameOf(name)), element('td', {}, remarkText({ code: 'kind/what', facts: { kind } }))];
         return element('tr', {}, ...what,
-            ...NUMBERS.map(({ column, label }) => element('td', { class: `n ${Number(columns[column]) > 0 ? 'bad-ink' : ''}`.trim(),
-                'data-l': label }, columns[column])),
+            element('td', {}, ...findingTags(verdict)),
             element('td', { class: 'mono small wide' }, ...hashParts(hashes.sha1)),
             element('td', {}, dumpWords(this.app, { name, reader: { size }, ...hashes })));
     }
+}
+
+/**
+ * A tag for each kind of finding in a file.
+ * @param {import('../../core/tasks/verdict.js').Verdict} verdict
+ */
+function findingTags({ level, findings }) {
+    if (findings.length === 0) return [level === 'sound' ? texts.listNone : '–'];
+    return findings.flatMap(({ code, count }) => {
+        const [words, tone] = TAGS[code];
+        return [element('span', { class: `tag ${tone}` }, format(words, { n: count })), ' '];
+    });
 }
 
 /**

@@ -6,7 +6,7 @@ import { encodingOf, textOfFile } from '../../core/encodings/views.js';
 import { Fault, failedBy } from '../../core/faults.js';
 import { MOST_SCRIPT_BYTES, SECTOR_KIND, SECTOR_SIZE, sectorCount } from '../../core/module/index.js';
 import { isMeantAsScript, isScript, modelInParts } from '../../core/script/views.js';
-import { OpenedTrack, isConvertible, openTrack } from '../../core/tasks/index.js';
+import { OpenedTrack, isConvertible, openPlainFile, openTrack } from '../../core/tasks/index.js';
 import { isLong } from '../app/index.js';
 import * as texts from '../texts/index.js';
 import { format, playerTexts, say } from '../texts/index.js';
@@ -20,12 +20,16 @@ import { discsAmong } from './several.js';
 import { readImage } from './survey_image.js';
 
 /** @typedef {import('../../core/disc/disc.js').Disc} Disc */
+/** @typedef {import('../../core/disc/disc.js').DiscFile} DiscFile */
 /** @typedef {import('../../core/disc/disc.js').KnownFile} KnownFile */
 /** @typedef {import('../app/state.js').Aim} Aim */
 /** @typedef {import('../app/state.js').App} App */
 /** @typedef {import('../app/state.js').Image} Image */
 
 const SCRIPT_START = 1 << 16;
+
+/** The kinds of files that may be those of a game. */
+const PLAIN = ['unknown', 'text'];
 
 /** @typedef {import('../app/state.js').Taken} Taken */
 /** @typedef {Taken & { name: string }} Waiting a file whose use waits for an image */
@@ -80,7 +84,7 @@ async function openFiles(app, files, aim, waiting) {
  * @param {Waiting[]} waiting
  */
 async function useWaiting(app, waiting) {
-    const ready = waiting.filter(it => app.image !== null || !it.needsImage);
+    const ready = waiting.filter(it => app.opened !== null || !it.needsImage);
     for (const it of ready) {
         waiting.splice(waiting.indexOf(it), 1);
         await it.use();
@@ -175,6 +179,7 @@ const NOTHING = { sheet: /** @type {Image | null} */ (null), second: /** @type {
 async function openImages(app, files, known) {
     const names = files.map(file => file.name);
     if (refuseWhileSaving(app, names)) return NOTHING;
+    if (app.plain !== null) throw new Fault('disc/own', { sentence: format(texts.openPlainIsOpen, { name: app.plain.name }) });
     const different = new Set(names.map(name => name.toLowerCase())).size;
     if (different < names.length) throw new Fault('disc/own', { sentence: texts.openSameName });
     const { areMany, areTwo: two } = discsAmong(known);
@@ -250,8 +255,30 @@ function showOpeningFailure(app, files, known, error) {
         return showNotice('bad', say(texts.openCompressedImage, { name: nameOf(name) }), texts.openMakeRawImage, ...commandFor(name));
     }
     if (failedBy(error, 'disc/missing-files')) return showFailure(error);
-    const names = [...files.map(file => file.name), app.image ? app.image.name : ''];
+    const names = [...files.map(file => file.name), app.opened ? app.opened.name : ''];
+    const [plain] = failedBy(error, 'disc/other-file') && known.length === 1 ? known.filter(({ kind }) => PLAIN.includes(kind)) : [];
+    if (plain) {
+        return showNotice('plain', say(texts.openIsOrdinaryFile, { name: nameOf(plain.file.name) }), texts.openForDisc,
+            translateRow(app, plain.file));
+    }
     return showNotice('bad', playerTexts.openNotOpenedYet, ...messageParts(error, names));
+}
+
+/**
+ * The button that opens an ordinary file for the translation of its texts.
+ * @param {App} app
+ * @param {DiscFile} file
+ */
+function translateRow(app, file) {
+    const open = async () => {
+        await app.services.close();
+        if (app.opened !== null) return;
+        endMessages();
+        app.openPlain({ ...file, opened: openPlainFile(file) });
+        app.showPanel('text');
+    };
+    const label = app.opened === null ? texts.openTranslatePlain : texts.openTranslateInstead;
+    return element('div', { class: 'row' }, button('slim', open, label));
 }
 
 /**

@@ -15,7 +15,7 @@ import { authorsWords, moreOf } from './trust_note.js';
 import { imageOfSize, judgeImage } from './verdict.js';
 
 /** @typedef {import('../app/state.js').App} App */
-/** @typedef {import('../app/store.js').RunningJob} RunningJob */
+/** @typedef {import('../app/hub.js').RunningJob} RunningJob */
 /** @typedef {import('../../core/disc/disc.js').DiscImage} DiscImage */
 /** @typedef {import('./patcher.js').PatcherData} PatcherData */
 /** @typedef {import('./verdict.js').Judged} Judged */

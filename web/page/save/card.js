@@ -14,7 +14,7 @@ import { isDiscOfOneTrack, sheetParts } from './sheet_words.js';
 
 /** @typedef {import('../app/state.js').App} App */
 /** @typedef {import('../app/state.js').Image} Image */
-/** @typedef {import('../app/store.js').RunningJob} RunningJob */
+/** @typedef {import('../app/hub.js').RunningJob} RunningJob */
 /** @typedef {import('./patch_job.js').PatchWork} PatchWork */
 /** @typedef {import('./patch_job.js').Saved} Saved */
 /** @typedef {import('../../core/script/patches.js').Patched} Patched */

@@ -2,7 +2,7 @@
 
 import { MOST_PATCHES, RESULT } from '../../core/module/index.js';
 import { jobAt } from '../app/index.js';
-import { SaveCard, adviceOf, checkWork, isPatched } from '../save/index.js';
+import { SaveCard, adviceOf, canStream, checkWork, isPatched } from '../save/index.js';
 import * as texts from '../texts/index.js';
 import { format, playerTexts, say } from '../texts/index.js';
 import { announce, button, element, fill, isCancelled, messageOf, nameOf, nextTurn, notice, setDisabled } from '../ui/index.js';
@@ -140,12 +140,24 @@ export class CheckCard {
         const fit = this.fit(this.patched);
         const [refused, applied] = [fit.refused.length, fit.all - fit.refused.length];
         const first = lines.nextWrong(lines.lines.length - 1, 1);
-        const { tone, head, rest } = this.fitWords(fit);
+        const { tone, head, reasons = [], rest } = this.fitWords(fit);
         const line = { line: String(first + 1) };
         const go = first >= 0 && button('main next', () => this.owner.goTo(first), format(texts.scriptGoToLine, line));
         const buttons = this.already ? [] : [go, (applied > 0 || refused === 0) && apply];
         return [element('div', { class: `say stack tight ${tone}`, role: 'status' }, verdictLine(tone, head),
+            reasons.length > 0 && element('ul', { class: 'reasons' }, ...reasons.map(reason => this.reasonRow(reason))),
             rest.length > 0 && element('p', {}, ...rest), buttons.length > 0 && element('div', { class: 'row' }, ...buttons))];
+    }
+
+    /**
+     * Why patches are refused, and a button that goes to the first of them.
+     * @param {import('./fit_words.js').Reason} reason
+     */
+    reasonRow({ result, words }) {
+        const first = this.patched?.outcomes.find(it => it.result === result);
+        const go = first && !this.owner.lines.long && button('tiny bare', () => this.owner.goTo(first.number - 1),
+            format(texts.scriptLineOf, { line: String(first.number) }));
+        return element('li', {}, element('span', {}, words), go || null);
     }
 
     /**
@@ -165,6 +177,12 @@ export class CheckCard {
     isFree() {
         const { faults, head, tooMany } = this.owner.lines;
         return !this.busy && !this.saving.running && faults === 0 && !tooMany && head >= 0;
+    }
+
+    /** Whether the checked script has a patch that matches, and the browser still opens its dialog, as it does shortly after a click. */
+    canSave() {
+        const matches = this.patched !== null && this.patched.outcomes.some(({ result }) => result === RESULT.OK);
+        return matches && (!canStream() || navigator.userActivation.isActive);
     }
 
     /** @param {Patched} patched */
@@ -238,15 +256,19 @@ export class CheckCard {
         this.owner.lines.setOutcomes(patched.outcomes);
         this.owner.log(patched.text, verb);
         this.owner.redraw();
-        const { head, rest } = this.fitWords(this.fit(patched));
-        announce(`${element('p', {}, ...head, ' ', ...rest).textContent}`.trim());
+        const { head, reasons = [], rest } = this.fitWords(this.fit(patched));
+        announce(`${element('p', {}, ...head, ' ', ...reasons.flatMap(({ words }) => [words, ' ']), ...rest).textContent}`.trim());
     }
 
-    /** Saves the patched image. */
+    /** Saves the patched image. A script that was not checked yet is checked first, because nothing is saved if no patch matches. */
     async apply() {
         const { image } = this.app;
         const { lines } = this.owner;
         if (image === null || !this.isFree()) return;
+        if (this.patched === null) {
+            await this.check();
+            if (this.app.image !== image || !this.canSave()) return;
+        }
         const work = { reader: image.reader, base: image.base, script: lines.text(), carry: this.carry.checked };
         const made = await this.saving.save(image, work);
         if (made && this.app.image === image && work.script === lines.text()) this.take(made, this.seconds, 'apply');

@@ -8,6 +8,7 @@ import { format, say } from '../texts/index.js';
 import { nameOf } from '../ui/index.js';
 
 /** @typedef {import('../ui/fill.js').Child} Child */
+/** @typedef {{ result: number, words: string }} Reason the result of refused patches, why it is theirs, and what to do */
 /** @typedef {import('../ui/notices.js').Tone} Tone */
 
 /** @typedef {import('../../core/module/calls.js').Calls} Calls */
@@ -50,18 +51,24 @@ export function isShownToFit({ named, namedRefused }) {
     return named > namedRefused;
 }
 
+/** The results of refused patches, in the order in which they are explained. */
+const REFUSALS = [RESULT.DIFFERS, RESULT.DAMAGED, RESULT.NOT_MODE1, RESULT.NO_BLOCK];
+
 /**
- * Explains why patches do not match an image, and what to do. If any patch that names old bytes matches, different bytes do not mean a
- * different release: an earlier line may have written there.
+ * Explains why patches do not match an image, and what to do, for each result. If any patch that names old bytes matches, different bytes
+ * do not mean a different release: an earlier line may have written there.
  * @param {Fit} fit
+ * @returns {Reason[]}
  */
 function whyNot(fit) {
-    return reasonsOf(fit.all, fit.refused, {
+    const advices = {
         [RESULT.DIFFERS]: isShownToFit(fit) ? '' : texts.scriptAnotherRelease,
         [RESULT.DAMAGED]: texts.scriptRepairOrCarry,
         [RESULT.NOT_MODE1]: texts.scriptAnotherTrack,
         [RESULT.NO_BLOCK]: texts.scriptAnotherTrackOrBase,
-    }).join(' ');
+    };
+    return REFUSALS.flatMap(result => reasonsOf(fit.all, fit.refused.filter(it => it === result), advices)
+        .map(words => ({ result, words })));
 }
 
 /**
@@ -69,7 +76,7 @@ function whyNot(fit) {
  * @param {string} name of the script's file, or ''
  * @param {string} image the name of the image
  * @param {Fit} fit
- * @returns {{ tone: Tone, head: Child[], rest: Child[] }}
+ * @returns {{ tone: Tone, head: Child[], reasons?: Reason[], rest: Child[] }}
  */
 export function fitWords(name, image, fit) {
     const { all, refused: { length: left }, named, namedRefused, already } = fit;
@@ -80,15 +87,18 @@ export function fitWords(name, image, fit) {
         return { tone: 'good', head: say(texts.scriptIsPatchedAlready, { image: parts.image }),
             rest: say(texts.scriptChangesStandThere, { script: within.script, n: all }) };
     }
-    if (left === all) return { tone: 'bad', head: say(texts.scriptNoChangeFits, { ...parts, n: all }), rest: [whyNot(fit)] };
-    const without = left === 0 ? [] : [whyNot(fit), format(texts.scriptSavedWithout, { n: left })];
+    const reasons = whyNot(fit);
+    if (left === all) {
+        return { tone: 'bad', head: say(texts.scriptNoChangeFits, { ...parts, n: all }), reasons, rest: [texts.scriptNothingToSave] };
+    }
+    const without = left === 0 ? [] : [format(texts.scriptSavedWithout, { n: left })];
     if (named === 0) {
-        return { tone: 'warn', head: say(texts.scriptNothingShowsFit, { ...within, n: all }),
+        return { tone: 'warn', head: say(texts.scriptNothingShowsFit, { ...within, n: all }), reasons,
             rest: [[format(texts.scriptNamesNone, { n: all }), ...without].join(' ')] };
     }
     if (!isShownToFit(fit)) {
-        return { tone: 'bad', head: say(texts.scriptNoNamedFits, { ...within, n: named }),
-            rest: [`${whyNot(fit)} ${format(texts.scriptOthersNameNone, { n: all - named })}`] };
+        return { tone: 'bad', head: say(texts.scriptNoNamedFits, { ...within, n: named }), reasons,
+            rest: [format(texts.scriptOthersNameNone, { n: all - named })] };
     }
     const fitting = named - namedRefused;
     const others = all - left - fitting;
@@ -98,6 +108,6 @@ export function fitWords(name, image, fit) {
         return { tone: 'good', head, rest: [] };
     }
     const unsure = others === 0 ? [] : [format(texts.scriptOthersNameNone, { n: others })];
-    return { tone: 'warn', head: say(texts.scriptSomeChangesFit, { ...parts, fitting, all, n: left }),
+    return { tone: 'warn', head: say(texts.scriptSomeChangesFit, { ...parts, fitting, all, n: left }), reasons,
         rest: [[...without, ...unsure].join(' ')] };
 }

@@ -6,21 +6,20 @@ import { downloadText } from '../save/index.js';
 import { chosenEncoding } from '../text/index.js';
 import * as texts from '../texts/index.js';
 import { format, say } from '../texts/index.js';
-import { askBeforeLeaving, askUser, button, byId, clearNotices, copyButton, element, fill, focusAgain, keyed } from '../ui/index.js';
+import { askBeforeLeaving, button, byId, clearNotices, element, fill, focusAgain, keyed, menuButton } from '../ui/index.js';
 import { messageArea, nameOf, notice, showNotice } from '../ui/index.js';
 import { CheckCard } from './check_card.js';
 import { ScriptEditor } from './editor.js';
 import { listenToEditor, turnBack, turnBytes } from './editor_input.js';
 import { explainLine } from './explain.js';
 import { textsOfLine } from './line_parts.js';
+import { LogCard } from './log_card.js';
 import { helpOfFault, helpOfRefusal } from './plain_words.js';
 import { makeUndo } from './undo_file.js';
 
 /** @typedef {import('../app/state.js').App} App */
 /** @typedef {import('./editor.js').LineHelp} LineHelp */
 /** @typedef {import('../ui/fill.js').Child} Child */
-
-const MOST_LOG = 200000;
 
 /** The panel. */
 class ScriptPanel {
@@ -49,13 +48,13 @@ class ScriptPanel {
                 this.explain();
             },
             goTo: line => this.goTo(line),
-            log: (text, verb) => this.showLog(text, verb),
+            log: (text, verb) => this.log.note(text, verb),
         });
         this.strip = element('div', { class: 'explain', 'aria-live': 'off' });
         this.unshown = element('div');
         this.undoing = { bar: element('div', { class: 'pad stack' }), message: messageArea('pad') };
         this.head = element('header', {});
-        this.log = element('section', { class: 'card', 'aria-label': texts.scriptLogOfCheck, hidden: true });
+        this.log = new LogCard(() => /** @type {HTMLElement} */ (this.head.querySelector('[data-menu=save]')).focus());
         this.side = element('div', { class: 'side' });
         this.opening = element('input', { type: 'file', class: 'hide', tabindex: -1, 'aria-label': texts.scriptToOpen,
             change: () => this.open() });
@@ -101,7 +100,7 @@ class ScriptPanel {
     load(back) {
         this.editor.current = Math.min(this.editor.current, this.lines.lines.length - 1);
         this.check.outdate();
-        this.showLog(null);
+        this.log.note(null);
         this.drawHead();
         this.isOld = true;
         if (this.app.panel === 'script') this.drawAll();
@@ -122,7 +121,7 @@ class ScriptPanel {
 
     changed() {
         this.check.outdate();
-        this.showLog(null);
+        this.log.note(null);
         this.drawHead();
         this.drawSide();
         this.app.noteTyped();
@@ -145,8 +144,7 @@ class ScriptPanel {
         fill(this.head, element('h2', { class: name ? 'mono' : '' }, name ? nameOf(name) : texts.scriptNewScript),
             element('span', { class: `tag${fault ? ' bad' : ''}` }, this.amount()),
             this.isLost() && element('span', { class: 'tag warn' }, texts.scriptNotSaved),
-            button('slim bare', () => this.opening.click(), texts.frameOpenOther),
-            keyed('save', button('slim bare', () => void this.saveEither(), texts.discSaveReport)));
+            button('slim', () => this.opening.click(), texts.frameOpenOther), keyed('save', this.saveButton()));
         const count = byId('count-script');
         count.hidden = lines.faults === 0 && lines.patches === 0;
         count.className = `count${fault ? ' bad' : ''}`;
@@ -170,7 +168,7 @@ class ScriptPanel {
         const none = this.lines.patches === 0 && this.lines.faults === 0 && !this.lines.long && !works;
         if (none) return fill(this.side, this.emptyCard());
         this.check.draw();
-        return fill(this.side, this.check.card, this.log);
+        return fill(this.side, this.check.card, this.log.card);
     }
 
     /** The card with the next steps while the script has no changes. If an image is open, the first one is to open its patch. */
@@ -239,14 +237,17 @@ class ScriptPanel {
         event.preventDefault();
     }
 
-    /** Saves the script, or on request its undo script, if there can be one. */
-    async saveEither() {
+    /** The button that saves the script, with a menu if there can be an undo script, or a log. */
+    saveButton() {
         const { app, lines } = this;
-        if (lines.faults > 0 || lines.tooMany || app.image === null || (lines.patches === 0 && !lines.long)) return this.save();
-        const answer = await askUser([texts.scriptWhatToSave], [],
-            [['script', [texts.scriptSaveScript]], ['undo', [texts.scriptUndoScript]]], 'script');
-        if (answer === 'script') this.save();
-        return answer === 'undo' ? makeUndo(app, this.undoing, lines, this.check.carry.checked) : undefined;
+        const { faults, tooMany, patches, long } = lines;
+        if (faults > 0 || tooMany || app.image === null || (patches === 0 && !long)) {
+            return button('slim', () => this.save(), texts.discSaveReport);
+        }
+        return menuButton('slim', 'save', texts.discSaveReport, () => [
+            { label: texts.scriptSaveScript, press: () => this.save() },
+            { label: texts.scriptUndoScript, press: () => void makeUndo(app, this.undoing, lines, this.check.carry.checked) },
+            this.log.title !== '' && { label: this.log.title, press: () => this.log.open() }]);
     }
 
     save() {
@@ -259,28 +260,6 @@ class ScriptPanel {
         const files = [...this.opening.files || []];
         this.opening.value = '';
         this.app.open(files);
-    }
-
-    /**
-     * Shows the log of the program on request: it says “applied” for a trial too.
-     * @param {Uint8Array | null} bytes
-     * @param {string} verb
-     */
-    showLog(bytes, verb = 'check') {
-        this.log.hidden = bytes === null;
-        if (bytes === null) return;
-        const text = new TextDecoder().decode(bytes);
-        const shown = text.length > MOST_LOG ? `${text.slice(0, text.lastIndexOf('\n', MOST_LOG))}\n…\n` : text;
-        const command = () => ({ command: element('span', { class: 'mono' }, `cdpatch ${verb}`) });
-        const open = this.log.querySelector('details[open]') !== null;
-        fill(this.log, element('details', { class: 'pad', open },
-            element('summary', {}, ...say(verb === 'check' ? texts.scriptWhatTrialPrints : texts.scriptWhatIsPrinted, command())),
-            element('div', { class: 'stack tight' }, element('pre', { class: 'log', tabindex: 0, 'aria-label': texts.scriptLogOfCheck },
-                shown),
-                element('div', { class: 'row' }, copyButton('slim bare', () => text, texts.copy, texts.scriptWhichLog),
-                    button('slim bare', () => downloadText(text, texts.scriptLogFile), texts.discSaveReport,
-                        element('span', { class: 'hide' }, texts.scriptWhichLog))),
-                element('p', { class: 'small quiet' }, ...say(texts.scriptLogIsPrinted, command())))));
     }
 }
 

@@ -4,8 +4,8 @@ import { isSameRange } from '../../core/tasks/index.js';
 import { countedAs, readImage } from '../open/index.js';
 import * as texts from '../texts/index.js';
 import { playerTexts, say } from '../texts/index.js';
-import { button, byId, element, fill, focusAgain, isCancelled, keyed, nameOf, notice, oneTabStop, refuseWhileSaving } from '../ui/index.js';
-import { messageArea, sentence, setAttribute } from '../ui/index.js';
+import { button, byId, crossButton, element, fill, focusAgain, isCancelled, keyed, moreButton, nameOf, notice } from '../ui/index.js';
+import { messageArea, oneTabStop, refuseWhileSaving, sentence, setAttribute } from '../ui/index.js';
 import { SecondCompare } from './compare.js';
 import { SecondRepair } from './repair.js';
 
@@ -28,9 +28,10 @@ export class SecondCard {
         this.table = element('div');
         this.jobs = { repair: new SecondRepair(app, changed), compare: new SecondCompare(app, changed) };
         oneTabStop(this.tabs, '[role=tab]', tab => this.choose(/** @type {Job} */ (tab.dataset.tab)));
+        const more = moreButton('slim away', 'second', texts.secondMore, () => [...this.jobs[this.tab].actions(),
+            { label: texts.openItInstead, press: () => this.openInstead() }]);
         const card = element('section', { class: 'card', 'aria-labelledby': 'second-title' },
-            element('header', {}, this.title, button('slim bare away', () => this.openInstead(), texts.openItInstead),
-                button('slim bare away', () => this.close(), playerTexts.close)),
+            element('header', { class: 'one-line' }, this.title, more, crossButton(playerTexts.close, () => this.close())),
             element('div', { class: 'pad stack' }, this.message, this.tabs, this.body));
         this.part = element('div', { class: 'side', hidden: true }, card, this.table);
     }

@@ -4,7 +4,7 @@ import { FIELD_COUNT, SECOND_STATE, findDifferences } from '../../core/tasks/ind
 import { downloadText, patchedName } from '../save/index.js';
 import * as texts from '../texts/index.js';
 import { format, say } from '../texts/index.js';
-import { button, countsRow, element, fill, keyed, nameOf, notice, tableCard, term } from '../ui/index.js';
+import { button, countsRow, element, fill, keyed, moreButton, nameOf, notice, tableCard, term } from '../ui/index.js';
 import { addDiffering, compareMarks } from './marks.js';
 import { PairJob } from './pair_job.js';
 import { writeScript } from './script.js';
@@ -110,11 +110,12 @@ export class SecondCompare extends PairJob {
         const shown = groups.reduce((sum, { isOpen, count, rows }) => sum + (isOpen ? rows.length : count), 0);
         const left = found.sectors - shown;
         const foot = left > 0 ? format(texts.secondMoreBlocksWithoutRow, { n: left }) : texts.secondUserDataWithoutEdc;
-        const save = button('slim bare', () => {
-            downloadText(listOf(rowsOf(found.differing), fileSayer(files)), patchedName(second.name, 'differences', '.txt'));
-        }, texts.secondSaveTheList);
-        const copied = listOf(rowsOf(found.differing, MOST_ROWS), fileSayer(files));
-        fill(this.table, keyed('differences', tableCard(texts.secondBytesThatDiffer, head, body, copied, foot, save)));
+        const list = (/** @type {number} */ most) => listOf(rowsOf(found.differing, most), fileSayer(files));
+        const save = () => downloadText(list(Infinity), patchedName(second.name, 'differences', '.txt'));
+        const more = moreButton('slim', 'differences', texts.listMore, () => [
+            { label: texts.secondCopyTheRows, copies: () => list(MOST_ROWS) },
+            { label: texts.secondSaveTheList, press: save }]);
+        fill(this.table, keyed('differences', tableCard(texts.secondBytesThatDiffer, head, body, null, foot, more)));
     }
 
     /** @param {Group} group */

@@ -30,6 +30,14 @@ export class PairJob {
         return this.marks;
     }
 
+    /**
+     * The further actions with the result.
+     * @returns {import('../ui/menu.js').MenuItem[]}
+     */
+    actions() {
+        return [];
+    }
+
     forget() {
         this.begun = false;
         this.marks = null;

@@ -14,6 +14,7 @@ import { RepairSaver } from './repair_save.js';
 import { tableOfDamage } from './repair_table.js';
 import { foundWords, refusedWords } from './repair_words.js';
 import { writeScript } from './script.js';
+import { WithoutScript } from './without_script.js';
 
 /** @typedef {import('../app/state.js').App} App */
 /** @typedef {import('../app/state.js').Image} Image */
@@ -32,13 +33,15 @@ export class SecondRepair extends PairJob {
         super(app, changed);
         this.found = /** @type {Found | null} */ (null);
         this.drawn = 0;
-        this.saver = new RepairSaver(app, this.place);
+        this.saver = new RepairSaver(app, this.place, 'repaired-sha1');
+        this.without = new WithoutScript(app);
         app.on('surveyed', () => this.draw());
         app.on('files', () => void this.drawTable());
     }
 
     forget() {
         this.saver.forget();
+        this.without.forget();
         this.found = null;
         super.forget();
     }
@@ -84,20 +87,33 @@ export class SecondRepair extends PairJob {
     }
 
     /**
-     * The buttons for the repaired image; null if nothing was repaired.
+     * The button that saves the repaired image, with a note if patches of the script are not in it; null if nothing was repaired.
      * @param {Image} image
      * @param {Found} found
      */
     buttons(image, { repair, pieces, unrepaired }) {
         if (blocksIn(repair.taken) === 0) return null;
-        const save = () => void this.saver.save(pieces, blocksIn(repair.taken), unrepaired);
-        const script = () => {
-            const fresh = pieceReader(image.reader, pieces);
-            const name = patchedName(image.name, 'repair', '.txt');
-            void writeScript(this.app, this.place, { image, fresh, goal: texts.secondTheRepairedImage, name, skipMode2: true });
-        };
-        return element('div', { class: 'row' }, button('main', save, texts.secondSaveRepaired), button('', script,
-            texts.secondWriteRepairAsScript));
+        const save = () => void this.saver.save(pieces, blocksIn(repair.taken), unrepaired, this.app.second);
+        this.without.show(image, pieces);
+        return element('div', { class: 'stack' }, this.without.part,
+            element('div', { class: 'row' }, button('main', save, texts.secondSaveRepaired)));
+    }
+
+    /** @override */
+    actions() {
+        const { found, app: { image } } = this;
+        if (found === null || image === null || found.repair.refused || blocksIn(found.repair.taken) === 0) return [];
+        return [{ label: texts.secondWriteRepairAsScript, press: () => void this.writeScript(image, found) }];
+    }
+
+    /**
+     * @param {Image} image
+     * @param {Found} found
+     */
+    writeScript(image, { pieces }) {
+        const fresh = pieceReader(image.reader, pieces);
+        const name = patchedName(image.name, 'repair', '.txt');
+        return writeScript(this.app, this.place, { image, fresh, goal: texts.secondTheRepairedImage, name, skipMode2: true });
     }
 
     /** Lists the sectors that are not repaired, and lists them again as soon as the files are known. */

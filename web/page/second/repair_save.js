@@ -12,7 +12,7 @@ import { button, element, fill, hashParts, megabytes, messageOf, nameOf, notice 
 /** @typedef {{ words: string, tone: 'good' | 'warn' }} Done what was repaired, and a warning if sectors are still damaged */
 /** @typedef {import('../app/state.js').App} App */
 /** @typedef {import('../app/state.js').Image} Image */
-/** @typedef {import('../app/store.js').RunningJob} RunningJob */
+/** @typedef {import('../app/hub.js').RunningJob} RunningJob */
 /** @typedef {import('../../core/bytes.js').Piece} Piece */
 /** @typedef {import('../../core/sectors/runs.js').Run} Run */
 /** @typedef {import('../ui/fill.js').Child} Child */
@@ -26,10 +26,12 @@ export class RepairSaver {
     /**
      * @param {App} app
      * @param {HTMLElement} place of the progress bar and of the result
+     * @param {string} id of the part that shows the SHA-1
      */
-    constructor(app, place) {
+    constructor(app, place, id) {
         this.app = app;
         this.place = place;
+        this.id = id;
         /** The browser's own saving of a file, which ends when the user says so, null if there is none. */
         this.kept = /** @type {RunningJob | null} */ (null);
     }
@@ -40,26 +42,30 @@ export class RepairSaver {
 
     /**
      * @param {Piece[]} pieces of the repaired image
-     * @param {number} taken the number of repaired sectors
+     * @param {number} repaired the number of repaired sectors
      * @param {Run[]} unrepaired
+     * @param {Image | null} [second] from which sectors were copied
      */
-    async save(pieces, taken, unrepaired) {
-        const { app, place, app: { image, second } } = this;
-        if (image === null || second === null) return;
+    async save(pieces, repaired, unrepaired, second = null) {
+        const { app, place, app: { image } } = this;
+        if (image === null) return;
         const { size } = image.reader;
+        const { signal: ends } = second === null ? app.closing : app.pairing;
         const oneTrack = isDiscOfOneTrack(app.calls, image);
         await jobAt(app, place, {
             name: playerTexts.saveSavingImage, saves: true, run: (bar, signal) => {
                 this.forget();
                 const watch = { signal, progress: (/** @type {number} */ at) => bar.at(at, size) };
                 const name = patchedName(image.name, REPAIRED);
-                return saveImage([image.reader, second.reader], async () => givingAll(pieces), name, app.openFiles(), watch);
+                const readers = [image, second].flatMap(it => it === null ? [] : [it.reader]);
+                return saveImage(readers, async () => givingAll(pieces), name, app.openFiles(), watch);
             },
             done: async saved => {
                 if (saved === null) return fill(place);
                 app.noteSaved(image, saved.name);
                 if (!saved.streamed) this.kept = app.beginJob({ name: saved.name, isLost: true });
-                return fill(place, ...this.savedWords(saved, image, await oneTrack, doneWords(taken, unrepaired)));
+                const hash = saved.file && hashOf(app, saved.file, size, this.id, ends);
+                return fill(place, ...this.savedWords(saved, image, await oneTrack, doneWords(repaired, unrepaired), hash));
             },
             failed: error => fill(place, failureOfSaving(error, size)),
         });
@@ -70,9 +76,10 @@ export class RepairSaver {
      * @param {Image} image
      * @param {boolean} oneTrack whether the image has no cue sheet, and looks like a whole disc of one track
      * @param {Done} done
+     * @param {Child} hash of the saved file
      * @returns {Child[]}
      */
-    savedWords({ name, streamed, file }, image, oneTrack, done) {
+    savedWords({ name, streamed, file }, image, oneTrack, done, hash) {
         const { app } = this;
         const { size } = image.reader;
         const what = element('p', {}, done.words);
@@ -90,7 +97,7 @@ export class RepairSaver {
             readImage(app, null);
             app.open([file], 'look');
         }, texts.saveOpenNewImage);
-        return [message, file && element('dl', { class: 'hashes' }, element('dt', {}, 'SHA-1'), hashOf(app, file, size)), ...sheet.words,
+        return [message, file && element('dl', { class: 'hashes' }, element('dt', {}, 'SHA-1'), hash), ...sheet.words,
             (sheet.save || open) && element('div', { class: 'row' }, sheet.save && button('', sheet.save, playerTexts.saveCueSheet), open),
             sheet.saved];
     }
@@ -101,26 +108,28 @@ export class RepairSaver {
  * @param {App} app
  * @param {File} file
  * @param {number} size
+ * @param {string} id
+ * @param {AbortSignal} signal
  */
-function hashOf(app, file, size) {
-    const sum = element('dd', { id: 'repaired-sha1' }, '…');
+function hashOf(app, file, size, id, signal) {
+    const sum = element('dd', { id }, '…');
     const progress = (/** @type {number} */ done) => {
         sum.textContent = format(texts.saveHashPercent, { percent: Math.floor(100 * done / size) });
     };
-    sha1Of(app.parts, fileReader(file), app.pairing.signal, progress).then(sha1 => fill(sum, ...hashParts(sha1)),
+    sha1Of(app.parts, fileReader(file), signal, progress).then(sha1 => fill(sum, ...hashParts(sha1)),
         error => { sum.textContent = messageOf(error); });
     return sum;
 }
 
 /**
  * Says how many sectors were repaired, and which are still damaged.
- * @param {number} taken
+ * @param {number} repaired
  * @param {Run[]} unrepaired
  * @returns {Done}
  */
-function doneWords(taken, unrepaired) {
+function doneWords(repaired, unrepaired) {
     const left = blocksIn(unrepaired);
     const still = left === 0 ? texts.secondNoneStillDamaged
         : format(texts.secondStillDamaged, { n: left, blocks: blocksText(unrepaired, MOST_RUNS_NAMED) });
-    return { words: `${format(texts.secondSectorsRepaired, { n: taken })} ${still}`, tone: left === 0 ? 'good' : 'warn' };
+    return { words: `${format(texts.secondSectorsRepaired, { n: repaired })} ${still}`, tone: left === 0 ? 'good' : 'warn' };
 }

@@ -118,7 +118,7 @@ function refusedScript({ patches, left, tail }, again) {
     const others = left.filter(it => it.why !== 'damaged');
     if (others.length === 0 && !tail) {
         const n = blocksIn(damaged);
-        return notice('bad', format(texts.secondScriptNotWritten, { why: leftText(damaged) }), texts.secondDamageHidden,
+        return notice('bad', format(texts.secondScriptNotWritten, { why: leftText(damaged) }), format(texts.secondDamageHidden, { n }),
             patches === 0 ? ` ${format(texts.secondNothingElse, { n })}`
                 : element('div', { class: 'row' }, button('', again, format(texts.secondLeaveOut, { n }))));
     }

@@ -1,4 +1,4 @@
-// Closes the open image, and discards all work on it.
+// Closes the open image or file, and discards all work on it.
 
 import * as texts from '../texts/index.js';
 import { say } from '../texts/index.js';
@@ -7,19 +7,19 @@ import { askUser, byId, lostByClosing, nameOf, refuseWhileSaving } from '../ui/i
 /** @typedef {import('../app/state.js').App} App */
 
 /**
- * Closes the open image. If work would be lost, asks the user first, and offers to save the script. Then asks about what is left.
+ * Closes the open image or ordinary file. If work would be lost, asks the user first, and offers to save it. Then asks about what is left.
  * @param {App} app
  * @returns {Promise<void>}
  */
 export async function closeImage(app) {
-    const { image } = app;
-    if (image === null || refuseWhileSaving(app)) return undefined;
+    const { opened } = app;
+    if (opened === null || refuseWhileSaving(app)) return undefined;
     const lost = lostByClosing();
-    const answer = lost.length === 0 ? 'close' : await askToClose(image.name, lost);
-    if (answer === '' || app.image !== image) return undefined;
+    const answer = lost.length === 0 ? 'close' : await askToClose(opened.name, lost);
+    if (answer === '' || app.opened !== opened) return undefined;
     if (answer === 'save') {
-        for (const { save } of lost) save?.();
-        return closeImage(app);
+        for (const { save } of lost) await save?.();
+        return app.opened === opened ? closeImage(app) : undefined;
     }
     app.close();
     return byId('open-files').focus();
@@ -27,7 +27,7 @@ export async function closeImage(app) {
 
 /**
  * Asks whether unsaved work is to be saved or lost.
- * @param {string} name of the image
+ * @param {string} name of the image or file
  * @param {ReturnType<typeof lostByClosing>} lost
  */
 function askToClose(name, lost) {

@@ -1,4 +1,4 @@
-// The notes that are opened from the bar and the footer: About, what is proved, the keys, and the words.
+// The notes that are opened from the bar and the footer: About, with what is proved, the keys, and the words.
 
 import { inflatedText, sha256Of } from '../app/index.js';
 import { pageSource } from '../player/index.js';
@@ -16,12 +16,9 @@ export function mountHelp(app) {
     fill(byId('version'), `cdpatch ${number}`);
     fill(byId('keys'), element('b', {}, texts.frameKeys), element('dl', { class: 'keys' }, ...texts.KEYS.flatMap(keyRow)));
     fill(byId('words'), element('b', {}, texts.frameWordsUsed), element('dl', { class: 'keys' }, ...wordRows()));
-    fill(byId('proved'), element('b', {}, texts.frameWhatIsProved), ...paragraphs(texts.frameProvedCode, texts.frameNotProved,
-        texts.frameScriptsWereApplied));
     fill(byId('about'), element('b', {}, `cdpatch ${number}`),
         ...paragraphs(texts.frameWhatItIsFor, texts.framePageIsOneFile, texts.frameTranslations, texts.frameTriedIn,
-            ...madeWith(app.parts.made)), ownHash(app),
-            notices());
+            ...madeWith(app.parts.made)), ownHash(app), whatIsProved(), notices());
     for (const note of document.querySelectorAll('[popover]')) {
         setAttribute(note, 'aria-label', note.children[0].textContent);
         note.prepend(element('button', { type: 'button', class: 'btn slim bare shut', popovertarget: note.id, popovertargetaction: 'hide' },
@@ -93,6 +90,12 @@ async function ownDigits({ calls }) {
     } catch (error) {
         return [messageOf(error)];
     }
+}
+
+/** What is proved, and what is only tested. */
+function whatIsProved() {
+    return element('details', { id: 'proved' }, element('summary', {}, texts.frameWhatIsProved),
+        ...paragraphs(texts.frameProvedCode, texts.frameNotProved, texts.frameScriptsWereApplied));
 }
 
 /** The third-party notices of the crates in the module. */

@@ -2,7 +2,7 @@
 
 import { PANELS } from '../app/index.js';
 import * as texts from '../texts/index.js';
-import { byId, endMessages, endSavingNotices, escapeJob, oneTabStop, setAttribute } from '../ui/index.js';
+import { byId, endMessages, endSavingNotices, escapeJob, mountMenus, oneTabStop, setAttribute } from '../ui/index.js';
 
 /** @typedef {import('../app/state.js').App} App */
 /** @typedef {import('../app/state.js').PanelName} PanelName */
@@ -12,12 +12,13 @@ const HEADINGS = { disc: texts.frameDiscTab, text: texts.frameTextTab, script: t
 
 /** @param {App} app */
 export function mountFrame(app) {
-    oneTabStop(byId('tabs'), '[role=tab]', tab => app.showPanel(panelOfTab(tab)));
+    mountMenus();
+    oneTabStop(byId('tabs'), '[role=tab]:not([hidden])', tab => app.showPanel(panelOfTab(tab)));
     for (const name of PANELS) byId(`tab-${name}`).addEventListener('click', () => app.showPanel(name));
     const frame = { started: false, panel: app.panel };
     app.on('saved', endSavingNotices);
     app.on('closed', () => { frame.started = false; });
-    for (const name of /** @type {const} */ (['panel', 'image', 'listed'])) app.on(name, () => showPanels(app, frame));
+    for (const name of /** @type {const} */ (['panel', 'image', 'plain', 'listed'])) app.on(name, () => showPanels(app, frame));
     app.on('panel', () => panelComes(app, frame));
     byId('home').addEventListener('click', () => app.showPanel('disc'));
     document.addEventListener('keydown', pressed);
@@ -53,7 +54,7 @@ function panelOfTab(tab) {
  * @param {{ started: boolean }} frame
  */
 function showPanels(app, frame) {
-    frame.started = frame.started || app.image !== null || !app.script.isNew() || app.script.name !== '';
+    frame.started = frame.started || app.opened !== null || !app.script.isNew() || app.script.name !== '';
     const { started } = frame;
     const isListed = !byId('list').hidden;
     byId('start').hidden = app.image !== null || isListed || (started && app.panel !== 'disc');
@@ -67,7 +68,17 @@ function showPanels(app, frame) {
         byId(`panel-${name}`).hidden = !shown;
         setAttribute(byId(`tab-${name}`), 'aria-selected', String(name === app.panel));
         byId(`tab-${name}`).tabIndex = name === app.panel ? 0 : -1;
+        byId(`tab-${name}`).hidden = !isUseful(app, name);
     }
+}
+
+/**
+ * Whether a panel has anything to do with what is open. An ordinary file has only texts, and the script beside it if there is one.
+ * @param {App} app
+ * @param {PanelName} name
+ */
+function isUseful({ plain, script }, name) {
+    return plain === null || name === 'text' || (name === 'script' && !(script.isNew() && script.name === ''));
 }
 
 /** @param {KeyboardEvent} event */

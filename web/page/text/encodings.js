@@ -1,6 +1,8 @@
 // The encodings that the user can choose, and the tables that add to them.
 
-import { ENCODINGS, USUAL_ENCODING, encodingOf, linesLeftOut, tableInTurns, tableTextOf } from '../../core/encodings/views.js';
+import {
+    ENCODINGS, SEARCHED, USUAL_ENCODING, encodingOf, linesLeftOut, tableInTurns, tableTextOf, withEnd,
+} from '../../core/encodings/views.js';
 import * as texts from '../texts/index.js';
 import { remarkText, say } from '../texts/index.js';
 import { capital, element, fill, messageOf, nameOf, notice, showNotice, shownName } from '../ui/index.js';
@@ -29,6 +31,29 @@ export function chosenEncoding({ encoding, tables }) {
     const found = tables.get(encoding) || encodingOf(encoding);
     if (found === null) throw new Error(`there is no encoding ${encoding}`);
     return found;
+}
+
+/**
+ * The encoding of the texts to be listed: the usual ones ({}) if one of these is chosen, or one without characters; else the chosen one.
+ * @param {App} app
+ */
+export function textOptionsOf(app) {
+    const encoding = chosenEncoding(app);
+    const table = tableSource(encoding);
+    if (table !== undefined) return { table };
+    return SEARCHED.includes(encoding) || !encoding.hasCharacters ? {} : { encoding: encoding.name };
+}
+
+/**
+ * In which encodings the rows of lists are read: in the game's own table, if one is chosen; else in the chosen and the usual ones.
+ * @param {App} app
+ * @param {number} [end] the byte that ends texts, if it is known
+ */
+export function rowOptionsOf(app, end) {
+    const encoding = chosenEncoding(app);
+    const isAsked = app.tables.has(app.encoding);
+    const encodings = isAsked ? [encoding] : [...new Set([...encoding.hasCharacters ? [encoding] : [], ...SEARCHED])];
+    return { encodings: encodings.map(it => withEnd(it, end)), isAsked };
 }
 
 /**
@@ -107,7 +132,7 @@ export function tableTaker(app, show) {
         if (!/\.tbl$/i.test(file.name)) return false;
         const words = await takeTable(app, file);
         const use = () => {
-            if (app.image === null) return showNotice(...words);
+            if (app.opened === null) return showNotice(...words);
             app.showPanel('text');
             return show(notice(...words));
         };

@@ -7,8 +7,11 @@ import { isTurnDue, letOthersIn } from '../../core/turns.js';
 /** @typedef {import('../../core/turns.js').Signal} Signal */
 /** How a new text fits at the smallest of its places: the most bytes that it may have there, and what encodes it. */
 /** @typedef {Awaited<ReturnType<typeof import('../../core/tasks/index.js').roomInTrack>>} Fit */
-/** At how many places the script writes a new text, and why not at all of them, as a sentence, or ''. */
-/** @typedef {{ written: number, why: string }} Outcome */
+/**
+ * At how many places the script writes a new text, and why not at all of them, as a sentence, or ''; and whether it waits until the script
+ * of all texts is generated, because texts may move.
+ * @typedef {{ written: number, why: string, waits?: boolean }} Outcome
+ */
 /** @typedef {'all' | 'empty' | 'left' | 'signs' | 'done'} Kind */
 
 /** The kinds of texts that a filter shows. */
@@ -19,6 +22,8 @@ export class KnownText {
     /** @param {ListedText} first its first place */
     constructor({ text, encoding }) {
         this.text = text;
+        /** The text in small letters, in which words are found. */
+        this.small = text.toLowerCase();
         this.encoding = encoding;
         /** @type {ListedText[]} */
         this.places = [];
@@ -28,7 +33,11 @@ export class KnownText {
         this.written = 0;
         /** Why the script does not write the new text at all places, as a sentence; '' if it does. */
         this.why = '';
-        /** The new text that the script had before the one that was typed and does not fit. */
+        /** Whether the new text waits until the script of all texts is generated. */
+        this.waits = false;
+        /** Whether a pointer leads to each place of the text, and texts may move. */
+        this.mayMove = false;
+        /** The new text that the script had before the one that was typed, and that does not fit or waits. */
         this.before = '';
         /** The characters of the new text that no old text has. */
         this.signs = '';
@@ -39,6 +48,11 @@ export class KnownText {
     /** The place with the smallest room. */
     get tightest() {
         return this.places.reduce((least, it) => it.room < least.room ? it : least);
+    }
+
+    /** Whether the script writes the new text at all places. */
+    get isWritten() {
+        return this.is('done') && this.why === '' && !this.waits;
     }
 
     /**
@@ -72,6 +86,8 @@ export class KnownTexts {
         this.glyphs = new Glyphs();
         /** How many texts each filter shows. */
         this.counts = { all: 0, empty: 0, left: 0, signs: 0, done: 0 };
+        /** How many texts wait until the script of all texts is generated. */
+        this.waiting = 0;
         /** @type {Map<string, number>} how many new texts have each character that no old text has */
         this.signs = new Map();
     }
@@ -100,11 +116,12 @@ export class KnownTexts {
     }
 
     /**
-     * Reads the new texts that the script writes. A new text that does not fit is kept, unless the script has a different one now.
+     * Reads the new texts that the script writes. A new text that does not fit or waits is kept, unless the script has a different one now.
      * @param {import('../../core/tasks/table.js').FreshOf} newTextOf
      * @param {Signal} signal
+     * @param {boolean} [areKept] whether it is kept in any case
      */
-    async readNews(newTextOf, signal) {
+    async readNews(newTextOf, signal, areKept = false) {
         /** @type {Map<ListedText, string>} */
         const found = new Map();
         for (const listed of this.listed) {
@@ -113,7 +130,7 @@ export class KnownTexts {
             if (fresh !== '') found.set(listed, fresh);
         }
         for (const known of this.all) {
-            this.setNews(known, found);
+            this.setNews(known, found, areKept);
             if (isTurnDue()) await letOthersIn(signal);
         }
     }
@@ -122,8 +139,9 @@ export class KnownTexts {
      * Sets the new text of a text to the most frequent one of its places.
      * @param {KnownText} known
      * @param {Map<ListedText, string>} found
+     * @param {boolean} isKept whether a new text that does not fit or waits is kept in any case
      */
-    setNews(known, found) {
+    setNews(known, found, isKept) {
         /** @type {Map<string, number>} */
         const counts = new Map();
         for (const place of known.places) {
@@ -131,7 +149,10 @@ export class KnownTexts {
             if (fresh !== undefined) counts.set(fresh, (counts.get(fresh) || 0) + 1);
         }
         const [[fresh, written]] = [...counts, /** @type {[string, number]} */ (['', 0])].sort(([, a], [, b]) => b - a);
-        if (known.why !== '' && [known.fresh, known.before, ''].includes(fresh)) return;
+        const isWhole = fresh === known.fresh && written === known.places.length;
+        const isTyped = (known.why !== '' || known.waits) && !isWhole;
+        if (isTyped && isKept) known.before = fresh;
+        if (isTyped && [known.fresh, known.before, ''].includes(fresh)) return;
         for (const place of known.places) this.news.set(place, found.get(place) || '');
         this.note(known, fresh, { written, why: '' });
     }
@@ -142,7 +163,7 @@ export class KnownTexts {
      * @param {string} fresh
      */
     type(known, fresh) {
-        if (known.why === '') known.before = known.written > 0 ? known.fresh : '';
+        if (known.why === '' && !known.waits) known.before = known.written > 0 ? known.fresh : '';
         for (const place of known.places) this.news.set(place, fresh);
         this.note(known, fresh, known);
     }
@@ -165,11 +186,12 @@ export class KnownTexts {
      * @param {string} fresh
      * @param {Outcome} outcome
      */
-    note(known, fresh, { written, why }) {
+    note(known, fresh, { written, why, waits = false }) {
         this.count(known, -1);
         known.fresh = fresh;
         known.written = written;
         known.why = why;
+        known.waits = waits;
         known.signs = fresh === '' ? '' : this.glyphs.missingIn(fresh).join('');
         this.count(known, 1);
     }
@@ -181,6 +203,7 @@ export class KnownTexts {
      */
     count(known, step) {
         for (const kind of KINDS) this.counts[kind] += known.is(kind) ? step : 0;
+        this.waiting += known.waits ? step : 0;
         for (const sign of known.signs) {
             const count = (this.signs.get(sign) || 0) + step;
             if (count === 0) this.signs.delete(sign);
@@ -195,7 +218,7 @@ export class KnownTexts {
      */
     shown(kind, words) {
         const sought = words.toLowerCase();
-        const isSought = (/** @type {string} */ text) => text.toLowerCase().includes(sought);
-        return this.all.filter(known => known.is(kind) && (sought === '' || isSought(known.text) || isSought(known.fresh)));
+        return this.all.filter(known => known.is(kind) &&
+            (sought === '' || known.small.includes(sought) || known.fresh.toLowerCase().includes(sought)));
     }
 }

@@ -25,8 +25,9 @@ import { RowCard } from './row_card.js';
 const MOST_LISTED_ROWS = 200;
 
 /** The kinds of reasons, by the codes that begin so, with their counts in words. All others are the last one. */
-const REASONS = /** @type {const} */ ([['replace/no-room', texts.textLeftTooLong], ['text/', texts.textLeftCharacters],
-    ['list/other-text', texts.textLeftOtherText], ['', texts.textLeftOthers]]);
+const REASONS = /** @type {const} */ ([['replace/no-room', texts.textLeftTooLong], ['pointers/no-room', texts.textLeftNoRoom],
+    ['pointers/stays', texts.textLeftStays], ['text/', texts.textLeftCharacters], ['list/other-text', texts.textLeftOtherText],
+    ['', texts.textLeftOthers]]);
 
 /**
  * How many rows do not fit for each kind of reason.
@@ -185,6 +186,25 @@ export class LeftRows {
         const again = new Map(others.map(it => [keyOf(it), it]));
         const corrected = new Set(rows);
         left.rows = left.rows.flatMap(it => corrected.has(it) ? again.get(keyOf(it)) || [] : it);
+    }
+
+    /**
+     * Removes the rows whose texts the script writes now. Returns whether that were the last ones.
+     * @param {(row: ListRow) => boolean} isWritten
+     */
+    leaveWritten(isWritten) {
+        const { left, chosen } = this;
+        const rows = left === null ? [] : left.rows.filter(({ text }) => !isWritten(text));
+        if (left === null || rows.length === left.rows.length) return false;
+        const index = rows.indexOf(left.rows[chosen]);
+        left.rows = rows;
+        if (rows.length === 0) void this.show(null);
+        else if (index < 0) void this.choose(Math.min(chosen, rows.length - 1));
+        else {
+            this.chosen = index;
+            this.draw(left);
+        }
+        return rows.length === 0;
     }
 
     /** Says that no row is left. */

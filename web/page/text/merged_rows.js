@@ -17,11 +17,12 @@ import { format } from '../texts/index.js';
  * @param {Image} image
  * @param {Script | null} script null if there are no lines
  * @param {AbortSignal} [signal]
+ * @param {(line: import('../../core/script/model.js').ScriptLine) => boolean} [isRemoved] selects lines of the open script to be removed
  */
-export async function rowsMerged(app, image, script, signal) {
+export async function rowsMerged(app, image, script, signal, isRemoved) {
     if (script !== null && script.long) throw ownFault(texts.textScriptLongerThanTaken);
     const incoming = script === null ? [] : linesMade(script);
-    const merge = script === null ? null : await mergeOf(app.script, incoming, signal);
+    const merge = script === null && !isRemoved ? null : await mergeOf(app.script, incoming, signal, isRemoved);
     if (app.image !== image) return null;
     return { incoming, merged: merge === null ? { added: 0, replaced: 0, same: 0 } : app.changeScript(merge) };
 }

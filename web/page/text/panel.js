@@ -1,7 +1,7 @@
 // The panel Text: finds texts, lists the hits, and adds lines to the script that replace them.
 
 import { filledUp, replaceBytes } from '../../core/tasks/index.js';
-import { jobAt } from '../app/index.js';
+import { jobAt, mode2Note } from '../app/index.js';
 import * as texts from '../texts/index.js';
 import { format, say } from '../texts/index.js';
 import {
@@ -11,7 +11,7 @@ import { term } from '../ui/index.js';
 import { AroundCard, readAround } from './around_card.js';
 import { bindEncodings, chosenEncoding, encodingLabel, tableTaker, takeTable } from './encodings.js';
 import { findField, rememberSearch, showExample } from './find_field.js';
-import { linesForAll, textLines } from './hits.js';
+import { linesForAll, refusalOf, textLines } from './hits.js';
 import { HitsCard } from './hits_card.js';
 import { ReplaceCard } from './replace_card.js';
 import { SearchJob } from './search_job.js';
@@ -54,7 +54,8 @@ class TextPanel {
         this.texts = new TextsTable(app);
         this.results = element('div', { class: 'two even', hidden: true }, element('div', { class: 'side' }, this.hits.card),
             element('div', { class: 'side' }, this.replace.card, this.around.card));
-        panel.append(this.askCard(), this.state, this.texts.left.part, this.results, this.texts.known.card, this.table);
+        panel.append(this.texts.plainCard.card, this.askCard(), this.state, this.texts.left.part, this.results, this.texts.known.card,
+            this.texts.moving.card.card, this.table);
         app.addTaker(tableTaker(app, words => fill(this.state, words)));
         this.listen();
         this.drawHint();
@@ -67,6 +68,7 @@ class TextPanel {
             this.forget();
         });
         app.on('script', () => fill(this.replace.message));
+        for (const name of /** @type {const} */ (['image', 'surveyed'])) app.on(name, () => this.drawHint());
         app.on('encoding', () => {
             this.drawAsked();
             this.replace.draw();
@@ -78,10 +80,12 @@ class TextPanel {
 
     askCard() {
         const label = (/** @type {string} */ target, /** @type {string} */ text) => element('label', { for: target }, text);
+        const asked = element('div', {}, label('find-text', texts.textFindThisText), this.field);
+        const find = button('main', () => this.find(), texts.textFindText);
+        this.texts.plainCard.hides.push(asked, find, this.hint);
+        const encoding = element('div', {}, label('find-encoding', texts.textFindEncoding), this.choice);
         return element('section', { class: 'card pad stack tight', 'aria-label': texts.textFindText }, element('div', { class: 'ask' },
-            element('div', {}, label('find-text', texts.textFindThisText), this.field),
-                element('div', {}, label('find-encoding', texts.textFindEncoding), this.choice),
-            button('', () => this.table.click(), texts.textLoadTableFile), button('main', () => this.find(), texts.textFindText)),
+            asked, encoding, button('', () => this.table.click(), texts.textLoadTableFile), find),
         this.hint, this.search.place, this.texts.part, this.searched);
     }
 
@@ -89,7 +93,8 @@ class TextPanel {
     drawHint() {
         showExample(this.field, chosenEncoding(this.app).hasCharacters);
         if (this.field.value === '') return fill(this.hint,
-            ...say(texts.textSearchesEverySector, { data: term('user', texts.textSearchedData) }));
+            ...say(texts.textSearchesEverySector, { data: term('user', texts.textSearchedData) }), ' ',
+            this.app.survey && mode2Note(this.app.survey.marks));
         try {
             const bytes = chosenEncoding(this.app).units(this.field.value).map(([usual]) => hexOf(usual).replace(/..(?=.)/g, '$& '));
             this.field.setAttribute('aria-invalid', 'false');
@@ -199,10 +204,11 @@ class TextPanel {
         this.hits.chosen = index;
         const hit = found.hits[index];
         const around = await readAround(image.opened, hit);
+        const old = around.bytes.slice(around.at, around.at + hit.size);
+        const refusal = await refusalOf(app.calls, found.image, hit, old);
         if (this.found !== found || this.chosen !== index) return;
         this.hits.draw();
-        const old = around.bytes.slice(around.at, around.at + hit.size);
-        this.replace.show({ image: found.image, hit, number: index + 1, of: found.count, old, ...this.writtenOf(hit, found) });
+        this.replace.show({ image: found.image, hit, number: index + 1, of: found.count, old, refusal, ...this.writtenOf(hit, found) });
         this.around.show(hit, around);
     }
 

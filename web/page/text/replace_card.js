@@ -17,10 +17,10 @@ import { gauge, sizeWords } from './length.js';
 /** @typedef {import('../ui/fill.js').Child} Child */
 /** @typedef {import('../../core/encodings/encoding.js').Encoding} Encoding */
 /**
- * A hit to replace in the searched image: its number, from 1, of `of` hits; its old bytes; the number of hits that the script does not
- * write yet; and the line of the script that writes this hit, or 0.
- * @typedef {{ image: import('../../core/disc/disc.js').OrderedImage, hit: Hit, number: number, of: number, old: Uint8Array, left: number,
- *     line: number }} Target
+ * A hit to replace in the searched image: its number, from 1, of `of` hits; its old bytes; why no script can replace it, or '' (`refusal`);
+ * the number of hits that the script does not write yet; and the line of the script that writes this hit, or 0.
+ * @typedef {{ image: import('../../core/disc/disc.js').OrderedImage, hit: Hit, number: number, of: number, old: Uint8Array,
+ *     refusal: string, left: number, line: number }} Target
  */
 /**
  * @typedef {{ add: (hit: Hit, fresh: Uint8Array, old: Uint8Array) => void, addAll: (fresh: Uint8Array, fill: Uint8Array | null) => void,
@@ -59,11 +59,14 @@ export class ReplaceCard {
         this.all = button('', () => this.addAll(), '');
         const filling = element('span', { class: 'row small quiet' }, texts.textFillWith, this.fill, this.other);
         const buttons = element('div', { class: 'row' }, this.add, this.all, button('slim bare', () => owner.skip(), texts.textSkipHit));
-        this.card = element('section', { class: 'card', 'aria-label': texts.textReplaceText, hidden: true }, this.head,
-            element('div', { class: 'pad stack' }, this.old,
+        this.refusal = element('p', { class: 'say warn', role: 'status' });
+        this.form = element('div', { class: 'stack' },
             element('div', {}, element('label', { for: 'new-text' }, texts.textNewText), this.input),
-            element('div', { class: 'row spread' }, this.length, filling), this.rest, buttons, this.job, this.message,
-            element('p', { class: 'small quiet' }, ...say(texts.textReplacesAndNext, { key: element('kbd', {}, texts.sectorEnterKey) }))));
+            element('div', { class: 'row spread' }, this.length, filling), this.rest);
+        this.keys = element('p', { class: 'small quiet' },
+            ...say(texts.textReplacesAndNext, { key: element('kbd', {}, texts.sectorEnterKey) }));
+        this.card = element('section', { class: 'card', 'aria-label': texts.textReplaceText, hidden: true }, this.head,
+            element('div', { class: 'pad stack' }, this.old, this.refusal, this.form, buttons, this.job, this.message, this.keys));
     }
 
     /** @param {Target | null} target */
@@ -101,7 +104,7 @@ export class ReplaceCard {
     draw() {
         const { target } = this;
         if (target === null) return;
-        const { hit, number, of, old, left, line } = target;
+        const { hit, number, of, old, refusal, left, line } = target;
         this.drawFills();
         this.other.hidden = this.fill.value !== OTHER_FILL;
         fill(this.head, element('h2', {}, format(texts.textReplaceAtPlace, { block: String(hit.block), offset: String(hit.offset) })),
@@ -111,7 +114,10 @@ export class ReplaceCard {
         const { bytes, fault } = this.fresh();
         const filling = this.filling();
         const filled = filledTo(bytes, old.length, filling);
-        const ready = filled !== null && fault === '' && this.input.value !== '';
+        fill(this.refusal, refusal);
+        this.refusal.hidden = refusal === '';
+        for (const part of [this.form, this.add, this.keys]) part.hidden = refusal !== '';
+        const ready = refusal === '' && filled !== null && fault === '' && this.input.value !== '';
         const replaces = this.rewritten(target, old) !== '';
         fill(this.add, replaces ? format(texts.textUpdateLine, { line: String(line) }) : texts.textReplaceText);
         this.add.classList.toggle('main', line === 0 || replaces);
@@ -120,8 +126,8 @@ export class ReplaceCard {
         fill(this.rest, gauge(bytes, old.length, filling), ...this.advice(bytes, old, filled, fault, line));
         fill(this.all, format(left < of ? texts.textReplaceOthers : texts.textReplaceAll, { n: left }));
         const had = document.activeElement === this.all;
-        this.all.hidden = left < 2;
-        if (had && left < 2) this.input.focus();
+        this.all.hidden = left < 2 || refusal !== '';
+        if (had && this.all.hidden) this.input.focus();
         for (const it of [this.add, this.all]) setDisabled(it, !ready);
     }
 
@@ -152,7 +158,7 @@ export class ReplaceCard {
         const more = bytes.length - old.length;
         const bad = (/** @type {string} */ text) => [element('p', { class: 'say bad' }, text)];
         if (fault !== '' || this.target === null) return [];
-        if (more > 0) return bad(`${texts.textCannotMoveBytes} ${format(texts.textShortenBy, { more: String(more) })}`);
+        if (more > 0) return bad(format(texts.textTooLong, { n: more }));
         if (this.input.value === '') return [element('p', { class: 'say plain' }, texts.textTypeNewText)];
         if (filled === null) return bad(`${format(texts.textCannotFill, { n: -more })} ${texts.textChooseAnotherByte}`);
         const { image, hit } = this.target;

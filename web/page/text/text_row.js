@@ -27,11 +27,11 @@ export function withCodes(cell) {
 }
 
 /**
- * The place of a text in a script.
- * @param {import('../../core/texts/all_texts.js').ListedText} place
+ * The place of a text in a script, or in an ordinary file.
+ * @param {Pick<import('../../core/texts/all_texts.js').ListedText, 'block' | 'offset'>} place
  */
 export function placeWords({ block, offset }) {
-    return `${block}, ${offset}`;
+    return block === '-' ? String(offset) : `${block}, ${offset}`;
 }
 
 /**
@@ -101,10 +101,10 @@ export class TextRow {
 
     /** Compares the typed text with its room. */
     drawSize() {
-        const { known: { fit, tightest }, input } = this;
+        const { known: { fit, tightest, mayMove }, input } = this;
         const room = fit === undefined || fit instanceof Error ? tightest.room : fit.room;
         const { n, fault } = this.sizeOf(input.value);
-        const isWrong = fault !== '' || n > room || (this.isKept() && this.known.why !== '');
+        const isWrong = fault !== '' || (n > room && !mayMove) || (this.isKept() && this.known.why !== '');
         const needed = `${n < 0 ? '…' : n}`;
         fill(this.size, element(isWrong ? 'b' : 'span', {}, format(texts.textOfRoom, { n: needed, room: String(room) })));
         this.room.className = `room${isWrong ? ' bad-ink' : ''}${input.value === '' ? ' quiet' : ''}`;
@@ -145,9 +145,12 @@ export class TextRow {
      * @param {number} more how many bytes it has too many
      */
     remark(fault, more) {
-        const { known: { places, why, written } } = this;
+        const { known: { places, why, written, waits, mayMove } } = this;
         if (fault !== '') return fault;
-        if (more > 0) return format(texts.textTooMany, { n: more });
+        if (more > 0 && !mayMove) return format(texts.textTooMany, { n: more });
+        const later = waits && this.isKept() ? texts.textNotInScript : '';
+        if (more > 0 && (why === '' || !this.isKept())) return `${format(texts.textHasToMove, { n: more })} ${later}`;
+        if (later !== '') return later;
         if (!this.isKept()) return places.length === 1 ? '' : format(texts.textPutsInAll, { n: places.length });
         if (why !== '') return why;
         return this.input.value === '' || written === places.length ? '' : format(texts.textInSomePlaces, { n: places.length, written });

@@ -8,24 +8,30 @@ import {
 } from '../ui/index.js';
 import { encodingLabel } from './encodings.js';
 import { KINDS } from './known_texts.js';
+import { TextChanges } from './text_changes.js';
 import { TextRow, placeWords, withCodes } from './text_row.js';
-import { leftWords, putIntoScript, rowOfListed } from './typed_text.js';
+import { rowOfListed } from './typed_text.js';
 import { VirtualRows } from './virtual_rows.js';
+import { askToLose, keptTexts, noteLeft } from './waiting_texts.js';
 
 /** @typedef {import('../app/state.js').App} App */
 /** @typedef {import('../app/state.js').Image} Image */
+/** @typedef {import('../app/state.js').PlainFile} PlainFile */
 /** @typedef {import('../../core/tasks/table.js').RowOptions} RowOptions */
 /** @typedef {import('./known_texts.js').KnownText} KnownText */
 /** @typedef {import('./known_texts.js').KnownTexts} KnownTexts */
 /** @typedef {import('./known_texts.js').Kind} Kind */
-/** The texts of an image; how new ones are fitted; and the bytes that were found to end texts. */
-/** @typedef {{ image: Image, texts: KnownTexts, options: RowOptions, ends: string[] }} List */
-/** @typedef {'csv' | 'tsv' | 'po'} Form */
-/** @typedef {{ known: KnownText, fresh: string }} Change */
-/** @typedef {import('../../core/tasks/table.js').FreshOf} FreshOf */
 /**
- * The callbacks to the panel: the function that finds the new texts of the script, as TextsTable returns it; and saving of the list.
- * @typedef {{ newTextOf: (image: Image) => Promise<FreshOf | null>, save: (list: List, form: Form) => Promise<void> }} CardOwner
+ * The texts of an image or an ordinary file; how new ones are fitted; the bytes that were found to end texts; whether the texts are names
+ * in records, or lines; and a function that puts the new texts of some into the script or the file, and returns their outcomes.
+ * @typedef {{ image: Image | PlainFile, texts: KnownTexts, options: RowOptions, ends: string[], areRecords: boolean,
+ *     areLines: boolean, put: (some: KnownText[]) => Promise<Map<KnownText, import('./known_texts.js').Outcome>> }} List
+ */
+/** @typedef {'csv' | 'tsv' | 'po'} Form */
+/** @typedef {import('./text_changes.js').ChangesOwner} ChangesOwner */
+/**
+ * The callbacks to the panel: finding the new texts of the script, as TextsTable does; saving the list; and noting changes of texts.
+ * @typedef {Pick<ChangesOwner, 'newTextOf'> & { save: (list: List, form: Form) => Promise<void>, changed: () => void }} CardOwner
  */
 
 const FILTERS = /** @type {const} */ ({ all: texts.textKindAll, empty: texts.textKindEmpty, left: texts.textKindLeft,
@@ -57,21 +63,13 @@ export class TextsCard {
         this.drawn = new Map();
         /** The index of the row that has the focus, or gets it by the Tab key. */
         this.chosen = 0;
-        /** @type {Change[][]} the earlier new texts of those that were typed, or replaced together */
-        this.done = [];
-        /** Ends when all typed texts are in the script. */
-        this.queue = Promise.resolve();
-        this.waiting = 0;
-        /** How often the script has changed since the text that is being put into it. */
-        this.changes = 0;
-        /** Whether the script has changed otherwise since its new texts were read. */
-        this.isOld = false;
-        /** Whether the texts that are not in the script are in a saved list. */
-        this.isSaved = true;
+        this.changes = new TextChanges(app, { newTextOf: owner.newTextOf, inFields: () => this.inFields(), redraw: () => this.redraw(),
+            failed: error => fill(this.message, notice('bad', sentence(error))) });
         this.find = element('input', { type: 'text', id: 'texts-find', class: 'slim', autocomplete: 'off', spellcheck: 'false',
             placeholder: texts.textFindInTexts, 'aria-label': texts.textFindInTexts, input: () => this.filter() });
         this.others = element('input', { type: 'text', id: 'texts-others', class: 'slim', autocomplete: 'off', spellcheck: 'false',
             placeholder: texts.textReplaceWith, 'aria-label': texts.textReplaceWith });
+        this.title = element('h2', { id: 'all-texts-title', tabindex: -1 }, texts.textAllTexts);
         this.filters = element('div', { class: 'seg', role: 'group', 'aria-label': texts.textWhichShown });
         this.meter = element('span', { class: 'meter small quiet' });
         this.back = button('slim bare', () => this.undo(), texts.undo, element('span', { class: 'hide' }, ` ${texts.textLastTyped}`));
@@ -88,34 +86,45 @@ export class TextsCard {
     }
 
     header() {
-        return element('header', {}, element('h2', { id: 'all-texts-title' }, texts.textAllTexts), this.filters, this.meter, this.back,
-            button('slim', () => void this.save(), texts.discSaveReport));
+        const save = button('slim', () => void this.save(), texts.discSaveReport);
+        return element('header', {}, this.title, this.filters, this.meter, this.back, save);
     }
 
     /** The search, and the replacement of what it finds. */
     changer() {
         return element('div', { class: 'row pad in-texts' }, this.find, this.others,
-            button('slim', () => this.replace(), texts.textReplaceInTexts));
+            button('slim', () => this.replaceWords(), texts.textReplaceInTexts));
     }
 
     listen() {
         const { app } = this;
-        oneTabStop(this.filters, 'button');
-        oneTabStop(this.strip, 'button');
-        askBeforeLeaving(() => this.isLost(), texts.textTypedAreLost, () => this.saveAs('csv'));
+        for (const part of [this.filters, this.strip]) oneTabStop(part, 'button');
+        for (const [isPlain, what] of /** @type {const} */ ([[false, texts.textTypedAreLost], [true, texts.textTypedNotInFile]])) {
+            askBeforeLeaving(() => (app.plain !== null) === isPlain && this.changes.isLost(), what, () => this.saveAs('csv'));
+        }
         app.on('image', () => this.take(null));
-        app.on('script', () => {
-            this.changes += 1;
-            if (this.list === null || (this.waiting > 0 && this.changes === 1)) return;
-            this.isOld = true;
-            this.update();
-        });
-        app.on('panel', () => this.update());
     }
 
-    /** Whether a typed text is neither in the script nor in a saved list. */
-    isLost() {
-        return !this.isSaved && this.list !== null && (this.waiting > 0 || this.list.texts.all.some(({ why }) => why !== ''));
+    /** The new texts that are only in their fields, because they are still being typed. */
+    inFields() {
+        return [...this.drawn].flatMap(([known, { input: { value } }]) => value === known.fresh ? [] : [{ known, fresh: value }]);
+    }
+
+    /**
+     * Shows other texts of the open image or file, with those that were typed and are not in the script. If some have no row there, the
+     * user is asked first. Returns whether the list is shown.
+     * @param {List} list
+     */
+    async replace(list) {
+        const { changes, lost } = keptTexts(this.list, list);
+        if (lost > 0 && this.changes.isLost()) {
+            const answer = await askToLose(lost);
+            if (answer === 'save') await this.saveAs('csv');
+            if (answer === '' || (answer === 'save' && this.changes.isLost())) return false;
+        }
+        this.take(list);
+        if (changes.length > 0) this.changes.put(list, changes);
+        return true;
     }
 
     /**
@@ -125,9 +134,7 @@ export class TextsCard {
     take(list) {
         this.list = list;
         this.card.hidden = list === null;
-        this.done = [];
-        this.isSaved = true;
-        this.isOld = false;
+        this.changes.take(list);
         this.kind = 'all';
         this.find.value = '';
         this.others.value = '';
@@ -155,6 +162,7 @@ export class TextsCard {
 
     /** Draws the filters with their counts, and how many texts are done. */
     drawHead() {
+        this.owner.changed();
         if (this.list === null) return;
         const { counts, signs } = this.list.texts;
         fill(this.filters, ...KINDS.map(kind => keyed(kind, element('button', { type: 'button', 'aria-pressed': String(kind === this.kind),
@@ -163,7 +171,7 @@ export class TextsCard {
         bar.style.width = `${100 * counts.done / counts.all}%`;
         fill(this.meter, element('span', { class: 'filled', 'aria-hidden': 'true' }, bar),
             format(texts.textDoneOfAll, { done: counts.done, all: counts.all }));
-        setDisabled(this.back, this.done.length === 0);
+        setDisabled(this.back, this.changes.done.length === 0);
         const characters = [...signs.keys()];
         fill(this.signs, characters.length > 0 && capital(remarkText({ code: 'list/new-characters', facts: { characters } })));
     }
@@ -173,7 +181,7 @@ export class TextsCard {
         const known = this.shown[index];
         const row = this.drawn.get(known) || new TextRow(known, {
             focused: () => this.choose(this.shown.indexOf(known)),
-            typed: fresh => this.typed([{ known, fresh }]),
+            typed: fresh => this.changes.typed([{ known, fresh }]),
             move: step => this.move(step),
             readFit: () => this.readFit(known),
             drawn: () => {
@@ -206,7 +214,7 @@ export class TextsCard {
     /** @param {number} step by how many rows the focus moves */
     move(step) {
         const index = this.chosen + step;
-        if (index < 0 || index >= this.shown.length) return;
+        if (this.shown[index] === undefined) return;
         this.rows.reveal(index);
         const row = this.drawn.get(this.shown[index]);
         row?.input.focus({ preventScroll: true });
@@ -221,61 +229,14 @@ export class TextsCard {
         this.drawn.get(known)?.drawSize();
     }
 
-    /**
-     * Notes new texts that were typed, and puts them into the script.
-     * @param {Change[]} changes
-     */
-    typed(changes) {
-        const { list } = this;
-        const others = changes.filter(({ known, fresh }) => fresh !== known.fresh);
-        if (others.length === 0 || list === null) return;
-        this.done.push(others.map(({ known }) => ({ known, fresh: known.fresh })));
-        this.put(list, others);
-    }
-
-    /** Brings the new texts back that were typed over last. */
+    /** Brings the new texts back that were typed over last, and shows them. */
     undo() {
-        const last = this.done.pop();
-        if (last === undefined || this.list === null) return;
-        this.put(this.list, last);
-        const index = this.shown.indexOf(last[0].known);
+        const known = this.changes.undo();
+        fill(this.message);
+        const index = this.shown.findIndex(it => it === known);
         if (index < 0) return;
         this.choose(index);
         this.rows.reveal(index);
-    }
-
-    /**
-     * @param {List} list
-     * @param {Change[]} changes
-     */
-    put(list, changes) {
-        for (const { known, fresh } of changes) list.texts.type(known, fresh);
-        this.isSaved = false;
-        this.waiting += 1;
-        this.redraw();
-        this.queue = this.queue.then(() => this.write(list, changes)).finally(() => {
-            this.waiting -= 1;
-            this.update();
-        });
-    }
-
-    /**
-     * Puts new texts into the script, or removes those that are empty now.
-     * @param {List} list
-     * @param {Change[]} changes
-     */
-    async write(list, changes) {
-        const { app } = this;
-        if (app.image !== list.image) return;
-        this.changes = 0;
-        const some = changes.flatMap(({ known, fresh }) => known.fresh === fresh ? [known] : []);
-        const failed = (/** @type {unknown} */ error) => new Map(some.map(known => [known, { written: 0, why: `${sentence(error)}.` }]));
-        const outcomes = await putIntoScript(app, list.image, some, list.options).catch(failed);
-        if (this.list !== list) return;
-        for (const { known, fresh } of changes) {
-            if (known.fresh === fresh) list.texts.note(known, fresh, outcomes.get(known) || { written: 0, why: '' });
-        }
-        this.redraw();
     }
 
     /**
@@ -283,47 +244,17 @@ export class TextsCard {
      * @param {import('../../core/tasks/fitted_lists.js').LeftRow[]} left
      */
     takeLeft(left) {
-        const { list } = this;
-        for (const { text: row, why } of list === null ? [] : left) {
-            const known = list?.texts.at(row);
-            if (known === undefined || row.fresh === '') continue;
-            list?.texts.type(known, row.fresh);
-            list?.texts.note(known, row.fresh, { written: 0, why: leftWords(why) });
-        }
+        if (this.list !== null) noteLeft(this.list, left);
         this.redraw();
     }
 
     /** Replaces the words that are sought by others, in all new texts that are shown. */
-    replace() {
+    replaceWords() {
         const [words, others] = [this.find.value, this.others.value];
-        const changes = this.shown.flatMap(known => words !== '' && known.fresh.includes(words)
-            ? [{ known, fresh: known.fresh.split(words).join(others) }] : []);
-        this.typed(changes);
+        const found = words === '' ? [] : this.shown.filter(({ fresh }) => fresh.includes(words));
+        const changes = found.map(known => ({ known, fresh: known.fresh.split(words).join(others) }));
+        this.changes.typed(changes);
         fill(this.message, notice(changes.length > 0 ? 'good' : 'plain', format(texts.textReplacedIn, { n: changes.length })));
-    }
-
-    /** Reads the new texts of the script again after it was changed elsewhere, if the table is seen. */
-    update() {
-        const { app, list } = this;
-        if (!this.isOld || list === null || app.panel !== 'text' || this.waiting > 0) return;
-        this.isOld = false;
-        this.waiting += 1;
-        this.queue = this.queue.then(() => this.readScript(list)).finally(() => {
-            this.waiting -= 1;
-            this.update();
-        });
-    }
-
-    /** @param {List} list */
-    async readScript(list) {
-        try {
-            const newTextOf = await this.owner.newTextOf(list.image);
-            if (newTextOf === null || this.list !== list) return;
-            await list.texts.readNews(newTextOf, this.app.closing.signal);
-            if (this.list === list) this.redraw();
-        } catch (error) {
-            if (this.list === list) fill(this.message, notice('bad', sentence(error)));
-        }
     }
 
     /** Draws all rows again, after changes of many texts. */
@@ -335,18 +266,17 @@ export class TextsCard {
 
     /** Shows the whole text of the chosen row, its encoding, and its places. */
     drawStrip() {
-        const { app, list } = this;
-        const known = this.shown[this.chosen];
+        const { app, list, chosen, shown: { [chosen]: known } } = this;
         if (list === null) return fill(this.strip);
         if (known === undefined) return fill(this.strip, texts.textNoneShown);
         const { places } = known;
-        const listed = places.slice(0, MOST_PLACES).map(place => button('tiny bare',
-            () => place.block !== '-' && app.goTo(place.block, place.offset, true), placeWords(place)));
+        const listed = places.slice(0, MOST_PLACES).map(({ block, offset }) => block === '-' ? element('span', {}, String(offset))
+            : button('tiny bare', () => app.goTo(block, offset, true), placeWords({ block, offset })));
         const more = places.length > MOST_PLACES && format(texts.andMore, { n: String(places.length - MOST_PLACES) });
         return fill(this.strip, element('p', { class: 'old-text' }, ...withCodes(known.text)),
             known.fresh.includes('{') && element('p', { class: 'old-text' }, ...withCodes(known.fresh)),
             element('div', { class: 'row quiet' }, element('span', {}, encodingLabel(known.encoding)),
-                element('span', {}, texts.textColumnPlace, ':'), ...listed, more,
+                element('span', {}, places[0].block === '-' ? texts.textColumnOffset : texts.textColumnPlace, ':'), ...listed, more,
                 list.ends.length > 0 && format(texts.textEndsFound, { bytes: list.ends.join(', ') })));
     }
 
@@ -354,13 +284,17 @@ export class TextsCard {
     async save() {
         const form = await askUser([texts.textSaveTextsAs], [], [['csv', [texts.textAsCsv]], ['tsv', [texts.textAsTsv]],
             ['po', [texts.textAsPo]]], 'csv');
-        if (form !== '') this.saveAs(form);
+        if (form !== '') await this.saveAs(form);
+    }
+
+    /** A promise that is kept when all that was typed is in the script or the file, also what is still in a field. */
+    settled() {
+        this.changes.typed(this.inFields());
+        return this.changes.queue;
     }
 
     /** @param {Form} form */
     saveAs(form) {
-        if (this.list === null) return;
-        this.isSaved = true;
-        void this.owner.save(this.list, form);
+        return this.changes.saveBy(list => this.owner.save(list, form));
     }
 }

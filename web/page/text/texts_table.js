@@ -1,43 +1,36 @@
 // Saves all texts of the disc as a table or a PO file for a translator, and generates lines of the script from lists with new texts.
 
-import { SEARCHED, withEnd } from '../../core/encodings/views.js';
-import { hexText } from '../../core/hex_digits.js';
 import { linesMade } from '../../core/script/views.js';
-import { exportTable, exportedPieces, importTable, listTexts, patchedTexts } from '../../core/tasks/index.js';
+import { importTable, patchedTexts } from '../../core/tasks/index.js';
 import { jobAt } from '../app/index.js';
 import { fileReader } from '../open/index.js';
 import { downloadBytes, patchedWork } from '../save/index.js';
 import * as texts from '../texts/index.js';
-import { format, remarkText, say } from '../texts/index.js';
-import { announce, button, capital, element, failureNotice, fill, nameOf, notice } from '../ui/index.js';
-import { chosenEncoding, tableSource } from './encodings.js';
+import { format, say } from '../texts/index.js';
+import { announce, button, element, failureNotice, fill, menuButton, nameOf, notice, showMessageAt } from '../ui/index.js';
+import { chosenEncoding, rowOptionsOf } from './encodings.js';
+import { bestWords, exportedList, exportedWords, inParts, listName } from './exported_list.js';
+import { importedWords } from './imported_words.js';
 import { KnownTexts } from './known_texts.js';
-import { LeftRows, reasonWords } from './left_rows.js';
+import { LeftRows } from './left_rows.js';
 import { mergedWords, rowsMerged } from './merged_rows.js';
+import { MovingTexts } from './moving_texts.js';
+import { PlainCard } from './plain_card.js';
+import { PlainTexts } from './plain_texts.js';
 import { TextsCard } from './texts_card.js';
+import { putIntoScript } from './typed_text.js';
+import { currentLeft, waitingOutcomes } from './waiting_texts.js';
+import { WhatToList } from './what_to_list.js';
 import { isWritten, withdrawnLines } from './withdrawn.js';
 
 /** @typedef {import('../app/jobs.js').Bar} Bar */
 /** @typedef {import('../app/state.js').App} App */
 /** @typedef {import('../app/state.js').Image} Image */
+/** @typedef {import('../app/state.js').PlainFile} PlainFile */
 /** @typedef {import('../../core/script/merge_lines.js').ScriptLine} ScriptLine */
-/** @typedef {import('../../core/texts/all_texts.js').ListedText} ListedText */
 /** @typedef {import('../../core/tasks/list_rows.js').ListRow} ListRow */
 /** @typedef {import('../ui/fill.js').Child} Child */
-
-/** The maximum number of lines, and of codes that new texts leave out, that are listed. */
-const MOST_NUMBERS = 200;
-const MOST_CODES = 20;
-
-/**
- * A remark on a list, as a sentence.
- * @template {'list/code-left' | 'list/fuzzy'} Name
- * @param {Name} code
- * @param {import('../../core/facts.js').Facts[Name]} facts
- */
-function remarkWords(code, facts) {
-    return `${capital(remarkText(/** @type {import('../../core/facts.js').Remark} */ ({ code, facts })))}.`;
-}
+/** @typedef {import('./known_texts.js').KnownText} KnownText */
 
 /** The buttons for tables, their messages, and the rows that do not fit. */
 export class TextsTable {
@@ -53,17 +46,32 @@ export class TextsTable {
         this.job = element('div', { class: 'stack' });
         this.message = element('div', { role: 'status' });
         this.left = new LeftRows(app, () => this.ended());
-        this.known = new TextsCard(app, { newTextOf: image => this.newTextOf(image), save: (list, form) => this.saveKnown(list, form) });
-        this.part = element('div', { class: 'stack tight' }, element('div', { class: 'row texts-table' },
-            element('span', { class: 'small quiet' }, texts.textAllTextsAsTable),
+        this.what = new WhatToList(app);
+        this.known = new TextsCard(app, { newTextOf: image => this.newTextOf(image), save: (list, form) => this.saveKnown(list, form),
+            changed: () => this.changed() });
+        /** @type {MovingTexts} */
+        this.moving = new MovingTexts(app, { known: this.known, madeNotice: (...made) => this.madeNotice(...made) });
+        this.plain = /** @type {PlainTexts | null} */ (null);
+        this.plainCard = new PlainCard(app, { plain: () => this.plain, options: () => this.rowOptions(),
+            settled: () => this.known.settled() });
+        this.label = element('span', { class: 'small quiet' }, texts.textAllTextsAsTable);
+        this.part = element('div', { class: 'stack tight' }, element('div', { class: 'row texts-table' }, this.label,
             button('slim', () => void this.list(), texts.textShowAllTexts),
-            button('slim', () => void this.save('csv'), texts.textExportTexts),
-            button('slim', () => void this.save('po'), texts.textExportPo),
+            menuButton('slim', 'export', texts.textExport, () => [
+                { label: texts.textExportTexts, press: () => void this.save('csv') },
+                { label: texts.textExportPo, press: () => void this.save('po') }]),
             button('slim', () => this.input.click(), texts.textImportTable),
             element('label', { class: 'row small quiet' }, texts.textEndByte, this.end)),
-        element('p', { class: 'small quiet hint' }, texts.textHowRecognised), this.job, this.message, this.input);
-        app.on('image', () => this.forget());
+        this.what.hint, this.what.part, this.job, this.message, this.input);
+        for (const name of /** @type {const} */ (['image', 'plain'])) app.on(name, () => this.opened());
         app.addTaker(file => this.isTable(file));
+    }
+
+    opened() {
+        const { plain } = this.app;
+        this.plain = plain && new PlainTexts(plain);
+        fill(this.label, plain === null ? texts.textAllTextsAsTable : texts.textAllTextsOfFile);
+        this.forget();
     }
 
     forget() {
@@ -71,20 +79,27 @@ export class TextsTable {
         void this.left.show(null);
     }
 
+    /** Texts of the table may have changed: those that did not fit may be in the script now. */
+    changed() {
+        this.moving.draw();
+        const own = this.known.list?.texts;
+        if (this.left.leaveWritten(row => own?.at(row)?.isWritten === true)) fill(this.message);
+    }
+
     /**
-     * Runs a job on the open image with a progress bar, and shows its result.
+     * Runs a job on the open image or file with a progress bar, and shows its result.
      * @param {string} name of the job
      * @param {string} noun the things that it counts, in the plural
      * @param {string} failure the message if it fails
-     * @param {(image: Image, bar: Bar, signal: AbortSignal) => Promise<Child>} job
+     * @param {(image: Image | PlainFile, bar: Bar, signal: AbortSignal) => Promise<Child>} job
      */
     async work(name, noun, failure, job) {
         const { app } = this;
-        const { image } = app;
+        const { opened: image } = app;
         if (image === null) return void fill(this.message, notice('warn', texts.textNoImageIsOpen, texts.textOpenDiscFirst));
         return jobAt(app, this.job, {
             name, noun, of: 'image', run: (bar, signal) => {
-                this.forget();
+                fill(this.message);
                 return job(image, bar, signal);
             },
             done: message => fill(this.message, message),
@@ -92,43 +107,48 @@ export class TextsTable {
         });
     }
 
-    /** The encoding of the texts: the usual ones ({}) if one of these is chosen, or one without characters; else the chosen one. */
-    textOptions() {
-        const encoding = chosenEncoding(this.app);
-        const table = tableSource(encoding);
-        if (table !== undefined) return { table };
-        return SEARCHED.includes(encoding) || !encoding.hasCharacters ? {} : { encoding: encoding.name };
-    }
-
     /** The byte that ends texts, if one was entered. */
     endByte() {
         return /^[0-9A-Fa-f]{2}$/.test(this.end.value) ? parseInt(this.end.value, 16) : undefined;
     }
 
-    /** In which encodings the rows of lists are read: in the game's own table, if one is chosen; else in the chosen and the usual ones. */
     rowOptions() {
-        const { app } = this;
-        const encoding = chosenEncoding(app);
-        const isAsked = app.tables.has(app.encoding);
-        const encodings = isAsked ? [encoding] : [...new Set([...encoding.hasCharacters ? [encoding] : [], ...SEARCHED])];
-        return { encodings: encodings.map(it => withEnd(it, this.endByte())), isAsked };
+        return rowOptionsOf(this.app, this.endByte());
     }
 
-    /** Lists all texts of the disc in the table, with the new texts of the script. */
-    list() {
-        return this.work(texts.textLookingForTexts, '', texts.textNotListed, async (image, bar, signal) => {
-            const found = new KnownTexts();
-            const [options, ends] = [this.rowOptions(), /** @type {Set<string>} */ (new Set())];
-            const ended = (/** @type {string} */ _, /** @type {number} */ byte) => void ends.add(hexText(Uint8Array.of(byte)));
-            const how = { ...this.textOptions(), end: this.endByte(), ended };
-            const watch = { signal, progress: bar.sectors };
-            for await (const some of listTexts(this.app, image.opened, how, watch)) await found.add(some, signal);
-            if (found.all.length === 0) return notice('plain', texts.textNoTextFound, texts.textAnotherEncoding);
-            const newTextOf = await this.newTextOf(image);
-            if (newTextOf !== null) await found.readNews(newTextOf, signal);
-            this.known.take({ image, texts: found, options, ends: [...ends] });
-            return newTextOf === null ? notice('warn', texts.textTableLacksScript) : null;
-        });
+    /** Lists the texts of the disc, or what was chosen of them, in the table, with the new texts of the script. */
+    async list() {
+        const before = this.known.list;
+        await this.work(texts.textLookingForTexts, texts.textMakingOfRows, texts.textNotListed, (...given) => this.listInto(...given));
+        if (this.known.list !== before) this.known.title.focus();
+    }
+
+    /**
+     * @param {Image | PlainFile} image
+     * @param {Bar} bar
+     * @param {AbortSignal} signal
+     */
+    async listInto(image, bar, signal) {
+        const found = new KnownTexts();
+        const options = this.rowOptions();
+        const { pieces, areRecords, areLines, best, ends } = await this.what.listing(image.opened, this.endByte(), bar, signal);
+        for await (const some of pieces) await found.add(some, signal);
+        if (found.all.length === 0) return notice('plain', texts.textNoTextFound, texts.textAnotherEncoding);
+        await this.known.settled();
+        const newTextOf = await this.newTextOf(image);
+        if (newTextOf !== null) await found.readNews(newTextOf, signal);
+        const { app, plain } = this;
+        const put = async (/** @type {KnownText[]} */ some) => {
+            if (plain !== null) return plain.put(some, options);
+            return this.moving.letsWait(list) ? waitingOutcomes(some) : putIntoScript(app, /** @type {Image} */ (image), some, options);
+        };
+        const list = { image, texts: found, options, ends: [...ends], areRecords, areLines, put };
+        if (!await this.known.replace(list)) return null;
+        const { left } = this.left;
+        if (left !== null) this.known.takeLeft(currentLeft(list, left.rows));
+        const [names] = bestWords(best);
+        if (newTextOf === null) return notice('warn', texts.textTableLacksScript, names || '');
+        return names === undefined ? null : notice('plain', names);
     }
 
     /**
@@ -136,13 +156,12 @@ export class TextsTable {
      * @param {import('./texts_card.js').List} list
      * @param {import('./texts_card.js').Form} form
      */
-    async saveKnown({ image, texts: { listed, news } }, form) {
-        const all = (async function* () { yield listed; })();
-        const pieces = [];
-        for await (const { text } of exportedPieces(all, { form, freshOf: it => news.get(it) || '' })) pieces.push(text);
-        const name = `${image.name.replace(/\.[^.]*$/, '')} (texts).${form}`;
+    async saveKnown({ image, areRecords, texts: { listed, news } }, form) {
+        const { pieces } = await exportedList(inParts(listed), { form, areRecords, newTextOf: it => news.get(it) || '' });
+        const name = listName(image.name, areRecords, form);
         downloadBytes(pieces, name);
-        fill(this.message, notice('good', say(texts.discFileSaved, { name: nameOf(name) })));
+        if (this.plain !== null) this.plain.saved = this.plain.changes;
+        showMessageAt(this.known.message, notice('good', say(texts.discFileSaved, { name: nameOf(name) })));
     }
 
     /**
@@ -150,46 +169,34 @@ export class TextsTable {
      * @param {'csv' | 'po'} form
      */
     save(form) {
-        return this.work(texts.textLookingForTexts, '', texts.textNoTableSaved, async (image, bar, signal) => {
-            const pieces = [];
-            let [all, news] = [0, 0];
-            /** @type {Set<string>} */
-            const ends = new Set();
-            const ended = (/** @type {string} */ _, /** @type {number} */ byte) => void ends.add(hexText(Uint8Array.of(byte)));
-            const how = { ...this.textOptions(), end: this.endByte(), form, ended };
+        return this.work(texts.textLookingForTexts, texts.textMakingOfRows, texts.textNoTableSaved, async (image, bar, signal) => {
             const newTextOf = await this.newTextOf(image);
-            const freshOf = async (/** @type {ListedText} */ listed) => {
-                const fresh = newTextOf === null ? '' : await newTextOf(listed);
-                news += Number(fresh !== '');
-                return fresh;
-            };
-            const watch = { signal, progress: bar.sectors };
-            for await (const { text, count } of exportTable(this.app, image.opened, { ...how, freshOf }, watch)) {
-                pieces.push(text);
-                all += count;
-            }
-            if (all === 0) return notice('plain', texts.textNoTextFound, texts.textAnotherEncoding);
-            const name = `${image.name.replace(/\.[^.]*$/, '')} (texts).${form}`;
+            const { pieces: listed, areRecords, best, ends } = await this.what.listing(image.opened, this.endByte(), bar, signal);
+            const { pieces, ...counts } = await exportedList(listed, { form, areRecords, newTextOf, signal });
+            if (counts.all === 0) return notice('plain', texts.textNoTextFound, texts.textAnotherEncoding);
+            const name = listName(image.name, areRecords, form);
             downloadBytes(pieces, name);
-            const words = [format(texts.textTableHasTexts, { n: all }), ...news > 0 ? [format(texts.textHasNewTexts, { n: news })] : [],
-                ...ends.size > 0 ? [format(texts.textEndsFound, { bytes: [...ends].join(', ') })] : [],
-                form === 'po' ? texts.textTranslatePo : texts.textWriteNewTexts];
+            const words = exportedWords({ ...counts, best, ends, form });
             const lacking = newTextOf === null ? texts.textTableLacksScript : '';
-            return notice(lacking === '' ? 'good' : 'warn', say(texts.discFileSaved, { name: nameOf(name) }), words.join(' '), lacking);
+            return notice(lacking === '' ? 'good' : 'warn', say(texts.discFileSaved, { name: nameOf(name) }), words, lacking);
         });
     }
 
     /**
-     * The function that finds the new texts of the script; null if the script has a faulty line.
-     * @param {Image} image
+     * The function that finds the new texts of the script, or of the ordinary file; null if the script has a faulty line.
+     * @param {Image | PlainFile} image
+     * @returns {Promise<import('../../core/tasks/table.js').FreshOf | null>}
      */
     async newTextOf(image) {
-        const { app } = this;
+        const { app, plain } = this;
+        if (!('disc' in image)) return plain && plain.newTextOf();
         if (app.script.faults > 0) return null;
         if (app.script.patches === 0) return async () => '';
         const work = { reader: image.reader, base: image.base, script: app.script.text(), carry: true };
         const { result } = await patchedWork(app, work);
-        return patchedTexts(image.opened, result, { own: chosenEncoding(app), isWritten: range => app.script.lineAt(range) > 0 });
+        const { pointed } = this.moving;
+        return patchedTexts(image.opened, result, { own: chosenEncoding(app), end: this.endByte(), pointed,
+            isWritten: range => app.script.lineAt(range) > 0 });
     }
 
     chosen() {
@@ -215,8 +222,11 @@ export class TextsTable {
     take(file) {
         const { app } = this;
         return this.work(texts.discMakingLines, texts.textMakingOfRows, texts.discNothingAdded, async (image, bar, signal) => {
+            this.forget();
+            if (this.moving.letsWait(this.known.list)) return this.moving.importList(file, this.left, { signal, progress: bar.things });
             const options = this.rowOptions();
             const lists = [{ name: file.name, reader: fileReader(file) }];
+            if (!('disc' in image)) return this.takeIntoFile(image, lists, bar, signal);
             const isAlso = (/** @type {ListRow} */ row) => isWritten(app, row);
             const imported = { ...options, lists, isAlso, partial: true };
             const made = await importTable(app, image.opened, imported, { signal, progress: bar.things });
@@ -231,30 +241,36 @@ export class TextsTable {
     }
 
     /**
-     * @param {import('../../core/tasks/table.js').ImportedTable} made
-     * @param {import('../../core/script/merge_lines.js').Merged} merged
-     * @param {ScriptLine[]} withdrawn
+     * Keeps the new texts of lists for the ordinary file, and shows those that do not fit in the table.
+     * @param {PlainFile} file
+     * @param {import('../../core/disc/disc.js').DiscFile[]} lists
+     * @param {Bar} bar
+     * @param {AbortSignal} signal
      */
-    madeNotice({ count, left: rowsLeft, codes, glyphs, fuzzy }, merged, withdrawn) {
-        const { length: left } = rowsLeft;
-        const fit = count - left;
-        const isAny = merged.added + merged.replaced + merged.same + withdrawn.length > 0;
-        const added = mergedWords(merged) || texts.discNothingAdded;
-        const all = fit === 0 ? '' : format(texts.textNewTextsFit, { n: fit });
-        const rows = left === 0 ? all
-            : `${format(texts.textSomeTextsFit, { n: fit })} ${format(texts.textOthersDoNot, { n: left, why: reasonWords(rowsLeft) })}`;
-        const n = withdrawn.length;
-        const lines = withdrawn.map(({ number }) => number).slice(0, MOST_NUMBERS).join(', ') + (n > MOST_NUMBERS ? ', …' : '');
-        const others = [n > 0 && format(texts.textLinesWithdrawn, { n, lines }),
-            ...codes.slice(0, MOST_CODES).map(it => remarkWords('list/code-left', it)),
-            codes.length > MOST_CODES && format(texts.textMoreCodesLeftOut, { n: codes.length - MOST_CODES }),
-            fuzzy > 0 && remarkWords('list/fuzzy', { count: fuzzy })].flatMap(it => it || []);
-        const newCharacters = glyphs.length > 0 && capital(remarkText({ code: 'list/new-characters', facts: { characters: glyphs } }));
-        const remarks = [...others, ...newCharacters ? [newCharacters] : []];
+    async takeIntoFile(file, lists, bar, signal) {
+        const { plain, known } = this;
+        if (plain === null) return null;
+        const made = await plain.importList(lists, this.rowOptions(), { signal, progress: bar.things });
+        if (known.list === null) await this.listInto(file, bar, signal);
+        else await known.list.texts.readNews(plain.newTextOf(), signal);
+        known.takeLeft(made.left);
+        const { isGood, words: [head, ...more] } = importedWords(made, format(texts.textPlainHas, { n: plain.rows.size }), []);
+        return notice(isGood ? 'good' : 'warn', head, ...more.map(it => element('p', {}, it)));
+    }
+
+    /**
+     * @param {Parameters<typeof importedWords>[0]} made
+     * @param {import('../../core/script/merge_lines.js').Merged} merged
+     * @param {ScriptLine[]} [withdrawn]
+     * @param {boolean} [hasButtons]
+     */
+    madeNotice(made, merged, withdrawn = [], hasButtons = true) {
+        const { isGood, words: [added, rows, ...remarks] } = importedWords(made, mergedWords(merged) || texts.discNothingAdded, withdrawn);
+        const isAny = hasButtons && merged.added + merged.replaced + merged.same + withdrawn.length > 0;
         announce([added, rows, ...remarks].join(' '));
-        return notice(left + others.length === 0 ? 'good' : 'warn', added, rows, ...remarks.map(it => element('p', {}, it)),
-            isAny && element('div', { class: 'row' },
-                n > 0 && button('slim', () => this.remove(withdrawn), texts.textRemoveLines), this.scriptButton()));
+        const more = remarks.map(it => element('p', {}, it));
+        return notice(isGood ? 'good' : 'warn', added, rows, ...more, isAny && element('div', { class: 'row' },
+            withdrawn.length > 0 && button('slim', () => this.remove(withdrawn), texts.textRemoveLines), this.scriptButton()));
     }
 
     /** Says that all rows that did not fit are in the script. */

@@ -1,6 +1,6 @@
 // Puts new texts that were typed in the table of texts into the script, at all places of the old texts, and removes them again.
 
-import { linesMade } from '../../core/script/views.js';
+import { linesMade, userPlace } from '../../core/script/views.js';
 import { importRows } from '../../core/tasks/index.js';
 import * as texts from '../texts/index.js';
 import { format, remarkText } from '../texts/index.js';
@@ -31,6 +31,31 @@ export function rowOfListed({ block, offset, room, encoding, text, fill = '' }, 
 }
 
 /**
+ * The outcome of a text at whose place a line of the script has other bytes.
+ * @param {number} line
+ * @returns {Outcome}
+ */
+function writtenBy(line) {
+    return { written: 0, why: format(texts.textLineWritesHere, { line: String(line) }) };
+}
+
+/**
+ * The number of a line of the open script that writes in the room of a text, and also before or after it, or 0: in a script that moves
+ * texts, it may have others too.
+ * @param {App} app
+ * @param {KnownText} known
+ */
+function lineAcross({ script }, { places }) {
+    for (const { block, offset, room } of places) {
+        const from = block === '-' ? -1 : userPlace({ block, offset });
+        const line = block === '-' ? undefined : script.linesWriting({ block, offset, size: room }).find(({ patch }) =>
+            patch !== null && (userPlace(patch) < from || userPlace(patch) + patch.size > from + room));
+        if (line !== undefined) return line.number;
+    }
+    return 0;
+}
+
+/**
  * Puts the new texts of some texts into the script, at the places where they fit, and removes the lines of those that have none any more.
  * Returns at how many places each is written, and why not at the others.
  * @param {App} app
@@ -39,8 +64,12 @@ export function rowOfListed({ block, offset, room, encoding, text, fill = '' }, 
  * @param {RowOptions} options
  */
 export async function putIntoScript(app, image, some, options) {
-    await removeFromScript(app, image, some.filter(({ fresh }) => fresh === ''), options);
-    return putNewTexts(app, image, some.filter(({ fresh }) => fresh !== ''), options);
+    const lines = new Map(some.map(known => [known, lineAcross(app, known)]));
+    const free = some.filter(known => lines.get(known) === 0);
+    await removeFromScript(app, image, free.filter(({ fresh }) => fresh === ''), options);
+    const outcomes = await putNewTexts(app, image, free.filter(({ fresh }) => fresh !== ''), options);
+    for (const [known, line] of lines) if (line > 0) outcomes.set(known, writtenBy(line));
+    return outcomes;
 }
 
 /**
@@ -53,7 +82,6 @@ export async function putIntoScript(app, image, some, options) {
  */
 async function putNewTexts(app, image, some, options) {
     const owners = new Map(some.flatMap(known => known.places.map(place => [rowOfListed(place, known.fresh), known])));
-    const outcomes = new Map(some.map(known => [known, { written: known.places.length, why: '' }]));
     const { script, left } = await importRows(app, image.opened, [...owners.keys()], options);
     const line = lineBeside(app, script);
     if (line > 0 && some.length > 1) {
@@ -61,13 +89,25 @@ async function putNewTexts(app, image, some, options) {
         for (const known of some) each.push(...await putNewTexts(app, image, [known], options));
         return new Map(each);
     }
-    if (line > 0) return new Map([[some[0], { written: 0, why: format(texts.textLineWritesHere, { line: String(line) }) }]]);
+    if (line > 0) return new Map([[some[0], writtenBy(line)]]);
     if (some.length > 0) await rowsMerged(app, image, script);
+    return outcomesOf(owners, left, row => isWritten(app, row) ? ` ${texts.textScriptKeeps}` : '');
+}
+
+/**
+ * At how many places each new text is written, and why not at the others.
+ * @param {Map<ListRow, KnownText>} owners the texts of the rows that were to be written
+ * @param {import('../../core/tasks/fitted_lists.js').LeftRow[]} left the rows of these that do not fit
+ * @param {(row: ListRow) => string} remarkOn another sentence on a row that does not fit
+ */
+export function outcomesOf(owners, left, remarkOn = () => '') {
+    /** @type {Map<KnownText, Outcome>} */
+    const outcomes = new Map(Array.from(owners.values(), known => [known, { written: known.places.length, why: '' }]));
     for (const { text: row, why } of left) {
         const outcome = outcomes.get(/** @type {KnownText} */ (owners.get(row)));
         if (outcome === undefined) continue;
         outcome.written -= 1;
-        outcome.why = outcome.why || leftWords(why) + (isWritten(app, row) ? ` ${texts.textScriptKeeps}` : '');
+        outcome.why = outcome.why || leftWords(why) + remarkOn(row);
     }
     return outcomes;
 }

@@ -105,8 +105,7 @@ export const frameUserDataMeans = 'The 2048 bytes of a Mode 1 sector in which fi
     'the header.';
 export const frameWordEdcParity = 'EDC and parity';
 export const frameEdcParityMeans = 'EDC is a checksum of the sector. P and Q parity are codes by which a drive corrects read errors. ' +
-    'cdpatch ' +
-    'recalculates both in each sector that it changes.';
+    'A patch recalculates both in its sector; a correction never changes the EDC.';
 export const frameWordCarry = 'Carry';
 export const frameCarryMeans = 'A patch on a damaged sector is normally refused. With carry it is accepted, and the sector keeps its ' +
     'damage, ' +
@@ -218,9 +217,21 @@ export const openRepairUsesCommon = 'A repair uses the blocks that both images h
 export const listTitle = 'List of files';
 export const listExamining = 'Examining the files';
 export const listExamined = '{done} of {n} file was examined.|{done} of {n} files were examined.';
-export const listSave = 'Save…';
+export const listOpenMore = 'Open more files…';
+export const listMore = 'More about the list';
+export const listSave = 'Save the list…';
 export const listOpenIt = 'Open it';
-export const listFindings = 'findings';
+export const listFindings = 'Findings';
+export const listNone = 'none';
+export const listDamaged = '{n} damaged';
+export const listLost = '{n} lost';
+export const listShort = '{n} block missing at the end|{n} blocks missing at the end';
+export const listCut = '{n} incomplete sector|{n} incomplete sectors';
+export const listGap = 'sectors missing or extra at {n} place|sectors missing or extra at {n} places';
+export const listMissing = '{n} track missing|{n} tracks missing';
+export const listUntestedSectors = '{n} not tested';
+export const listUnread = '{n} track not read|{n} tracks not read';
+export const listAddress = '{n} wrong address|{n} wrong addresses';
 export const listWithout = 'without findings';
 export const listWith = 'with findings';
 export const listUntested = 'not tested';
@@ -234,7 +245,8 @@ export const imageFindingsOfTab = '{n} finding|{n} findings';
 export const imageChangeBase = 'Change';
 export const imageSetTheBase = 'Set the base…';
 export const imageDetails = 'Details';
-export const imageTheImage = ' the image';
+export const imageMore = 'More about the image';
+export const imageCloseIt = 'Close the image';
 export const imageSizeAndSectors = '{size} bytes · {n} sector|{size} bytes · {n} sectors';
 export const imageTailOf = 'a tail of {n} byte|a tail of {n} bytes';
 export const imageFromSheet = 'from {sheet}: {tracks}';
@@ -242,7 +254,7 @@ export const imageTrackOfType = 'track {number}, {type}';
 export const imageDataTrack = 'Data track {choice}';
 export const imageHashNotKnown = 'not known';
 export const imageSumsOfImage = '{name}\nsize {size}\nCRC-32 {crc32}\nSHA-1 {sha1}\n';
-export const imageCopyHashes = 'Copy all hashes';
+export const imageAllHashes = ' all hashes';
 export const imageBlockOfFirst = 'The block of the first sector';
 export const imageSetIt = 'Set';
 
@@ -271,6 +283,9 @@ export const modeTwoEdc = 'the EDC does not match';
 export const modeTwoParity = 'the parity does not match';
 export const imageRepairFromOther = 'Repair from another dump…';
 export const imageGoToFirstPlace = 'Go to the first finding';
+export const imageFindText = 'Find a text';
+export const imageCompareWith = 'Compare with…';
+export const imageApplyPatch = 'Apply a patch…';
 export const imageNoAddressFits = 'No Mode 1 sector has the address expected for its block.';
 export const imageBaseIsProbably = 'Judging by the addresses, the base is probably {base}, not {own}.';
 export const imageSectorsAreDamaged = '{n} sector is damaged.|{n} sectors are damaged.';
@@ -282,7 +297,7 @@ export const imageVolumeMayGoOn =
 
 // closing the open image
 export const imageCloseImage = 'Close {name}?';
-export const imageSaveAndClose = 'Save the script and close';
+export const imageSaveAndClose = 'Save and close';
 export const imageCloseAnyway = 'Close it anyway';
 
 // ---- disc: map, findings, files
@@ -293,7 +308,7 @@ export const discMapOfDisc = 'Map of the disc';
 export const discSquareIsSector = '1 square = 1 sector';
 export const discPixelIsSector = '1 pixel = 1 sector';
 export const discPixelIsSectors = '1 pixel = {n} sectors, the worst shown';
-export const discFilesInShades = '{per}; neighbouring files have different shades';
+export const discFilesInShades = '{per}; files in two shades';
 export const discMinutesOnRuler = '{minute} min';
 export const discNoSectorChosen = 'No sector is chosen.';
 export const discPressLegendEntry = 'Legend: select an entry to show only that kind';
@@ -314,12 +329,11 @@ export const discAddressOfSector = 'address {address}';
 export const discFileIs = 'file {name}';
 
 // the card of findings: its tabs and buttons; screen readers say the second text of a copy button after the first
-export const discFindingsCard = 'Findings, files and runs';
-export const discFindingsTabs = 'Findings, files, runs, text';
+export const discFindingsCard = 'Findings, files, and details';
+export const discFindingsTabs = 'Findings, files, details';
 export const discFindingsTab = 'Findings';
 export const discFilesTab = 'Files';
-export const discRunsTab = 'Runs';
-export const discAsTextTab = 'As text';
+export const discDetailsTab = 'Details';
 export const discCopyReportWhat = ' the report';
 export const discSaveReport = 'Save…';
 
@@ -331,7 +345,7 @@ export const discSectorsLabel = 'sectors';
 export const discWhatColumn = 'What';
 export const discLooksLikeColumn = 'Looks like';
 export const discLooksLikeIsGuess = '“Looks like” is a guess from the spacing of the damaged sectors. The other columns are facts.';
-export const discMoreFindings = 'and {n} more (all are under “As text”)';
+export const discMoreFindings = 'and {n} more (all are under “Details”)';
 
 // the findings at a place
 export const discDataFound = 'data';
@@ -410,15 +424,16 @@ export const discRunBlocksColumn = 'Blocks';
 export const discKindColumn = 'Kind';
 export const discBeginsAtColumn = 'Begins at';
 export const discBeginsAtLabel = 'begins at';
-export const discMoreRuns = 'and {n} more (all are under “As text”).';
+export const discMoreRuns = 'and {n} more (all are in the output of cdpatch list).';
 export const discRunIsNeighbours = 'A run is a series of neighbouring sectors of one kind. Begins at: minutes, seconds, frames of 1/75 ' +
     'second.';
 
 // the text that the program prints
-export const discWhichText = 'Which text';
-export const discWhatProgramPrints = 'Output of cdpatch {verb}';
+export const discWhichDetails = 'Which details';
+export const discRunsOfSectors = 'Runs of sectors';
+export const discWhatProgramPrints = 'Output of {command}';
 export const discMoreLinesPrinted = '… {n} more line: Copy and Save have all|… {n} more lines: Copy and Save have all';
-export const discPrintedToTheByte = 'Exactly what the command cdpatch prints.';
+export const discPrintedToTheByte = 'Exactly what the command {command} prints.';
 export const discPrintedButForAddresses = 'Exactly what the command cdpatch prints, except for addresses: cdpatch counts from block 0, ' +
     'and this image begins before block 0.';
 
@@ -442,8 +457,8 @@ export const sectorOfBlock = 'Sector of {block} {number}';
 export const sectorGoToBlock = 'Go to block';
 export const sectorBlocksOfImage = 'The blocks of this image are {first} to {last}.';
 export const sectorEncodingOfBytes = 'Encoding';
-export const sectorOffsetsDecimal = 'Show decimal offsets';
-export const sectorOffsetsHexadecimal = 'Show hex offsets';
+export const sectorMore = 'More about the sector';
+export const sectorOffsetsHexadecimal = 'Offsets in hexadecimal';
 export const sectorHowToOpenSector =
     'Click the map, or a block in the findings. With the keyboard: {tab} to the map, then the arrows and {enter}.';
 export const sectorTabKey = 'Tab';
@@ -465,6 +480,10 @@ export const sectorTheyCrossNowhere = '{codes}; they have no byte in common.';
 export const sectorTheyCrossOnce = '{codes}; they cross at the outlined byte, {place}: it is probably the wrong one.';
 export const sectorTheyCross = '{codes}; they cross at the {count} outlined bytes, {place}: the wrong ones are probably among these.';
 export const sectorByteOfCodes = 'P and Q give {fresh} in place of {old} at {place}. The EDC then matches.';
+export const sectorBytesOfCodes = 'P and Q give {n} other bytes, {place}. The EDC then matches.';
+export const sectorOwnEdcConfirms = 'It is the EDC that was read, {edc}, and all of P and Q match too.';
+export const sectorNeverCorrected =
+    'A correction never changes this byte, because the header and the EDC that were read have to confirm it.';
 export const sectorBytesFromTo = '{first} to {last}';
 export const sectorSoundElsewhere = 'This sector is sound, but it has a wrong address. {line}';
 export const sectorHeaderSays = 'Its header says {has}, and block {block} has {wants}.';
@@ -484,7 +503,19 @@ export const sectorNoPatchRepairsThat = 'It has probably lost its sync field or 
 export const sectorHasSoundCopy = '{name} has a sound copy, which will be used.';
 export const sectorCopyIsDoubtful = 'But its data and EDC are different: compare the two first. Perhaps it is another release.';
 export const sectorHasNoSoundCopy = '{name} has no sound copy of it.';
+export const sectorParityCanCorrect = 'But its own parity can correct it.';
 export const sectorRepairFrom = 'Repair from {name}';
+export const sectorCorrectIt = 'Correct it';
+export const sectorCorrectionIsInScript = 'The correction is in the script';
+export const sectorCorrectedInScript = 'Corrected in the script, but not in this file: apply the script and save the image.';
+export const sectorWhyRebuildFirst =
+    'Only after a rebuild can a damaged sector be patched. The lines after it write the bytes that its EDC confirmed, so no damage ' +
+    'is hidden.';
+export const sectorCorrectAll = 'Correct all sectors of this kind…';
+export const sectorLineCorrects = 'Line {line} of the script corrects this sector from its own parity.';
+export const sectorLinesCorrect = 'Lines {first} to {last} of the script correct this sector from its own parity.';
+export const sectorCorrectionConflicts =
+    'Line {line} of the script expects bytes that a correction would change: remove that line before you correct this sector.';
 export const sectorAddToScript = 'Add {verb} to the script';
 export const sectorIsInScript = '{verb} is in the script';
 export const sectorRebuildsNow = 'Line {line} is {patch} now.';
@@ -493,6 +524,7 @@ export const sectorRebuildHidesDamage =
     '{verb} makes the sector valid with its present bytes. If these are wrong, it hides the damage for good.';
 
 // the fields and bytes of a sector
+export const sectorFields = 'Fields of the sector';
 export const sectorPressFieldToGo = 'Fields (select one to jump there)';
 export const sectorSyncField = 'sync';
 export const sectorHeaderField = 'header';
@@ -512,11 +544,6 @@ export const sectorOffsetIs = '{offset} {at}';
 export const sectorByteOfSector = 'byte {at} of the sector';
 export const sectorPlaceHolds = '{place}: {digits}';
 
-// the keys, each between `, in one line over the bytes: of digits, of texts, and of bytes that cannot be changed
-export const sectorKeysOfDigits = '`arrows` move · `0`–`F` change · `T` for text · `Ctrl`+`Z` undoes · `Ctrl`+`C` copies';
-export const sectorKeysOfTexts = 'type the text · `Esc` for digits · `Ctrl`+`Z` undoes · `Ctrl`+`C` copies';
-export const sectorKeysOfOthers = '`arrows` move · `Ctrl`+`C` copies';
-
 // the chosen byte
 export const sectorFileAt = 'file {name} at {position}';
 export const sectorInNoFile = 'in no file';
@@ -527,7 +554,7 @@ export const sectorCopyAsHex = 'Copy as hex';
 export const sectorCopyAsText = 'Copy as text';
 export const sectorChangedByScript = 'changed by the script, {digits} in the file';
 export const sectorInSecondImage = '{digits} in the second image';
-export const sectorChangeIsLine = 'Each change becomes a patch in the script.';
+export const sectorChangeIsLine = 'Type to change it: each change becomes a patch in the script.';
 export const sectorChangeWillBeRefused = 'This sector is damaged: Check refuses the patch, unless damaged sectors are patched too ' +
     '(carry), or a rebuild in the script comes before it.';
 export const sectorEdcFollowsFromData = 'Only user data can be edited. EDC and parity are recalculated.';
@@ -599,6 +626,8 @@ export const textShowMoreHits = 'Show {n} more';
 
 // replacing a hit
 export const textReplaceText = 'Replace';
+export const textModeTwoNotPatched =
+    'These bytes are in a Mode 2 sector, as on PlayStation discs. You can view and repair it, but not patch it.';
 export const textReplaceAtPlace = 'Replace: block {block} offset {offset}';
 export const textHitOfHits = 'hit {number} of {count}';
 export const textOldTextHas = 'Old text: {n} byte|Old text: {n} bytes';
@@ -615,8 +644,8 @@ export const textSpaceFill = 'space';
 export const textWideSpaceFill = 'wide space';
 export const textChooseFill = 'choose…';
 export const textAnotherByte = 'another byte…';
-export const textCannotMoveBytes = 'A patch cannot move bytes: the new text needs as many bytes as the old one, or fewer.';
-export const textShortenBy = 'Shorten it by\u00A0{more}.';
+export const textTooLong = 'Too long by {n} byte. Shorten it, or press Show all texts and then Find pointers.|\
+Too long by {n} bytes. Shorten it, or press Show all texts and then Find pointers.';
 export const textTypeNewText = 'Type the new text.';
 export const textCannotFill = '{n} byte cannot be padded evenly with that filler.|{n} bytes cannot be padded evenly with that filler.';
 export const textChooseAnotherByte = 'Choose a different filler.';
@@ -646,8 +675,31 @@ export const textOpenTheSector = 'Open the sector';
 export const textAllTextsAsTable = 'All text on the disc, with the translations in the script:';
 export const textHowRecognised = 'Text is recognised by its Japanese characters, or by those of the chosen encoding. For English ' +
     'and other European languages choose Windows-1252, CP850, or a similar encoding.';
+export const textWhatToList = 'What to list';
+export const textListedIn = '{what}, only in {file}';
+export const textListKind = 'List';
+export const textListTexts = 'texts';
+export const textListNames = 'names in records';
+export const textNamesEvery = 'names in records of {n} byte|names in records of {n} bytes';
+export const textListLines = 'lines of a text file';
+export const textOnlyInFile = 'Only in file';
+export const textAllFiles = 'all files';
+export const textBytesOfRecord = 'Bytes from one record to the next';
+export const textBytesOfName = 'Bytes of each name';
+export const textBytesBefore = 'Bytes before the first record';
+export const textMostRecords = 'Number of records (leave empty for all)';
+export const textHowNames = 'For tables of names, which are often too short to be recognised. Each record of the file begins with a ' +
+    'name, which is padded to a fixed size.';
+export const textHowLines = 'Each line is a row of its own. Lines in ASCII are mostly commands of the game, so they are listed ' +
+    'only if you choose their encoding.';
+export const textChooseFileOfNames = 'Choose the file that contains the names, under “Only in file”.';
+export const textNoSuchFile = 'The disc has no file {path}.';
+export const textNumberFrom = '{label}: type a number from {least} to {most}.';
+export const textRecordsOverlap = 'From one record to the next, there must be at least as many bytes as the name has: {length}.';
+export const textNamesReadBest = 'The names read best in {encoding}. If they are wrong, choose a different encoding.';
 export const textEndByte = 'Byte that ends each text (such as FF; leave empty to find it):';
 export const textEndsFound = 'In some files, texts end with {bytes}.';
+export const textExport = 'Export';
 export const textExportTexts = 'Export a table…';
 export const textExportPo = 'Export PO…';
 export const textLookingForTexts = 'Looking for text';
@@ -664,13 +716,15 @@ export const textMakingOfRows = 'rows';
 export const textScriptLongerThanTaken = 'The script would be longer than cdpatch accepts. Use cdscript replace --list instead.';
 export const textLinesReplaced = '{n} line replaced an earlier one.|{n} lines replaced earlier ones.';
 export const textLinesUnchanged = '{n} line is unchanged.|{n} lines are unchanged.';
-export const textLinesWithdrawn = 'The table has no new text for line {lines} of the script.|\
-The table has no new text for the lines {lines} of the script.';
+export const textLinesWithdrawn = 'The list has no new text for line {lines} of the script.|\
+The list has no new text for the lines {lines} of the script.';
 export const textRemoveLines = 'Remove from the script';
 export const textLinesRemoved = 'Lines removed: {n}. Ctrl+Z in the script brings them back.';
 export const textNewTextsFit = 'The translation fits.|All {n} translations fit.';
 export const textSomeTextsFit = '{n} translation fits.|{n} translations fit.';
 export const textLeftTooLong = '{n} too long';
+export const textLeftNoRoom = '{n} without room in the file';
+export const textLeftStays = '{n} too long, and unable to move';
 export const textLeftCharacters = '{n} with a character that the encoding lacks';
 export const textLeftOtherText = '{n} with a different old text there';
 export const textLeftOthers = '{n} for other reasons';
@@ -709,7 +763,7 @@ export const textKindLeft = 'Do not fit {n}';
 export const textKindSigns = 'New characters {n}';
 export const textKindDone = 'Done {n}';
 export const textDoneOfAll = '{done} of {all} done';
-export const textColumnOld = 'Text on the disc';
+export const textColumnOld = 'Old text';
 export const textColumnRoom = 'Bytes of room';
 export const textTimes = '{n} time|{n} times';
 export const textNewTextFor = 'New text for {text}';
@@ -720,11 +774,78 @@ export const textInSomePlaces = 'In {written} of {n} places.';
 export const textScriptKeeps = 'The script keeps the earlier text.';
 export const textNoneShown = 'No text is shown. Choose All, or find other words.';
 export const textLastTyped = 'the text that was typed last';
-export const textTypedAreLost = 'Typed texts that do not fit are not in the script.';
+export const textTypedAreLost = 'Some typed texts are not in the script.';
+export const textShowOtherTexts = 'Show the other texts?';
+export const textTypedHaveNoRow = '{n} typed text is not in the script, and the other list has no row for it.|\
+{n} typed texts are not in the script, and the other list has no rows for them.';
+export const textSaveAndShow = 'Save a list, then show the other texts';
+export const textShowAnyway = 'Discard them';
 export const textSaveTextsAs = 'Save all texts and translations as';
 export const textAsCsv = 'A table for spreadsheets (CSV)';
 export const textAsTsv = 'A table with tabs (TSV)';
 export const textAsPo = 'A PO file for PO editors';
+
+// an ordinary file, whose texts are translated without an image
+export const openIsOrdinaryFile = '{name} is not a disc image.';
+export const openForDisc = 'To open a disc, choose a raw image, 2352 bytes per sector, or its cue sheet.';
+export const openTranslatePlain = 'Translate the texts in this file';
+export const openTranslateInstead = 'Close the disc, and translate the texts in this file';
+export const openPlainIsOpen = '{name} is open. Save and close it first.';
+export const textPlainFile = 'An ordinary file of {n} byte, not a disc image. A copy with your texts is saved; the file stays as it is.|\
+An ordinary file of {n} bytes, not a disc image. A copy with your texts is saved; the file stays as it is.';
+export const textAllTextsOfFile = 'All text in the file:';
+export const textSavePlain = 'Save the translated file…';
+export const textSavingPlain = 'Saving the file';
+export const textNoNewTexts = 'No new text fits yet.';
+export const textPlainHas = '{n} new text is ready to be saved in the file.|{n} new texts are ready to be saved in the file.';
+export const textPlainNotSaved = 'The new texts are not saved.';
+export const textPlainNotKept = 'The file was not saved.';
+export const textPlainLacks = '{n} translation does not fit, and is not in it: {why}.|\
+{n} translations do not fit, and are not in it: {why}.';
+export const textTypedNotInFile = 'Some typed texts do not fit the file. “Save and close” saves them in a list.';
+
+// pointers, by which texts move
+export const textPointers = 'Pointers';
+export const textWhatPointersAre = 'Many games find a text by a pointer, a number that says where the text begins. With the pointers, ' +
+    'texts may be longer than their room. The search takes about 5 seconds for each megabyte of files with text.';
+export const textFindPointers = 'Find pointers';
+export const textOpenPointers = 'Open…';
+export const textPointersToOpen = 'A list of pointers to open';
+export const textTheTables = 'the tables of pointers';
+export const textLookingForPointers = 'Looking for pointers';
+export const textPointersAsBefore = 'The tables of pointers are as before.';
+export const textNoPointers = 'No pointers were found.';
+export const textWhyNoPointers = 'The texts may be compressed, or the game computes where they are.';
+export const textTablesHave = '{n} table with {pointers} pointers.|{n} tables with {pointers} pointers.';
+export const textCheckTables = 'If only few pointers of a table lead to the first byte of a text, leave that table out.';
+export const textLeaveTableOut = 'Leave that table out, or open a corrected list.';
+export const textTablesFound = 'Tables of pointers';
+export const textUseTable = 'Use table {row}, in {path} at {at}';
+export const textColumnTable = 'Use row';
+export const textColumnFileAt = 'File, offset';
+export const textColumnPointers = 'Pointers';
+export const textColumnBegins = 'To a text’s first byte';
+export const textColumnForm = 'How they are written';
+export const textColumnTextsIn = 'Texts in';
+export const textPointerForm = '{bits} bits, {order}, every {distance} bytes, from {base}';
+export const textPointerUnit = 'in units of {unit} bytes';
+export const textLittleFirst = 'little-endian';
+export const textBigFirst = 'big-endian';
+export const textMoreTables = 'and {n} more table, which is used too.|and {n} more tables, which are used too.';
+export const textLetMove = 'Allow longer texts: move them, and change their pointers';
+export const textScriptMoves = 'The script already moves texts, so longer texts are allowed.';
+export const textMakeScript = 'Make the script';
+export const textScriptBehind = '{n} text is not in the script yet. Press Make the script.|\
+{n} texts are not in the script yet. Press Make the script.';
+export const textOtherTables = 'The script was not made with these tables yet.';
+export const textScriptHasAll = 'The script has all texts of the table that fit.';
+export const textNotInScript = 'Not in the script yet.';
+export const textHasToMove = '{n} byte longer than its room, so it has to move.|{n} bytes longer than its room, so it has to move.';
+export const textTooLongToMove = 'The script is too long to be changed here. Use cdscript replace --list with --pointers instead.';
+export const textFitByMoving = '{n} translation fits only because texts moved.|{n} translations fit only because texts moved.';
+export const textTextsMoved = '{n} text moved|{n} texts moved';
+export const textTableStays = '{n} translation of the table that the list lacks is kept.|\
+{n} translations of the table that the list lacks are kept.';
 
 // ---- script: editor and check
 
@@ -737,7 +858,6 @@ export const scriptPatchCount = '{n} patch|{n} patches';
 export const scriptPatchesAndVersion = '{changes}, script version {version}';
 export const scriptNotSaved = 'not saved';
 export const scriptToOpen = 'A script to open';
-export const scriptWhatToSave = 'What do you want to save?';
 export const scriptSaveScript = 'The script…';
 export const scriptFile = 'script.txt';
 export const scriptIsNotSaved = 'Your script is not saved.';
@@ -842,6 +962,7 @@ export const scriptNotAppliedAtAll = 'A script with an error is not applied at a
 export const scriptFaultyLines = 'The line is {lines}.|The lines are {lines}.';
 export const scriptMoreLines = '{n} more';
 export const scriptGoToLine = 'Go to line {line}';
+export const scriptLineOf = 'line {line}';
 export const scriptNoChangeYet = 'The script has no patches yet.';
 export const scriptCheckTries =
     'Check tries its patch on this image, and writes nothing.|Check tries its {n} patches on this image, and writes nothing.';
@@ -882,12 +1003,12 @@ The other {n} patches have no old bytes to compare, so cdpatch cannot tell wheth
 export const scriptRepairOrCarry = 'Repair the image first, or tick “Patch damaged sectors too”.';
 export const scriptAnotherTrack = 'Only Mode 1 sectors are patched. Another track, or another disc?';
 export const scriptAnotherTrackOrBase = 'Another track, or another base?';
+export const scriptNothingToSave = 'Nothing to save: no patch can be applied.';
 export const scriptSavedWithout = 'A new image can be saved without that patch.|A new image can be saved without those patches.';
 
 // the log; only screen readers say the purpose of its buttons
 export const scriptLogOfCheck = 'Log';
 export const scriptWhatTrialPrints = 'Output of {command} (dry run: nothing is saved)';
-export const scriptWhatIsPrinted = 'Output of {command}';
 export const scriptWhichLog = ' the log';
 export const scriptLogFile = 'log.txt';
 export const scriptLogIsPrinted = 'The same text as {command} prints, in the order of application: by block, then by line.';
@@ -904,7 +1025,7 @@ export const saveSavingByBrowser = 'Saving by your browser';
 export const saveFileWithout = '{name}, without {refused} of {n} patch|{name}, without {refused} of {n} patches';
 export const saveOtherBytesAsBefore = 'All other bytes are as before.';
 export const saveKeepPageOpenOnly = 'Keep this page open until the download is complete.';
-export const saveIsComplete = 'The download has finished';
+export const saveIsComplete = 'Mark as saved';
 export const saveSizeOfSaved = 'size';
 export const saveHashPercent = '({percent} %)';
 export const saveSumNotRead = 'not available: the browser does not read the file back';
@@ -954,7 +1075,7 @@ export const secondDamagedInSecond = 'damaged in the second';
 export const secondDifferNotMode1 = 'differ, not Mode 1';
 
 // repair
-export const secondIntactButDifferent = 'intact in both, but different';
+export const secondSoundButDifferent = 'sound in both, but different';
 export const secondDumpLacksBlocks = 'The second image does not have {blocks}.';
 export const secondTheseStay = 'These stay as they are here.';
 export const secondRepairsNothing = 'This dump cannot repair anything here.';
@@ -974,7 +1095,8 @@ export const secondTheyStay = 'They stay as they are here.';
 export const secondWhatRepairDoes = 'Whole sectors are copied, and only those that are damaged or lost here and sound there. ' +
     'A sound sector is never changed. Your file stays as it is.';
 export const secondSaveRepaired = 'Save repaired image…';
-export const secondWriteRepairAsScript = 'Write it as a script';
+export const secondMore = 'More about the second image';
+export const secondWriteRepairAsScript = 'Write the repair as a script';
 
 // a repair that is refused
 export const secondImageShifted = '{image} is shifted by {sectors} from block {block} on.';
@@ -1026,6 +1148,7 @@ export const secondSaveWithoutDamaged =
     'Save the script without the damaged sector…|Save the script without the {n} damaged sectors…';
 export const secondOpenInScript = 'Open in Script';
 export const secondBytesThatDiffer = 'Bytes that differ, by field';
+export const secondCopyTheRows = 'Copy the rows';
 export const secondSaveTheList = 'Save the list…';
 export const secondColumnHeader = 'header';
 export const secondColumnUserData = 'user data';
@@ -1049,10 +1172,24 @@ export const secondNoScriptWritten = 'No script was written.';
 export const secondScriptNotWritten = 'The script is not written: {why}.';
 export const secondBecauseTailsDiffer = 'the bytes after the last sector differ';
 export const secondUseSecondItself = 'Use the second image itself, or “Repair from it”, which copies whole sectors.';
-export const secondDamageHidden = 'Their wrong bytes would get a correct EDC, and nobody could see the damage any more.';
+export const secondDamageHidden =
+    'Its wrong bytes would get a correct EDC, and nobody could see the damage any more.|\
+Their wrong bytes would get a correct EDC, and nobody could see the damage any more.';
 export const secondLeaveOut = 'Leave this one out|Leave these {n} out';
 export const secondNothingElse =
     'Without this block the script would have no patches.|Without these blocks the script would have no patches.';
+
+// ---- all sectors that their own parity corrects
+
+export const correctTitle = 'Correct from parity';
+export const correctTrying = 'Correcting all damaged sectors';
+export const correctCan = 'can be corrected, each from its own parity';
+export const correctCannot = 'cannot be corrected';
+export const correctLeft = 'Not corrected: {blocks}.';
+export const correctConfirmed = 'In each corrected sector, the EDC that was read and all of P and Q match. The header and the EDC are ' +
+    'never changed. Your file stays as it is.';
+export const correctMayBeDeliberate = 'Damage may be deliberate: some copy protections need it.';
+export const correctWithoutScript = 'The new image does not have the patches of the script: open it, and apply them to it.';
 
 // ---- publishing
 export const publishPatcherForPlayers = 'A patcher for your players';

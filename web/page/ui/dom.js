@@ -34,14 +34,14 @@ export function setAttribute(target, name, value) {
     else target.setAttribute(name, value === true ? '' : String(value));
 }
 
-/** @type {{ isLost: () => boolean, what: string, save: (() => void) | null }[]} */
+/** @type {{ isLost: () => boolean, what: string, save: (() => unknown) | null }[]} */
 const unsaved = [];
 
 /**
  * Makes the browser ask before the page is left, while something would be lost.
  * @param {() => boolean} isLost
  * @param {string} [what] a sentence about the loss, if closing the image loses it too
- * @param {(() => void) | null} [save] saves it without a further question
+ * @param {(() => unknown) | null} [save] saves it without a further question; closing waits for a promise
  */
 export function askBeforeLeaving(isLost, what = '', save = null) {
     unsaved.push({ isLost, what, save });
@@ -86,6 +86,16 @@ export function icon(name) {
  */
 export function button(looks, press, ...children) {
     return element('button', { type: 'button', class: `btn ${looks}`.trim(), click: () => press() }, ...children);
+}
+
+/**
+ * The button × of a part that can be closed.
+ * @param {string} name for screen readers
+ * @param {() => void} press
+ */
+export function crossButton(name, press) {
+    return element('button', { type: 'button', class: 'btn slim bare sign away', 'aria-label': name, title: name, click: () => press() },
+        '×');
 }
 
 /**

@@ -2,9 +2,10 @@
 
 export { counted } from '../texts/index.js';
 export { copyButton } from './copying.js';
-export { announce, askBeforeLeaving, button, byId, element, hashParts, hexOf, icon, isDisabled, keysIn } from './dom.js';
+export { announce, askBeforeLeaving, button, byId, crossButton, element, hashParts, hexOf, icon, isDisabled, keysIn } from './dom.js';
 export { lostByClosing, setAttribute, setDisabled, styleValue, term } from './dom.js';
 export { fill, keyed } from './fill.js';
+export { menuButton, moreButton, mountMenus } from './menu.js';
 export { capital, nameOf, namesOf, seen, seenLines, seenTitle, shownName, shownPaths, shownText, stemOf } from './names.js';
 export { clearNotices, copyable, endMessages, endSavingNotices, failureNotice, focusAgain, isCancelled, messageOf } from './notices.js';
 export { messageArea, messageParts, notice, refuseWhileSaving } from './notices.js';

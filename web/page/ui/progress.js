@@ -9,7 +9,7 @@ import { Pace } from './pace.js';
 
 /** @typedef {import('./fill.js').Child} Child */
 
-/** @typedef {import('../app/store.js').RunningJob} RunningJob */
+/** @typedef {import('../app/hub.js').RunningJob} RunningJob */
 
 /** Milliseconds after which a job is long. */
 const LONG_AFTER = 500;

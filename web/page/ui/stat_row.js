@@ -13,13 +13,13 @@ export function countsRow(counts) {
 }
 
 /**
- * A card with a table whose rows can be copied as text.
+ * A card with a table. If there is a text of its rows, a button copies it.
  * @param {string} title
  * @param {HTMLElement} head the row of names
  * @param {HTMLElement[]} rows
- * @param {string | (() => string)} text
+ * @param {string | (() => string) | null} text
  * @param {string} foot
- * @param {import('./fill.js').Child} [more] beside the copy button
+ * @param {import('./fill.js').Child} [more] in the head of the card
  */
 export function tableCard(title, head, rows, text, foot, more = null) {
     const table = element('table', { 'aria-label': title }, element('thead', {}, head), element('tbody', {}, ...rows));
@@ -27,7 +27,8 @@ export function tableCard(title, head, rows, text, foot, more = null) {
     oneTabStop(part, 'tbody button');
     return element('section', { class: 'card', 'aria-label': title },
         element('header', {}, element('h2', {}, title),
-            copyButton('slim bare', () => typeof text === 'string' ? text : text(), texts.copy, format(texts.theRowsOf, { title })), more),
+            text !== null && copyButton('slim bare', () => typeof text === 'string' ? text : text(), texts.copy,
+                format(texts.theRowsOf, { title })), more),
         part,
         element('p', { class: 'foot' }, element('span', {}, foot)));
 }

@@ -1,0 +1,319 @@
+"""The correction of damaged sectors from their own parity: of one sector by lines of the script, and of all in a saved image. The results are
+compared with those of `cdscript merge --parity` and `cdpatch apply`."""
+
+import random
+import subprocess
+from pathlib import Path
+
+import chromium
+import common
+import discs
+from common import SECTOR_SIZE, damaged, sha1, text, waited
+from keys import Keys
+from pages import HELD, PICKER, UNSEEN, PageTest, applied
+
+# The visible buttons of the card of a sector, in order, with a mark for those that are off.
+OFFERED = '''return [...document.querySelectorAll('#panel-disc .say.thin .btn')].filter(it => it.checkVisibility())
+    .map(it => it.innerText.trim() + (it.getAttribute('aria-disabled') === 'true' ? ' (off)' : ''))'''
+
+REPAIR, REBUILD = 'Repair from another dump…', 'Add rebuild to the script'
+CORRECT, ALL = 'Correct it', 'Correct all sectors of this kind…'
+DONE, OPEN = 'The correction is in the script (off)', 'Open Script'
+
+
+def harmed(image: bytes, block: int, *places: int) -> bytes:
+    """Changes these bytes of a sector, counted from its beginning."""
+    made = bytearray(image)
+    for at in places:
+        made[block * SECTOR_SIZE + at] ^= 0x5A + at % 3
+    return bytes(made)
+
+
+def spread(count: int, seed: int) -> list[int]:
+    """Places of wrong bytes in user data, Intermediate field, P, and Q."""
+    return random.Random(seed).sample([*range(16, 2064), *range(2068, SECTOR_SIZE)], count)
+
+
+def merged(image: Path) -> tuple[str, bytes]:
+    """The output of `cdscript merge --parity` without another dump, and the image that it writes."""
+    out = common.folder('merged') / 'out.bin'
+    ran = subprocess.run([common.cdscript(), 'merge', '--parity', image, out], stdout=subprocess.PIPE, stderr=subprocess.DEVNULL, check=False)
+    return ran.stdout.decode(), out.read_bytes()
+
+
+def worn() -> bytes:
+    """The game with sectors that parity corrects (20, 21, 40, 60), and others that it does not (80: 200 bytes, 81: EDC, 82: header)."""
+    image = harmed(discs.game(), 20, 16 + 484)
+    image = harmed(image, 21, *spread(16, 1))
+    image = harmed(image, 40, 2100)  # in P
+    image = harmed(image, 60, *range(900, 980))
+    image = harmed(image, 80, *range(500, 700))
+    return harmed(harmed(image, 81, 2065), 82, 14)
+
+
+class Correct(PageTest):
+    stub = PICKER
+
+    def sector_of(self, block: int, image: bytes) -> Path:
+        """Opens an image and the card of one of its sectors. Returns the path of the image."""
+        path = discs.written(game=image)['game']
+        self.open_image(path)
+        self.go_to(block)
+        self.browser.wait('#panel-disc .say.thin')
+        return path
+
+    def offered(self) -> list[str]:
+        return list(self.browser.run(OFFERED))
+
+    def waits_for(self, *buttons: str) -> None:
+        waited(lambda: self.offered() == [*buttons], f'other buttons: {self.offered()}')
+
+    def corrects_alone(self, block: int, image: bytes) -> str:
+        """Opens a damaged sector, corrects it, and compares the patched image with the undamaged one and the command's. Returns the script."""
+        path = self.sector_of(block, image)
+        self.waits_for(CORRECT, ALL, REBUILD)
+        self.press(CORRECT)
+        self.waits_for(DONE, ALL, OPEN)
+        changed = "return [...document.querySelectorAll('.hex i.new')].map(it => Number(it.dataset.at))"
+        places = [at for at in range(SECTOR_SIZE) if image[block * SECTOR_SIZE + at] != discs.game()[block * SECTOR_SIZE + at]]
+        waited(lambda: self.browser.run(changed) == places, 'other bytes are shown as changed')
+        self.browser.click('#tab-script')
+        script = self.script_text()
+        self.press_save()
+        self.browser.wait('#panel-script .say.good', 'Saved: ')
+        self.assertEqual(self.chosen_bytes(), discs.game())
+        self.assertEqual((merged(path)[1], applied(path, discs.written(script=script)['script'])[2]), (discs.game(), discs.game()))
+        return script
+
+    def test_a_wrong_byte_is_corrected_by_lines_of_the_script(self) -> None:
+        block, image = 60, harmed(discs.game(), 60, 16 + 484)
+        sector, wrong = (it[block * SECTOR_SIZE:(block + 1) * SECTOR_SIZE] for it in (discs.game(), image))
+        old, fresh = (f'{it[16 + 484]:02X}' for it in (wrong, sector))
+        script = self.corrects_alone(block, image)
+        self.assertEqual(script, f'cdpatch 1\nrebuild {block}\nset {block} 484 {fresh} was {old}\n')
+        self.browser.click('#tab-disc')
+        said = self.browser.text('#panel-disc .say.bad')
+        self.assertIn(f'P and Q give {fresh} in place of {old} at offset 484. The EDC then matches. '
+                      f'It is the EDC that was read, {sector[2064:2068].hex(" ").upper()}, and all of P and Q match too.', said)
+        self.assertIn('Lines 2 to 3 of the script correct this sector from its own parity.', said)
+        for name in ('sectorCorrectedInScript', 'sectorWhyRebuildFirst'):
+            self.assertIn(text(name), said)
+        self.press(OPEN)
+        self.browser.wait('#panel-script .explain', 'Line 2')
+
+    def test_sixteen_wrong_bytes_are_corrected(self) -> None:
+        places = sorted(spread(16, 7))
+        script = self.corrects_alone(60, harmed(discs.game(), 60, *places))
+        self.assertIn('\nset 60 ', script)
+        self.browser.click('#tab-disc')
+        self.browser.wait('#panel-disc .say.bad', f'P and Q give 16 other bytes, byte {places[0]} to {places[-1]} of the sector. The EDC then matches.')
+
+    def test_damage_of_the_parity_alone_is_corrected(self) -> None:
+        self.assertEqual(self.corrects_alone(60, harmed(discs.game(), 60, 2100, 2300)), 'cdpatch 1\nrebuild 60\n')
+        self.browser.click('#tab-disc')
+        self.browser.wait('#panel-disc .say.warn', 'Line 2 of the script corrects this sector from its own parity.')
+
+    def test_nothing_is_corrected_without_being_asked(self) -> None:
+        self.sector_of(60, worn())
+        self.waits_for(CORRECT, ALL, REBUILD)
+        self.assertTrue(self.browser.run('return document.querySelector("#count-script").hidden'))
+        self.assertFalse(self.browser.run('return document.querySelector("#correct-title").checkVisibility()'))
+
+    def test_a_sector_that_parity_cannot_correct_has_no_such_offer(self) -> None:
+        self.sector_of(80, worn())
+        self.waits_for(REPAIR, REBUILD)
+        for block, at in ((81, 'byte 2065'), (82, 'byte 14')):
+            self.go_to(block)
+            self.browser.wait('#panel-disc .say.bad', text('sectorNeverCorrected'))
+            self.assertIn(f'at {at} of the sector.', self.browser.text('#panel-disc .say.bad'))
+            self.waits_for(REPAIR, REBUILD)
+        self.go_to(70)
+        self.browser.wait('#panel-disc .say.good', 'This sector is sound.')
+        self.waits_for()
+
+    def test_a_correction_comes_before_the_patches_of_its_sector(self) -> None:
+        path = self.sector_of(60, damaged(discs.game(), 60, 1000))
+        self.browser.wait('.hex .line')
+        self.browser.send('.hex', Keys.ARROW_RIGHT, 'c', '0')
+        waited(lambda: self.browser.text('#count-script').startswith('1'), 'no line in the script')
+        self.press(CORRECT)
+        self.browser.wait('#panel-disc .say.bad', 'Lines 2 to 3 of the script correct this sector from its own parity.')
+        self.assertEqual(self.browser.text('#announced'), 'Lines 2 to 3 of the script correct this sector from its own parity.')
+        self.assertEqual(self.focused().split(': ')[1], 'The correction is in the script')
+        self.browser.click('#tab-script')
+        script = self.script_text()
+        old, other = (discs.game()[60 * SECTOR_SIZE + 16 + at] for at in (1000, 1001))
+        self.assertEqual(script, f'cdpatch 1\nrebuild 60\nset 60 1000 {old:02X} was {old ^ 0x55:02X}\nset 60 1001 C0 was {other:02X}\n')
+        self.assertEqual(applied(path, discs.written(script=script)['script'])[:2], (0, ''.join(f'line {n}: applied\n' for n in (2, 3, 4)) + 'applied 3 refused 0\n'))
+        self.edit('z', held=Keys.CONTROL)
+        self.browser.click('#tab-disc')
+        self.waits_for(CORRECT, ALL, REBUILD)
+
+    def test_a_line_that_expects_a_wrong_byte_has_to_be_removed_first(self) -> None:
+        self.sector_of(60, damaged(discs.game(), 60, 1000))
+        self.browser.wait('.hex .line')
+        self.browser.send('.hex', 'c', '0')
+        self.browser.wait('#panel-disc .say.bad', 'Line 2 of the script expects bytes that a correction would change')
+        self.waits_for(f'{CORRECT} (off)', ALL, REBUILD)
+        self.press(CORRECT)
+        self.assertTrue(self.browser.text('#count-script').startswith('1'))
+
+    # ---- all sectors
+
+    def all_counted(self) -> list[int]:
+        self.browser.wait('#correct-body .tally')
+        return [int(it) for it in self.browser.run('return [...document.querySelectorAll("#correct-body .tally b")].map(it => it.innerText)')]
+
+    def test_all_sectors_are_counted_before_a_corrected_image_is_saved(self) -> None:
+        path = self.sector_of(60, worn())
+        self.press(ALL)
+        self.assertEqual(self.all_counted(), [4, 3])
+        self.browser.wait('#correct-body', 'Not corrected: blocks 80 to 82.')
+        self.browser.wait('#correct-body', text('correctConfirmed'))
+        self.assertEqual(self.browser.run('return chosen.asked'), 0)
+        self.press('Save repaired image')
+        self.browser.wait('#correct-body .say.warn', 'Saved: game (repaired).bin')
+        self.browser.wait('#correct-body .say.warn', '4 sectors repaired. 3 are still damaged: blocks 80 to 82.')
+        lines, due = merged(path)
+        self.assertEqual([line for line in lines.splitlines() if line.endswith('from its own parity')],
+                         [f'{it} from its own parity' for it in ('20-21', '40-40', '60-60')])
+        self.assertEqual(self.chosen_bytes(), due)
+        self.browser.wait('#corrected-sha1', sha1(due))
+        self.assertTrue(self.browser.run('return document.querySelector("#count-script").hidden'))
+        self.press('Open the new image')
+        self.browser.wait('#disc-line .name', 'game (repaired).bin')
+        self.is_gone('#correct-title')
+
+    def test_all_corrections_as_a_script_give_the_same_image(self) -> None:
+        path = self.sector_of(20, worn())
+        self.press(ALL)
+        self.all_counted()
+        self.press(text('secondWriteRepairAsScript'))
+        self.browser.wait('#correct-body .say.good', 'Verified: applied to game.bin it gives exactly the repaired image.')
+        self.press('Open in Script')
+        self.browser.wait('#panel-script .side .say', 'match')
+        script = self.script_text()
+        self.assertEqual(applied(path, discs.written(script=script)['script'])[2], merged(path)[1])
+
+    def test_the_patches_of_the_script_are_not_in_the_corrected_image(self) -> None:
+        path = self.sector_of(60, worn())
+        self.open_script(discs.written(english='cdpatch 1\nset 90 0 4142\n')['english'])
+        self.browser.click('#tab-disc')
+        self.press(ALL)
+        self.browser.wait('#correct-body', text('correctWithoutScript'))
+        self.press('Save repaired image')
+        self.browser.wait('#correct-body .say.warn', 'Saved: ')
+        self.assertEqual(self.chosen_bytes(), merged(path)[1])
+        self.press('Open the new image')
+        self.browser.wait('#disc-line .name', 'game (repaired).bin')
+        self.assertTrue(self.browser.text('#count-script').startswith('1'))
+
+    def test_only_patches_that_the_corrected_image_lacks_are_mentioned(self) -> None:
+        self.sector_of(60, worn())
+        self.press(CORRECT)
+        self.waits_for(DONE, ALL, OPEN)
+        self.press(ALL)
+        self.all_counted()
+        self.assertNotIn(text('correctWithoutScript'), self.browser.text('#correct-body'))
+        self.open_script(discs.written(english='cdpatch 1\nset 90 0 4142\n')['english'])
+        self.browser.click('#tab-disc')
+        self.browser.wait('#correct-body', text('correctWithoutScript'))
+
+    def test_the_first_finding_is_shown_from_its_heading_on(self) -> None:
+        self.open_image(discs.written(game=worn())['game'])
+        self.browser.size(360, 740)
+        self.press('Go to the first')
+        self.browser.wait('#panel-disc .say.thin', 'P and Q')
+        waited(lambda: self.browser.run(UNSEEN, '#sector-title') <= 0, 'the heading is not in view')
+
+    def test_the_correction_of_all_is_cancelled(self) -> None:
+        self.sector_of(60, worn())
+        self.browser.run(HELD)
+        self.press(ALL)
+        self.browser.wait('#correct-body .progress')
+        self.press('Cancel')
+        self.browser.wait('#correct-body .say.plain', 'There is no result.')
+        self.assertFalse(self.browser.run('return document.querySelector("#correct-body .tally") !== null'))
+        self.browser.run('letGo()')
+        self.press('Start over')
+        self.assertEqual(self.all_counted(), [4, 3])
+
+    def test_while_a_corrected_image_is_saved_nothing_is_closed(self) -> None:
+        self.sector_of(60, worn())
+        self.press(ALL)
+        self.all_counted()
+        self.begins('Save repaired image')
+        self.assertTrue(self.browser.asks_before_leaving())
+        self.browser.run('document.querySelector("[aria-labelledby=correct-title] header button").click()')
+        self.browser.wait('[aria-labelledby=correct-title] .while-saving', text('imageBeingSaved'))
+        self.go_to(20)
+        self.press(ALL)
+        self.browser.wait('#correct-body .is-busy')
+        self.browser.run('chosen.release()')
+        self.browser.wait('#correct-body .say.warn', 'Saved: ')
+        self.assertFalse(self.browser.asks_before_leaving())
+        self.browser.run('document.querySelector("[aria-labelledby=correct-title] header button").click()')
+        self.is_gone('#correct-title')
+
+    def test_a_closed_image_ends_the_correction(self) -> None:
+        self.sector_of(60, worn())
+        self.browser.run(HELD)
+        self.press(ALL)
+        self.browser.wait('#correct-body .progress')
+        self.press_in('image', 'Close the image')
+        self.browser.wait('#start h1')
+        self.browser.run('letGo()')
+        self.open_image(discs.written(other=discs.game())['other'])
+        self.is_gone('#correct-title')
+
+    # ---- a second image, and everyone
+
+    def test_a_sound_copy_comes_before_a_correction_and_a_doubtful_one_after_it(self) -> None:
+        image = damaged(damaged(discs.game(), 40), 60)
+        other = bytearray(discs.game())
+        other[60 * SECTOR_SIZE:61 * SECTOR_SIZE] = common.sector(60, b'another release')
+        files = discs.written(game=image, other=bytes(other))
+        self.open_image(files['game'])
+        self.open_files(files['other'])
+        self.browser.answer()
+        self.browser.wait('.tally', 'can be repaired')
+        self.go_to(40)
+        self.browser.wait('#panel-disc .say.thin', 'other.bin has a sound copy, which will be used.')
+        self.waits_for()
+        self.go_to(60)
+        self.browser.wait('#panel-disc .say.thin', 'But its data and EDC are different')
+        self.waits_for(CORRECT, ALL)
+
+    def test_a_sector_that_the_second_image_cannot_repair_is_corrected(self) -> None:
+        files = discs.written(game=damaged(damaged(discs.game(), 40), 60), other=damaged(discs.game(), 60, 500))
+        self.open_image(files['game'])
+        self.open_files(files['other'])
+        self.browser.answer()
+        self.browser.wait('.tally', 'can be repaired')
+        self.go_to(60)
+        self.browser.wait('#panel-disc .say.thin', f"other.bin has no sound copy of it. {text('sectorParityCanCorrect')}")
+
+    def tab_to(self, label: str) -> None:
+        for _ in range(60):
+            self.browser.press(Keys.TAB)
+            if self.browser.run('return document.activeElement.innerText') == label:
+                return
+        self.fail(f'Tab does not reach {label}')
+
+    def test_it_is_done_by_the_keyboard_and_on_a_phone(self) -> None:
+        browser: chromium.Chromium = self.browser
+        self.sector_of(60, worn())
+        browser.size(360, 740)
+        self.assertLessEqual(browser.wider(360), 0)
+        browser.send('#go-to', '')
+        self.tab_to(ALL)
+        browser.press(Keys.ENTER)
+        self.assertEqual(self.all_counted(), [4, 3])
+        self.wait_for_focus('#correct-body')
+        self.assertLessEqual(browser.run(UNSEEN, '#correct-title'), 0)
+        for width in (360, 620, 900, 1180):
+            self.assertLessEqual(browser.wider(width), 0, width)
+        self.assertEqual(browser.nameless(), [])
+        browser.press(Keys.TAB)
+        self.assertEqual(browser.run('return document.activeElement.innerText'), text('secondSaveRepaired'))
+        self.assertEqual(browser.attempts(), [])

@@ -1,0 +1,287 @@
+"""The card Pointers in the panel Text: texts that are longer than their room move, and the script is the one that cdscript writes."""
+
+import subprocess
+from pathlib import Path
+
+import common
+import discs
+import pointed
+from keys import Keys
+from pages import PageTest, applied
+from states import with_new
+
+CARD = '[aria-labelledby=pointers-title]'
+LONG = 'The hero found the herb in the tower of the north, and took it home to the castle'
+TABLES = '''return [...document.querySelectorAll('.pointers tbody tr')].map(({ cells: [use, ...rest] }) =>
+    [use.querySelector('input').checked, use.innerText.trim(), ...rest.map(it => it.innerText.trim())])'''
+# The cells of a row of the table of texts: the new text, the remark on it, and its room.
+ROW = '''const { cells } = document.querySelector(`.all-texts tbody tr[aria-rowindex="${arguments[0] + 1}"]`);
+    return [cells[2].querySelector('input').value, cells[2].querySelector('p').innerText.trim(), cells[3].innerText.trim()]'''
+
+
+class Pointers(PageTest):
+    def begin(self, image: bytes) -> Path:
+        """Opens an image, and shows its texts."""
+        path = discs.written(game=image)['game']
+        self.open_image(path)
+        self.show()
+        return path
+
+    def show(self) -> None:
+        self.browser.click('#tab-text')
+        self.press('Show all texts')
+        self.browser.wait('.all-texts tbody input')
+
+    def find_tables(self) -> None:
+        self.press('Find pointers')
+        self.browser.wait('.pointers tbody input')
+        self.browser.wait('#let-move:enabled')
+
+    def let_move(self) -> None:
+        self.browser.click('#let-move')
+        self.browser.wait(f'{CARD} .btn.main', 'Make the script')
+
+    def make(self, says: str = 'good') -> None:
+        self.press('Make the script')
+        self.browser.wait(f'{CARD} .say.{says}')
+
+    def field(self, number: int) -> str:
+        return f'.all-texts tbody tr[aria-rowindex="{number + 1}"] input'
+
+    def type_text(self, number: int, text: str) -> None:
+        self.browser.type(self.field(number), '')
+        self.browser.click(self.field(number))
+        self.browser.press(text, Keys.ENTER)
+
+    def row(self, number: int) -> list[str]:
+        return list(self.browser.run(ROW, number))
+
+    def becomes(self, number: int, column: int, text: str) -> None:
+        """Waits until a cell of a row contains a text."""
+        common.waited(lambda: text in self.row(number)[column], f'row {number} does not say {text}: {self.row(number)}')
+
+    def tables(self, image: Path) -> Path:
+        """The list of tables that cdscript writes."""
+        room = common.folder('tables')
+        common.cdscript_prints('texts', image, '-o', room / 'texts.tsv', '--pointers', room / 'pointers.tsv')
+        return room / 'pointers.tsv'
+
+    def list_of(self, image: Path, fresh: dict[int, str]) -> Path:
+        """The list that cdscript writes, with new texts for the texts of these numbers, from 1."""
+        path = common.folder('list') / 'mine.tsv'
+        path.write_text(with_new(common.cdscript_prints('texts', image), {number + 1: text for number, text in fresh.items()}))
+        return path
+
+    def moved_by_cdscript(self, image: Path, fresh: dict[int, str]) -> str:
+        """The script that cdscript writes for the texts that fit."""
+        words: list[str | Path] = ['replace', image, '--list', self.list_of(image, fresh), '--pointers', self.tables(image), '--partial']
+        ran = subprocess.run([common.cdscript(), *words], stdout=subprocess.PIPE, stderr=subprocess.DEVNULL, check=False)
+        self.assertIn(ran.returncode, (0, 1))
+        return ran.stdout.decode()
+
+    def script_now(self) -> str:
+        self.browser.click('#tab-script')
+        return self.script_text()
+
+    def texts_after(self, image: Path, script: str, file: int = 0) -> list[str]:
+        """The texts of an event file on the disc that a script has patched, as its game reads them."""
+        status, _, data = applied(image, discs.written(script=script)['script'])
+        self.assertEqual(status, 0)
+        path = discs.written(patched=data)['patched']
+        out = path.with_name('event')
+        common.cdscript_prints('extract', path, f'/EVENT{file}.DAT', out)
+        return pointed.texts_in(out.read_bytes())
+
+    def test_tables_are_listed_as_cdscript_lists_them_and_saved_and_opened_again(self) -> None:
+        image = self.begin(pointed.game())
+        self.find_tables()
+        form = '16 bits, little-endian, every 2 bytes, from 0x0'
+        found = [[True, str(2 + i), f'/EVENT{i}.DAT, 2', '30', '30', form, f'/EVENT{i}.DAT'] for i in range(2)]
+        self.assertEqual(self.browser.run(TABLES), found)
+        self.browser.wait(f'{CARD} .say.good', '2 tables with 60 pointers.')
+        self.browser.click(f'{CARD} header .btn:last-of-type')
+        saved = common.waited(self.browser.downloaded('game (pointers).tsv').read_text, 'the list is empty')
+        self.assertEqual(saved, self.tables(image).read_text())
+        # A table that is left out is not saved. A corrected list replaces the tables, and one of a different disc is refused.
+        self.browser.click('.pointers tbody tr:first-child input')
+        self.browser.downloaded('game (pointers).tsv').unlink()
+        self.browser.click(f'{CARD} header .btn:last-of-type')
+        head, _, second = saved.splitlines(keepends=True)
+        self.assertEqual(common.waited(self.browser.downloaded('game (pointers).tsv').read_text, 'the list is empty'), head + second)
+        room = common.folder('lists')
+        for name, text in (('mine.tsv', saved.replace('\t30\t', '\t29\t', 1)), ('other.tsv', saved.replace('EVENT1', 'EVENT7')), ('faulty.tsv', 'file\n')):
+            (room / name).write_text(text)
+        self.browser.give(f'{CARD} [type=file]', [room / 'mine.tsv'])
+        self.browser.wait('.pointers tbody td', '29')
+        self.assertEqual(self.browser.run(TABLES)[0][:4], [True, '2', '/EVENT0.DAT, 2', '29'])
+        self.browser.give(f'{CARD} [type=file]', [room / 'other.tsv'])
+        self.browser.wait(f'{CARD} .say.bad', 'Row 3 of the list of pointers: the disc has no file /EVENT7.DAT')
+        self.assertTrue(self.browser.run('return document.querySelector("#let-move").disabled'))
+        self.browser.click('.pointers tbody tr:last-child input')
+        common.waited(lambda: not self.browser.run('return document.querySelector("#let-move").disabled'), 'the switch stays off')
+        self.browser.give(f'{CARD} [type=file]', [room / 'faulty.tsv'])
+        self.browser.wait(f'{CARD} .say.bad', 'The first row of the list of pointers lacks the columns')
+        self.assertEqual(len(self.browser.run(TABLES)), 2)
+
+    def test_longer_texts_move_and_the_script_is_that_of_cdscript(self) -> None:
+        image = self.begin(pointed.game())
+        self.type_text(1, LONG)
+        self.becomes(1, 1, 'too many.')
+        self.find_tables()
+        self.let_move()
+        self.browser.wait(f'{CARD} [role=status]', '1 text is not in the script yet. Press Make the script.')
+        self.becomes(1, 1, 'longer than its room, so it has to move. Not in the script yet.')
+        self.type_text(2, 'A villager')
+        self.becomes(2, 1, 'Not in the script yet.')
+        self.browser.wait(f'{CARD} [role=status]', '2 texts are not in the script yet. Press Make the script.')
+        self.make()
+        said = self.browser.text(f'{CARD} .say.good')
+        for words in ('All 2 translations fit.', '1 translation fits only because texts moved.'):
+            self.assertIn(words, said)
+        self.browser.wait(f'{CARD} .moved b', '1 text moved')
+        self.browser.wait(f'{CARD} .moved li', 'Row 2: moved in /EVENT0.DAT from 62 to ')
+        self.browser.wait('#panel-text .meter', '2 of 60 done')
+        due = self.moved_by_cdscript(image, {1: LONG, 2: 'A villager'})
+        self.assertEqual(self.script_now(), due)
+        texts = self.texts_after(image, due)
+        self.assertEqual(texts[:2], [LONG, 'A villager'])
+        self.assertEqual(texts[2:], [pointed.text_of(0, i) for i in range(2, pointed.TEXTS)])
+        # The script is generated again after a further text, as cdscript generates it from all texts.
+        self.browser.click('#tab-text')
+        self.becomes(1, 0, LONG)
+        for number, text in ((5, f'{LONG} twice'), (2, '')):
+            self.type_text(number, text)
+        self.browser.wait(f'{CARD} [role=status]', '2 texts are not in the script yet. Press Make the script.')
+        self.make()
+        self.browser.wait(f'{CARD} [role=status]', 'The script has all texts of the table that fit.')
+        self.assertEqual(self.script_now(), self.moved_by_cdscript(image, {1: LONG, 5: f'{LONG} twice'}))
+
+    def test_with_the_switch_off_again_texts_are_in_place_and_those_that_do_not_fit_are_not_in_the_script(self) -> None:
+        image = self.begin(pointed.game())
+        self.find_tables()
+        self.let_move()
+        for number, text in ((1, LONG), (2, 'A villager'), (5, 'The king')):
+            self.type_text(number, text)
+        self.make()
+        self.browser.click('#let-move')
+        self.browser.wait('#panel-text [aria-pressed]:nth-child(3)', 'Do not fit 1')
+        self.becomes(1, 1, 'too many.')
+        due = common.cdscript_prints('replace', image, '--list', self.list_of(image, {2: 'A villager', 5: 'The king'}))
+        self.assertEqual(self.script_now(), due)
+        self.browser.click('#tab-text')
+        self.type_text(3, 'A wizard')
+        self.browser.wait('#count-script', '3')
+        self.assertTrue(self.browser.run(f'return !document.querySelector("{CARD} .btn.main").checkVisibility()'))
+
+    def test_an_imported_list_makes_the_script_of_cdscript_and_names_what_does_not_fit(self) -> None:
+        image = self.begin(pointed.game())
+        self.find_tables()
+        self.let_move()
+        fresh = {**{number: f'{LONG} {number}' for number in range(1, 25)}, 31: LONG, 32: 'The king'}
+        self.browser.give('#panel-text input[accept^=".tsv"]', [self.list_of(image, fresh)])
+        self.browser.wait('#panel-text .say.warn', '2 translations fit. 24 translations do not fit: ')
+        said = self.browser.text('#panel-text .say.warn')
+        self.assertRegex(said, r'The texts of /EVENT0\.DAT need \d+ bytes more than their room and the free end of the file\.')
+        self.assertIn('1 translation fits only because texts moved.', said)
+        self.browser.wait('#panel-text h2', '24 rows do not fit')
+        self.assertEqual(self.script_now(), self.moved_by_cdscript(image, fresh))
+        # New texts of the table that a further list lacks stay.
+        self.browser.click('#tab-text')
+        self.browser.wait('#panel-text .meter', '2 of 60 done')
+        self.browser.give('#panel-text input[accept^=".tsv"]', [self.list_of(image, {2: f'{LONG} again'})])
+        self.browser.wait('#panel-text .say', '25 translations of the table that the list lacks are kept.')
+
+    def test_the_table_follows_a_script_that_moves_texts_and_so_does_that_of_another_day(self) -> None:
+        image = self.begin(pointed.game())
+        self.find_tables()
+        self.let_move()
+        for number, text in ((1, LONG), (2, 'A villager')):
+            self.type_text(number, text)
+        self.make()
+        self.becomes(1, 0, LONG)
+        script, tables = self.script_now(), self.tables(image)
+        self.browser.click('.editor textarea')
+        self.browser.press('z', held=Keys.CONTROL)
+        self.browser.click('#tab-text')
+        self.browser.wait('#panel-text .meter', '0 of 60 done')
+        self.becomes(1, 0, '')
+        self.setUp()
+        files = discs.written(game=pointed.game(), english=script)
+        self.open_image(files['game'])
+        self.open_script(files['english'])
+        self.show()
+        # Without the tables, a text in its old place would be written over those that have moved there.
+        self.type_text(2, 'Old place')
+        self.becomes(2, 1, 'of the script already writes here.')
+        self.browser.give(f'{CARD} [type=file]', [tables])
+        self.browser.wait('#let-move:checked')
+        self.browser.wait(f'{CARD} .row [role=status]', 'The script already moves texts, so longer texts are allowed.')
+        self.becomes(1, 0, LONG)
+        # The typed text waits: the text of the script does not replace it.
+        self.becomes(2, 0, 'Old place')
+        self.browser.wait('#panel-text .meter', '1 of 60 done')
+        self.type_text(2, 'A villager')
+        self.type_text(3, 'A wizard')
+        self.make()
+        # Without the texts that are not moved any more, no line of the first script is left.
+        self.assertEqual(self.script_now(), self.moved_by_cdscript(image, {1: LONG, 2: 'A villager', 3: 'A wizard'}))
+        self.browser.click('#tab-text')
+        self.type_text(1, 'Short')
+        self.make()
+        self.assertEqual(self.script_now(), self.moved_by_cdscript(image, {1: 'Short', 2: 'A villager', 3: 'A wizard'}))
+
+    def test_typed_texts_that_wait_for_the_script_are_not_lost_silently(self) -> None:
+        self.begin(pointed.game())
+        self.find_tables()
+        self.let_move()
+        self.type_text(1, LONG)
+        self.browser.wait(f'{CARD} [role=status]', '1 text is not in the script yet. Press Make the script.')
+        self.press('Show all texts')
+        self.browser.wait(f'{CARD} [role=status]', '1 text is not in the script yet. Press Make the script.')
+        self.becomes(1, 0, LONG)
+        self.assertIn(common.text('textTypedAreLost'), self.asked_at_close())
+        self.make()
+        common.waited(lambda: common.text('textTypedAreLost') not in self.asked_at_close(), 'the typed text stays lost')
+
+    def asked_at_close(self) -> str:
+        """The question before the disc is closed."""
+        self.press_in('image', 'Close the image')
+        self.browser.wait('#sheet')
+        asked = self.browser.text('#sheet')
+        self.browser.answer('Cancel')
+        return asked
+
+    def test_cancel_ends_the_search_within_a_tenth_of_a_second(self) -> None:
+        self.begin(pointed.large_game())
+        self.browser.run('''globalThis.gaps = []; let last = performance.now();
+            globalThis.beat = setInterval(() => { gaps.push(performance.now() - last); last = performance.now(); });''')
+        self.press('Find pointers')
+        self.browser.wait(f'{CARD} [role=progressbar]')
+        self.assertTrue(self.browser.awaited('document.querySelector(given[0])?.getAttribute("aria-valuenow") > 4', f'{CARD} [role=progressbar]'))
+        self.browser.run('''const bar = document.querySelector(`${arguments[0]} [role=progressbar]`), begun = performance.now();
+            new MutationObserver(() => { if (!bar.isConnected) globalThis.ended ??= performance.now() - begun; }).observe(document.body, { childList: true, subtree: true });
+            document.querySelector(`${arguments[0]} .job-end .btn`).click();''', CARD)
+        self.browser.wait(f'{CARD} .say.plain', common.text('discJobCancelled'))
+        self.assertLess(self.browser.run('return ended'), 100)
+        self.assertEqual(self.browser.run('return gaps.filter(it => it > 150)'), [])
+        self.assertEqual(self.browser.run(TABLES), [])
+
+    def test_the_card_is_used_with_the_keyboard_and_fits_a_phone(self) -> None:
+        self.begin(pointed.game())
+        self.find_tables()
+        self.browser.run('document.querySelector(".pointers tbody input").focus()')
+        self.browser.press(Keys.ARROW_DOWN)
+        self.wait_for_focus('.pointers tbody tr:last-child input')
+        self.browser.press(' ')
+        self.assertEqual([row[0] for row in self.browser.run(TABLES)], [True, False])
+        self.browser.press(Keys.TAB)
+        self.wait_for_focus('#let-move')
+        self.browser.press(' ')
+        self.browser.wait(f'{CARD} [role=status]', 'The script was not made with these tables yet.')
+        self.browser.press(Keys.TAB)
+        self.wait_for_focus(f'{CARD} .btn.main')
+        self.browser.size(360)
+        self.assertLessEqual(self.browser.run('return document.documentElement.scrollWidth'), 360)
+        for css in ('.pointers tbody tr:last-child', '#let-move', f'{CARD} .btn.main'):
+            left, right = self.browser.run('const { left, right } = document.querySelector(arguments[0]).getBoundingClientRect(); return [left, right]', css)
+            self.assertTrue(0 <= left < right <= 360, css)

@@ -1,0 +1,178 @@
+// The new texts that are typed in the table of texts: puts them into the script, undoes them, and knows which of them a saved list lacks.
+
+import { sentence } from '../ui/index.js';
+
+/** @typedef {import('../app/state.js').App} App */
+/** @typedef {import('../../core/tasks/table.js').FreshOf} FreshOf */
+/** @typedef {import('./known_texts.js').KnownText} KnownText */
+/** @typedef {import('./texts_card.js').List} List */
+/** @typedef {{ known: KnownText, fresh: string }} Change */
+/**
+ * The callbacks to the table: the function that finds the new texts of the script, as TextsTable returns it; the new texts that are still
+ * being typed in their fields; drawing after changes; and the display of an error.
+ * @typedef {{ newTextOf: (image: List['image']) => Promise<FreshOf | null>, inFields: () => Change[], redraw: () => void,
+ *     failed: (error: unknown) => void }} ChangesOwner
+ */
+
+/** The typed texts of a list. */
+export class TextChanges {
+    /**
+     * @param {App} app
+     * @param {ChangesOwner} owner
+     */
+    constructor(app, owner) {
+        this.app = app;
+        this.owner = owner;
+        this.list = /** @type {List | null} */ (null);
+        /** @type {Change[][]} the earlier new texts of those that were typed, or replaced together */
+        this.done = [];
+        /** Ends when all typed texts are in the script. */
+        this.queue = Promise.resolve();
+        this.waiting = 0;
+        /** How often the script has changed since the text that is being put into it. */
+        this.changes = 0;
+        /** Whether the script has changed otherwise since its new texts were read. */
+        this.isOld = false;
+        /** Whether typed texts that are not in the script are kept in any case when it is read again. */
+        this.areKept = false;
+        /** How often texts were typed, and how often before the last list that was saved. */
+        this.typings = 0;
+        this.saved = 0;
+        app.on('script', () => this.scriptChanged());
+        app.on('panel', () => this.update());
+    }
+
+    /** @param {List | null} list to be typed in */
+    take(list) {
+        this.list = list;
+        this.done = [];
+        this.saved = this.typings;
+        this.isOld = false;
+    }
+
+    /** Whether a typed text is neither in the script nor in a saved list. */
+    isLost() {
+        const { list } = this;
+        if (list === null) return false;
+        const isUnsaved = this.typings > this.saved && (this.waiting > 0 || list.texts.all.some(({ why, waits }) => why !== '' || waits));
+        return isUnsaved || this.owner.inFields().length > 0;
+    }
+
+    /**
+     * Saves the list with all that was typed, also in a field that still has the focus. If that fails, the list does not count as saved.
+     * @param {(list: List) => Promise<void>} save
+     */
+    async saveBy(save) {
+        const { list } = this;
+        if (list === null) return;
+        this.typed(this.owner.inFields());
+        await this.queue;
+        const { typings } = this;
+        try {
+            await save(list);
+            if (this.list === list) this.saved = typings;
+        } catch (error) {
+            this.owner.failed(error);
+        }
+    }
+
+    /**
+     * Notes new texts that were typed, and puts them into the script.
+     * @param {Change[]} changes
+     */
+    typed(changes) {
+        const { list } = this;
+        const others = changes.filter(({ known, fresh }) => fresh !== known.fresh);
+        if (others.length === 0 || list === null) return;
+        this.done.push(others.map(({ known }) => ({ known, fresh: known.fresh })));
+        this.put(list, others);
+    }
+
+    /** Brings the new texts back that were typed over last, and returns the first of them. */
+    undo() {
+        const last = this.done.pop();
+        if (last === undefined || this.list === null) return null;
+        this.put(this.list, last);
+        return last[0].known;
+    }
+
+    /**
+     * @param {List} list
+     * @param {Change[]} changes
+     */
+    put(list, changes) {
+        if (changes.length === 0) return;
+        for (const { known, fresh } of changes) list.texts.type(known, fresh);
+        this.typings += 1;
+        this.owner.redraw();
+        this.next(() => this.write(list, changes));
+    }
+
+    /** @param {() => Promise<void>} work that begins when all earlier work has ended */
+    next(work) {
+        this.waiting += 1;
+        this.queue = this.queue.then(work).finally(() => {
+            this.waiting -= 1;
+            this.update();
+        });
+    }
+
+    /**
+     * Puts new texts into the script, or removes those that are empty now.
+     * @param {List} list
+     * @param {Change[]} changes
+     */
+    async write(list, changes) {
+        if (this.app.opened !== list.image) return;
+        this.changes = 0;
+        const some = changes.flatMap(({ known, fresh }) => known.fresh === fresh ? [known] : []);
+        const failed = (/** @type {unknown} */ error) => new Map(some.map(known => [known, { written: 0, why: `${sentence(error)}.` }]));
+        const outcomes = await list.put(some).catch(failed);
+        if (this.list !== list) return;
+        for (const { known, fresh } of changes) {
+            if (known.fresh === fresh) list.texts.note(known, fresh, outcomes.get(known) || { written: 0, why: '' });
+        }
+        this.owner.redraw();
+    }
+
+    /**
+     * Reads the new texts of the script again, because they may be elsewhere.
+     * @param {boolean} [areKept] whether typed texts that are not in the script are kept in any case
+     */
+    readAgain(areKept = false) {
+        this.isOld = true;
+        this.areKept = this.areKept || areKept;
+        this.update();
+    }
+
+    scriptChanged() {
+        this.changes += 1;
+        if (this.list === null || (this.waiting > 0 && this.changes === 1)) return;
+        this.readAgain();
+    }
+
+    /** Reads the new texts of the script again after it was changed elsewhere, if the table is seen. */
+    update() {
+        const { app, list } = this;
+        if (!this.isOld || list === null || app.panel !== 'text' || this.waiting > 0) return;
+        const { areKept } = this;
+        this.isOld = false;
+        this.areKept = false;
+        this.next(() => this.readScript(list, areKept));
+    }
+
+    /**
+     * @param {List} list
+     * @param {boolean} areKept
+     */
+    async readScript(list, areKept) {
+        try {
+            const newTextOf = await this.owner.newTextOf(list.image);
+            if (newTextOf === null || this.list !== list) return;
+            await list.texts.readNews(newTextOf, this.app.closing.signal, areKept);
+            if (this.list === list) this.owner.redraw();
+        } catch (error) {
+            if (this.list === list) this.owner.failed(error);
+        }
+    }
+}
