@@ -56,7 +56,7 @@ fit_owner
 fit 'there is no LICENSE with the terms that tools/owner.txt names' test -s LICENSE
 while read -r page; do
     fit "$page says that there is no licence, or no release" false
-done < <(grep -rliE 'no licence has been chosen|no public release' README.md CONTRIBUTING.md docs man \
+done < <(grep -rliE 'no licence has been chosen|not released yet|no public release' README.md CONTRIBUTING.md docs man \
     tools/README.tarball.md debian/copyright)
 fit "the program, or the first heading of CHANGELOG.md, is not of version $version with a date" has_version
 fit "the first entry of debian/changelog is not of version $version" grep -q -m 1 "^cdpatch ($version-" <(head -n 1 debian/changelog)

@@ -211,7 +211,7 @@ def figures() -> list[str]:
     (headline, rest), _ = reading()
     return table(('What', 'How many'), [
         ('crates', str(len(crates()))),
-        ('wrong bodies of functions that the prover refuses, each by a goal of a contract (`crates/*/must-fail` and `wrong-bodies`)',
+        ('wrong bodies of functions that the prover refuses (`crates/*/must-fail` and `wrong-bodies`)',
          str(len(list(TOP.glob('crates/*/must-fail/*.edit'))) + blocks('crates/*/wrong-bodies/*.edits'))),
         ('wrong definitions that a worked case refuses (`tests/wrong/definitions`)', str(blocks('tests/wrong/definitions/*.wrong'))),
         ('lines of definitions to read for the headline of `apply`; more for the whole theorem',
