@@ -123,6 +123,18 @@ class Pointers(PageTest):
         self.browser.wait(f'{CARD} .say.bad', 'The first row of the list of pointers lacks the columns')
         self.assertEqual(len(self.browser.run(TABLES)), 2)
 
+    def test_a_dropped_list_of_tables_is_opened_in_the_card_and_the_texts_are_listed_first(self) -> None:
+        path = discs.written(game=pointed.game())['game']
+        self.open_image(path)
+        tables = self.tables(path)
+        self.browser.drop('#main', [tables])
+        self.browser.wait('.pointers tbody input')
+        self.browser.wait('.all-texts tbody input')
+        self.browser.wait(f'{CARD} .say.good', '2 tables with 60 pointers.')
+        tables.write_text(tables.read_text().replace('\t30\t', '\t29\t', 1))
+        self.browser.drop('#main', [tables])
+        self.browser.wait('.pointers tbody td', '29')
+
     def test_longer_texts_move_and_the_script_is_that_of_cdscript(self) -> None:
         image = self.begin(pointed.game())
         self.type_text(1, LONG)

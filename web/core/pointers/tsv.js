@@ -1,5 +1,7 @@
 // Reads and writes a table of pointer tables, which a person may correct.
 
+import { readBytes } from '../bytes.js';
+import { textOfFile } from '../encodings/index.js';
 import { Fault } from '../faults.js';
 import { MARKS, Table, longTextOf, rowText, visible } from '../texts/index.js';
 import { letOthersIn } from '../turns.js';
@@ -19,8 +21,9 @@ const ORDERS = ['little', 'big'];
 const SELF = 'self';
 const BASE = /^(self)?(?:([+-]?)(0x[0-9a-f]{1,12}|\d{1,15}))?$/i;
 
-/** The most bytes of the list, and the most pointers of all its tables. */
+/** The most bytes of the list and of its first row, and the most pointers of all its tables. */
 const MOST_LIST_BYTES = 1 << 24;
+const MOST_HEAD_BYTES = 1 << 10;
 const MOST_POINTERS = 1 << 18;
 
 /**
@@ -46,7 +49,7 @@ export function pointerList(tables) {
 }
 
 /**
- * The first row of a list that names the columns, and the mark between cells. Throws a Fault if the first row does not.
+ * The first row of a list, the mark between its cells, and the columns that it does not name.
  * @param {string} text
  */
 function tableHeadOf(text) {
@@ -55,9 +58,16 @@ function tableHeadOf(text) {
         const names = first === undefined ? [] : first.cells.map(it => it.trim().toLowerCase());
         return { mark, names, missing: TABLE_COLUMNS.filter(name => !OPTIONAL.includes(name) && !names.includes(name)) };
     });
-    const [head] = heads.sort((a, b) => a.missing.length - b.missing.length);
-    if (head.missing.length > 0) throw new Fault('pointers/no-column', { columns: head.missing });
-    return head;
+    return heads.sort((a, b) => a.missing.length - b.missing.length)[0];
+}
+
+/**
+ * Whether the first row of a file names the columns of a list of tables.
+ * @param {Reader} reader
+ */
+export async function isTableList(reader) {
+    const start = await readBytes(reader, 0, Math.min(reader.size, MOST_HEAD_BYTES));
+    return tableHeadOf(textOfFile(start)).missing.length === 0;
 }
 
 /** Reads the cells of a row. */
@@ -132,7 +142,8 @@ class Cells {
 export async function tablesOfList(reader, signal) {
     if (reader.size > MOST_LIST_BYTES) throw new Fault('pointers/too-large', { size: reader.size, most: MOST_LIST_BYTES });
     const text = await longTextOf(reader, signal);
-    const { mark, names } = tableHeadOf(text);
+    const { mark, names, missing } = tableHeadOf(text);
+    if (missing.length > 0) throw new Fault('pointers/no-column', { columns: missing });
     /** @type {ListedTable[]} */
     const tables = [];
     let pointers = 0;

@@ -1,3 +1,3 @@
 // What interfaces may import from this layer besides tasks: lists of tables that they open, show, or save.
 
-export { baseText, pointerList, tablesOfList } from './tsv.js';
+export { baseText, isTableList, pointerList, tablesOfList } from './tsv.js';

@@ -1,5 +1,6 @@
 // Saves all texts of the disc as a table or a PO file for a translator, and generates lines of the script from lists with new texts.
 
+import { isTableList } from '../../core/pointers/views.js';
 import { linesMade } from '../../core/script/views.js';
 import { importTable, patchedTexts } from '../../core/tasks/index.js';
 import { jobAt } from '../app/index.js';
@@ -202,7 +203,7 @@ export class TextsTable {
     chosen() {
         const file = (this.input.files || [])[0];
         this.input.value = '';
-        if (file) void this.take(file);
+        if (file) void this.takeAny(file);
     }
 
     /** @param {File} file that is opened */
@@ -210,9 +211,17 @@ export class TextsTable {
         if (!/\.(?:[tc]sv|po)$/i.test(file.name)) return false;
         const use = () => {
             this.app.showPanel('text');
-            return this.take(file);
+            return this.takeAny(file);
         };
         return { needsImage: true, use };
+    }
+
+    /** @param {File} file with texts, or with tables of pointers to the texts of the disc, which are then listed first */
+    async takeAny(file) {
+        if (!await isTableList(fileReader(file))) return this.take(file);
+        if (this.known.list === null) await this.list();
+        if (this.moving.list !== null) return this.moving.open(file);
+        return this.known.list && fill(this.message, notice('warn', texts.textPointersLeadToTexts, texts.textListTheTexts));
     }
 
     /**

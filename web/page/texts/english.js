@@ -282,6 +282,7 @@ export const modeTwoSubheader = 'the two copies of the subheader differ';
 export const modeTwoEdc = 'the EDC does not match';
 export const modeTwoParity = 'the parity does not match';
 export const imageRepairFromOther = 'Repair from another dump…';
+export const imageCorrectFromParity = 'Correct from parity…';
 export const imageGoToFirstPlace = 'Go to the first finding';
 export const imageFindText = 'Find a text';
 export const imageCompareWith = 'Compare with…';
@@ -814,6 +815,8 @@ export const textPointersToOpen = 'A list of pointers to open';
 export const textTheTables = 'the tables of pointers';
 export const textLookingForPointers = 'Looking for pointers';
 export const textPointersAsBefore = 'The tables of pointers are as before.';
+export const textPointersLeadToTexts = 'Pointers lead to the texts of a disc.';
+export const textListTheTexts = 'List these texts first.';
 export const textNoPointers = 'No pointers were found.';
 export const textWhyNoPointers = 'The texts may be compressed, or the game computes where they are.';
 export const textTablesHave = '{n} table with {pointers} pointers.|{n} tables with {pointers} pointers.';
@@ -1068,7 +1071,7 @@ export const secondNothingFoundOut = 'There is no result.';
 // the map of both images
 export const secondNothingToDo = 'no repair needed';
 export const secondCanBeRepaired = 'can be repaired';
-export const secondCannotBeRepaired = 'cannot be repaired';
+export const secondHaveNoCopy = 'without a sound copy';
 export const secondSameInBoth = 'same in both';
 export const secondDifferInSecond = 'differ, sound in the second';
 export const secondDamagedInSecond = 'damaged in the second';
@@ -1113,7 +1116,7 @@ export const secondUntestedAndDiffer = '{n} sector was not tested and differs|{n
 export const secondNothingTested = '{name} has no sector whose codes can show damage, so it cannot be repaired. Nothing was copied.';
 
 // the sectors that are not repaired
-export const secondCountNotRepaired = 'Cannot be repaired: {n}';
+export const secondCountNotRepaired = 'Without a sound copy: {n}';
 export const secondColumnHere = 'Here';
 export const secondColumnInSecond = 'In the second image';
 export const secondHereLabel = 'here';
