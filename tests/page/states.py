@@ -247,7 +247,7 @@ class States(PageTest):
         """The sectors that a repair would copy, also on the map, and those that it cannot repair."""
         self.pair(discs.scratches(), discs.scratches(other=True), 'Repair')
         self.browser.wait('.tally', 'can be repaired')
-        self.browser.wait('[aria-label^="Cannot be repaired"]')
+        self.browser.wait('[aria-label^="Without a sound copy"]')
 
     def to_second_saved(self) -> None:
         """A repaired image has been saved."""

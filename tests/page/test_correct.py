@@ -185,8 +185,9 @@ class Correct(PageTest):
         self.is_gone('#correct-title')
 
     def test_all_corrections_as_a_script_give_the_same_image(self) -> None:
-        path = self.sector_of(20, worn())
-        self.press(ALL)
+        path = discs.written(game=worn())['game']
+        self.open_image(path)
+        self.press(text('imageCorrectFromParity'))
         self.all_counted()
         self.press(text('secondWriteRepairAsScript'))
         self.browser.wait('#correct-body .say.good', 'Verified: applied to game.bin it gives exactly the repaired image.')

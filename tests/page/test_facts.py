@@ -65,7 +65,7 @@ class Facts(PageTest):
         image = with_lost(common.damaged(common.damaged(discs.game(), 40), 60), 90)
         self.pair(image, image)
         self.assertEqual(self.tally(), ['0', '3', '0'])
-        self.browser.wait('[aria-label="Cannot be repaired: 3"]', '90')
+        self.browser.wait('[aria-label="Without a sound copy: 3"]', '90')
         self.assertEqual(self.browser.text('#count-disc').split()[0], '3')
 
     def test_sectors_of_files_are_lost_at_an_edge_too_as_scan_counts_them(self) -> None:
@@ -100,10 +100,10 @@ class Facts(PageTest):
         self.browser.run(LATE_FILES)
         self.open_files(files['first'], files['second'])
         self.browser.answer('Repair the open first.bin with this file')
-        self.browser.wait('[aria-label="Cannot be repaired: 1"] td', str(discs.first_block()))
-        self.assertNotIn('in no file', self.browser.text('[aria-label="Cannot be repaired: 1"]'))
+        self.browser.wait('[aria-label="Without a sound copy: 1"] td', str(discs.first_block()))
+        self.assertNotIn('in no file', self.browser.text('[aria-label="Without a sound copy: 1"]'))
         self.browser.run('openFiles()')
-        self.browser.wait('[aria-label="Cannot be repaired: 1"]', '/DATA/MSG00.DAT')
+        self.browser.wait('[aria-label="Without a sound copy: 1"]', '/DATA/MSG00.DAT')
 
     # ---- texts
 

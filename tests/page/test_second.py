@@ -85,7 +85,7 @@ class Second(PageTest):
         second = with_faults((60, 500), (90, 7))
         path = self.pair(bytes(first), second)
         self.assertEqual(self.tally(), [3, 1, 0])
-        self.assertEqual([self.legend('can be repaired'), self.legend('cannot be repaired')], [3, 1])
+        self.assertEqual([self.legend('can be repaired'), self.legend('without a sound copy')], [3, 1])
         self.press('Save repaired image')
         saved = self.browser.downloaded('game (repaired).bin')
         self.browser.wait('#second-body .say', '0.5 MB. Keep this page open')
@@ -101,7 +101,7 @@ class Second(PageTest):
         self.browser.wait('#second-body .say.warn', 'Saved: game (repaired).bin')
         self.assertFalse(self.browser.asks_before_leaving())
         saved.unlink()
-        self.browser.wait('[aria-label="Cannot be repaired: 1"]', '60')
+        self.browser.wait('[aria-label="Without a sound copy: 1"]', '60')
         self.press('Open the new image')
         self.browser.wait('#disc-line .name', 'game (repaired).bin')
 
@@ -394,8 +394,8 @@ class Second(PageTest):
         self.assertEqual(self.tally(), [1, 2, 0])
         self.browser.wait('#second-body .say.plain', f'The second image does not have blocks 0 to 2 and {end} to {SECTORS - 1}.')
         self.assertTrue(self.browser.run('return document.querySelector("[data-tab=compare]") === null'))
-        self.browser.wait('[aria-label="Cannot be repaired: 2"]', 'not there')
-        self.browser.wait('[aria-label="Cannot be repaired: 2"]', 'In block 60 both images hold the same bytes')
+        self.browser.wait('[aria-label="Without a sound copy: 2"]', 'not there')
+        self.browser.wait('[aria-label="Without a sound copy: 2"]', 'In block 60 both images hold the same bytes')
         self.press('Save repaired image')
         saved = self.browser.downloaded('game (repaired).bin')
         waited(lambda: saved.read_bytes() == with_faults((60, 9), (end + 5, 9)), 'the repaired image')
@@ -442,7 +442,7 @@ class Second(PageTest):
 
     def test_every_control_has_a_name_and_nothing_is_sent(self) -> None:
         self.pair(with_faults((40, 9), (60, 9)), with_faults((60, 500)))
-        self.browser.wait('[aria-label="Cannot be repaired: 1"]')
+        self.browser.wait('[aria-label="Without a sound copy: 1"]')
         self.assertEqual(self.browser.nameless(), [])
         for width in (360, 620, 900, 1180, 1600):
             self.assertLessEqual(self.browser.wider(width), 0, width)

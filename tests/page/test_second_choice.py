@@ -95,6 +95,15 @@ class SecondChoice(PageTest):
         self.browser.drop('#main', [files['other']])
         self.assertEqual(self.buttons()[0], 'Repair the open game.bin with this file')
 
+    def test_an_image_that_was_chosen_to_compare_with_is_compared_at_once(self) -> None:
+        files = self.begin(discs.game(), common.damaged(discs.game(), 40))
+        self.browser.run('HTMLInputElement.prototype.click = function () {}')
+        self.press(common.text('imageCompareWith'))
+        self.open_files(files['other'])
+        self.browser.wait('#second-body .tally', 'differ')
+        self.browser.wait('[data-tab=compare][aria-selected=true]')
+        self.assertFalse(self.is_asked())
+
     # ---- closing
 
     def close(self) -> None:

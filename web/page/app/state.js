@@ -57,8 +57,9 @@ import { Store } from './store.js';
  */
 
 /**
- * The purpose of opening files: a job of the start, `look` to inspect them, or '' if none was chosen.
- * @typedef {'' | 'play' | 'translate' | 'repair' | 'look'} Aim
+ * The purpose of opening files: a job of the start, `look` to inspect them, `compare` to compare them with the open image, or
+ * '' if none was chosen.
+ * @typedef {'' | 'play' | 'translate' | 'repair' | 'look' | 'compare'} Aim
  */
 
 /**

@@ -24,7 +24,8 @@ export async function takeSecond(app, given, aim) {
     if (image === null) return;
     const second = countedAs(given, trackBeside(image.opened, given.opened));
     const words = whyNoPair(image, second);
-    const answer = aim === 'repair' && words.length === 0 ? 'repair' : await askFor(app, image, second, words);
+    const isAimed = (aim === 'repair' || aim === 'compare') && words.length === 0;
+    const answer = isAimed ? aim : await askFor(app, image, second, words);
     if (answer === '' || app.image !== image || refuseWhileSaving(app, [second.name])) return;
     app.showPanel('disc');
     if (answer === 'instead') readImage(app, given);

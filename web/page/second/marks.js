@@ -73,7 +73,7 @@ export class PairMarks {
  * @param {Run[]} unrepaired
  */
 export function repairMarks(survey, taken, unrepaired) {
-    const marks = new PairMarks(survey, looksOf(texts.secondNothingToDo, [texts.secondCanBeRepaired, texts.secondCannotBeRepaired]));
+    const marks = new PairMarks(survey, looksOf(texts.secondNothingToDo, [texts.secondCanBeRepaired, texts.secondHaveNoCopy]));
     marks.setRuns(taken, 0);
     marks.setRuns(unrepaired, 1);
     return marks;

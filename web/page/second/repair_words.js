@@ -71,7 +71,7 @@ export function foundWords(repair, unrepaired, image, otherJobs) {
     const { doubtful, unlike, different: [different], tails: [tail], ranges: [{ missing }] } = repair;
     const [taken, damaged] = [repair.taken, unrepaired].map(blocksIn);
     const tally = countsRow([[taken, texts.secondCanBeRepaired, taken > 0 ? 'good-ink' : ''],
-        [damaged, texts.secondCannotBeRepaired, damaged > 0 ? 'bad-ink' : ''], [different, texts.secondSoundButDifferent, '']]);
+        [damaged, texts.secondHaveNoCopy, damaged > 0 ? 'bad-ink' : ''], [different, texts.secondSoundButDifferent, '']]);
     return [tally,
         missing.length > 0 && notice('plain', format(texts.secondDumpLacksBlocks, { blocks: blocksText(missing) }), texts.secondTheseStay),
         taken === 0 && nothingWords(repair, damaged, image, otherJobs),

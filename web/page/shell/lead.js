@@ -94,9 +94,11 @@ function verdictOn(app, image, { marks }, verdict) {
     if (level === 'nothing') return { tone, sentence: texts.imageNoModeOne, rest: texts.imageCanBeLookedAt, buttons: [] };
     const repair = canRepair && app.second === null && button('main', () => app.choose('repair'), texts.imageRepairFromOther);
     const first = () => app.goTo(image.base + placesOf(marks)[0].first, -1, true);
+    const isMode1 = marks.mode1() > 0 && marks.damaged() > 0;
+    const correct = isMode1 && button('', () => app.correctAll(), texts.imageCorrectFromParity);
+    const goThere = marks.findings() > 0 && total > 0 && button('', first, texts.imageGoToFirstPlace);
     return { tone, sentence: `${capital(verdictText(verdict))}.`, rest: mode2Note(marks),
-        buttons: [repair, marks.findings() > 0 && total > 0 && button('', first, texts.imageGoToFirstPlace),
-            ...level === 'sound' ? nextSteps(app) : []] };
+        buttons: [repair, correct, goThere, ...level === 'sound' ? nextSteps(app) : []] };
 }
 
 /**
@@ -109,7 +111,7 @@ function nextSteps(app) {
         app.showPanel('text');
         byId('find-text').focus();
     };
-    return [button('', find, texts.imageFindText), app.second === null && button('', () => app.choose(''), texts.imageCompareWith),
+    return [button('', find, texts.imageFindText), app.second === null && button('', () => app.choose('compare'), texts.imageCompareWith),
         button('', () => app.choose('play'), texts.imageApplyPatch)];
 }
 

@@ -168,7 +168,7 @@ export const DE = {
     playerChooseAnother: 'Anderes wählen',
     playerChooseAnotherImage: 'Anderes Image wählen…',
     playerHoldOtherBytes: '{n} von {places} enthält andere Bytes.|{n} von {places} enthalten andere Bytes.',
-    playerOtherReleaseProbably: 'Es ist wahrscheinlich eine andere Ausgabe des Spiels.',
+    playerOtherReleaseProbably: 'Es ist wahrscheinlich eine andere Ausgabe des Spiels oder ein anderes Spiel.',
     playerOlderPatchPerhaps: 'Oder eine ältere Version dieses Patches hat es verändert: Wählen Sie das ursprüngliche Image.',
     playerAreDamaged: '{n} von {places} ist beschädigt.|{n} von {places} sind beschädigt.',
     playerTryAnotherDump: 'Versuchen Sie es mit einem anderen Dump dieser Disc, oder reparieren Sie diesen im vollständigen cdpatch.',

@@ -133,7 +133,7 @@ export const ENGLISH = /** @type {const} */ ({
     playerChooseAnotherImage: 'Choose another image…',
     // the reasons for the verdict
     playerHoldOtherBytes: '{n} of {places} contains different bytes.|{n} of {places} contain different bytes.',
-    playerOtherReleaseProbably: 'It is probably another release of the game.',
+    playerOtherReleaseProbably: 'It is probably another release of the game, or a different game.',
     playerOlderPatchPerhaps: 'Or an older version of this patch has changed it: choose the original image.',
     playerAreDamaged: '{n} of {places} is damaged.|{n} of {places} are damaged.',
     playerTryAnotherDump: 'Try another dump of this disc, or repair this one with the full cdpatch.',

@@ -165,7 +165,7 @@ export const ES = {
     playerChooseAnother: 'Elegir otra',
     playerChooseAnotherImage: 'Elegir otra imagen…',
     playerHoldOtherBytes: '{n} de {places} contiene otros bytes.|{n} de {places} contienen otros bytes.',
-    playerOtherReleaseProbably: 'Probablemente sea otra edición del juego.',
+    playerOtherReleaseProbably: 'Probablemente sea otra edición del juego, u otro juego.',
     playerOlderPatchPerhaps: 'O una versión anterior de este parche la ha modificado: elige la imagen original.',
     playerAreDamaged: '{n} de {places} está dañado.|{n} de {places} están dañados.',
     playerTryAnotherDump: 'Prueba con otro volcado de este disco, o repara este con el cdpatch completo.',

@@ -165,7 +165,7 @@ export const IT = {
     playerChooseAnother: 'Scegline un’altra',
     playerChooseAnotherImage: 'Scegli un’altra immagine…',
     playerHoldOtherBytes: '{n} su {places} contiene altri byte.|{n} su {places} contengono altri byte.',
-    playerOtherReleaseProbably: 'È probabilmente un’altra edizione del gioco.',
+    playerOtherReleaseProbably: 'È probabilmente un’altra edizione del gioco, o un altro gioco.',
     playerOlderPatchPerhaps: 'Oppure una versione precedente di questa patch l’ha modificata: scegli l’immagine originale.',
     playerAreDamaged: '{n} su {places} è danneggiato.|{n} su {places} sono danneggiati.',
     playerTryAnotherDump: 'Prova un altro dump di questo disco, oppure ripara questo con il cdpatch completo.',

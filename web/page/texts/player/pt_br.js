@@ -165,7 +165,7 @@ export const PT_BR = {
     playerChooseAnother: 'Escolher outra',
     playerChooseAnotherImage: 'Escolher outra imagem…',
     playerHoldOtherBytes: '{n} de {places} contém outros bytes.|{n} de {places} contêm outros bytes.',
-    playerOtherReleaseProbably: 'É provavelmente outra edição do jogo.',
+    playerOtherReleaseProbably: 'É provavelmente outra edição do jogo, ou outro jogo.',
     playerOlderPatchPerhaps: 'Ou uma versão mais antiga deste patch a alterou: escolha a imagem original.',
     playerAreDamaged: '{n} de {places} está danificado.|{n} de {places} estão danificados.',
     playerTryAnotherDump: 'Tente outro dump deste disco, ou repare este com o cdpatch completo.',
