@@ -2,6 +2,7 @@
 
 import { LAST_TRACK } from '../core/disc/views.js';
 import { ENCODINGS, encodingOf } from '../core/encodings/views.js';
+import { Fault } from '../core/faults.js';
 import { bytesOfHex } from '../core/hex_digits.js';
 import { LAST_BASE, LAST_BLOCK } from '../core/module/index.js';
 import { LAYOUT_LIMITS } from '../core/tasks/index.js';
@@ -35,7 +36,7 @@ function endOf(text) {
 
 /** @param {string} name */
 function knownEncoding(name) {
-    if (encodingOf(name) === null) throw ownFault(`unknown encoding '${name}'; known encodings: ${NAMES.join(', ')}`);
+    if (encodingOf(name) === null) throw new Fault('list/no-encoding', { name, known: NAMES });
     return name;
 }
 
