@@ -31,4 +31,4 @@ PLACES = prefix bindir man1dir man3dir libdir includedir pkgconfigdir cmakedir f
     pythondir
 
 install uninstall:
-	@$(foreach each,$(PLACES) DESTDIR VERSION LEAVE_OUT INSTALL PACKAGE,$(each)='$($(each))') sh tools/files.sh $@
+	@$(foreach each,$(PLACES) DESTDIR VERSION LEAVE_OUT INSTALL PACKAGE,$(each)='$(subst ','\'',$($(each)))') sh tools/files.sh $@

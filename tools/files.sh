@@ -26,6 +26,12 @@ each() {
 # The calls of the library, for each of which there is a man page of that name.
 calls() { sed -n '/^\.Sh SYNOPSIS/,/^\.Sh DESCRIPTION/s/^\.Fn \([a-z0-9_]*\) .*/\1/p' man/libcdpatch.3; }
 
+# The Debian packages of dist.list.
+packages() { sed -n 's/^[^#].* \(.*[a-z0-9]\)$/\1/p' dist.list | sort -u; }
+assert_known() {
+    packages | grep -qxF -e "$PACKAGE" || { echo "There is no package $PACKAGE: PACKAGE is one of $(packages | paste -sd ' ')." >&2; exit 1; }
+}
+
 assert_made() { [ "$3" = link ] || [ -e "$1" ] || { echo "There is no $1: run make first." >&2; exit 1; }; }
 
 # page FILE: prints a page without the parts that are left out.
@@ -87,6 +93,7 @@ remove_directories() {
     done
 }
 
+[ -z "${PACKAGE-}" ] || assert_known
 case $1 in
     install)
         each assert_made

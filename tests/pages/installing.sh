@@ -114,13 +114,16 @@ installed_elsewhere() {
     judge 'without PREFIX into /usr/local' test -x local/usr/local/bin/cdpatch
     built uninstall DESTDIR="$PWD/local"
     judge 'and away again' test -z "$(files local)"
-    local odd='with space & a|b\c' places
+    local odd="with space & a|b\\c's" places
     places=(prefix="$PWD/$odd" bindir="$PWD/$odd/sbin" zshcompdir="$PWD/zsh")
     built install "${places[@]}"
     judge 'prefix, and places by their names' test -x "$odd/sbin/cdpatch" -a -f zsh/_cdpatch
     judge 'cdpatch.pc has that prefix' test "$(head -n 1 "$odd/lib/pkgconfig/cdpatch.pc")" = "prefix=$PWD/$odd"
     built uninstall "${places[@]}"
     judge 'and away from there' test -z "$(files "$odd")$(files zsh)"
+    built install PACKAGE=nosuch DESTDIR="$PWD/none" 2> log
+    judge 'an unknown package is refused, and the known ones are listed' test $? != 0 -a ! -e none -a -n \
+        "$(grep '^There is no package nosuch: PACKAGE is one of cdpatch cdscript libcdpatch-dev libcdpatch2 python3-cdpatch\.$' log)"
     for file in cdpatch library completions; do
         mv "tree/$file" away
         built install DESTDIR="$PWD/none" 2> log
