@@ -99,6 +99,9 @@ sources_for_debian() {
     missing git git "Debian's source package" && return
     dpkg-source --extract one/made/*.dsc sources > log 2>&1
     judge 'the source package has the sources' diff -r -x numbers.js one/web sources/web
+    (cd sources && PATH=/usr/bin:/bin debian/rules override_dh_auto_build) > log 2>&1
+    judge 'without the toolchain its build says what it needs' test $? != 0 -a "$(grep -vc '^make' log)" = 1 -a -n \
+        "$(grep '^This source package needs rt of the Rattle toolchain' log)"
     cp -r one/{cdpatch,cdscript,cdpatch.html,library,completions} sources
     cp one/python/cdpatch/_numbers.py sources/python/cdpatch
     mkdir by_hand && mv sources by_hand
