@@ -126,7 +126,8 @@ packaged_for_debian() {
         cmp "$library/libcdpatch.so.2" system/usr/lib/x86_64-linux-gnu/libcdpatch.so.2'
     judge 'the page of a call is a link in it' test "$(readlink system/usr/share/man/man3/cdpatch_apply.3.gz)" = libcdpatch.3.gz
     judge 'their links lead to what they have' test -z "$(find system/usr -xtype l)"
-    judge 'each has the notices of the crates' test "$(grep -l '^== clap ==$' system/usr/share/doc/*/copyright | wc -l)" = 5
+    judge 'each that contains crates has their notices' test "$(grep -L '^== clap ==$' system/usr/share/doc/*/copyright)" = \
+        system/usr/share/doc/python3-cdpatch/copyright
     judge 'the list of symbols has each call with its release' has_symbols one/made/libcdpatch2_*.deb
     judge 'what Python has compiled is removed with the package' eval 'dpkg-deb --info one/made/python3-cdpatch_*.deb prerm | grep -q "py3clean -p python3-cdpatch"'
     judge 'pip finds it' test "$(PYTHONPATH=system/usr/lib/python3/dist-packages /usr/bin/python3 -Bc \
@@ -137,8 +138,11 @@ packaged_for_debian() {
     sources_for_debian
 }
 
-# The findings of lintian, except the missing address, and the bug in which Debian would have been asked for a new package.
-found_by_lintian() { lintian --no-cfg --allow-root --suppress-tags initial-upload-closes-no-bugs one/made/*.deb one/made/*.dsc 2>&1 | grep -v ' <>'; }
+# The findings of lintian, except the missing address and licence, and the bug in which Debian would have been asked for a new package.
+found_by_lintian() {
+    lintian --no-cfg --allow-root --suppress-tags initial-upload-closes-no-bugs one/made/*.deb one/made/*.dsc 2>&1 |
+        grep -v ' <>\|python3-cdpatch: copyright-without-copyright-notice'
+}
 
 packaged_for_pip() {
     missing pip3 python3-pip 'the wheel' && return
