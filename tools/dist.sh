@@ -78,6 +78,8 @@ python_packages() {
     room=$(mktemp -d -p "$scratch")
     cp -r "$tree/python" "$room/python"
     cp "$1" library/NOTICES "$room/python/cdpatch"
+    # PyPI refuses packages of this class.
+    [ -f LICENSE ] || sed -i 's/^classifiers = \[$/&\n    "Private :: Do Not Upload",/' "$room/python/pyproject.toml"
     mkdir "$room/pip"
     (cd "$room/python" && python3 -B -c 'import backend, sys; [getattr(backend, f"build_{it}")(sys.argv[1]) for it in sys.argv[2:]]' \
         "$room/pip" "${@:2}")

@@ -29,10 +29,11 @@ cp web/npm/README.md web/npm/example.html "$library"/{cdpatch.wasm,NOTICES} "$sc
 # npm starts a command by its first line on all systems.
 { echo '#!/usr/bin/env node'; sed "1,/^\*\/;$/d" "$cdscript"; } > "$scratch/package/cdscript.cjs"
 chmod +x "$scratch/package/cdscript.cjs"
+# `npm publish` refuses a private package.
 cat > "$scratch/package/package.json" << END
 {
     "name": "cdpatch",
-    "version": "$version",
+    "version": "$version",$([ -f LICENSE ] || printf '\n    "private": true,')
     "description": "Patches raw CD images and leaves each sector valid: EDC and P/Q parity, proved",
     "type": "module",
     "engines": { "node": ">=18" },

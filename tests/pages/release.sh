@@ -149,6 +149,7 @@ packaged_for_pip() {
     pip3 --disable-pip-version-check install --no-index --quiet --target site one/made/*.whl > log 2>&1
     judge 'pip installs the wheel' test -f site/cdpatch/libcdpatch.so.2
     judge 'the library in it is as it was' cmp -s "$library/libcdpatch.so.2" site/cdpatch/libcdpatch.so.2
+    judge 'without a licence PyPI refuses it' eval '[ -e "$top/LICENSE" ] || grep -q "^Classifier: Private ::" site/cdpatch-*.dist-info/METADATA'
     judge 'and a program in Python runs with it' test sectors_8_tail_0 = \
         "$(cd site && python3 -B -c 'import cdpatch; print(cdpatch.listing(open("../disc.bin", "rb").read()).split("\n")[-2].replace(" ", "_"))')"
 }
@@ -209,6 +210,8 @@ packaged_for_npm() {
     cp disc.bin "$top"/tests/pages/{npm,npm_refused}.mjs "$top/tests/pages/npm.ts" npm
     (cd npm && npm install --offline --no-audit --no-fund ../one/made/cdpatch-*.tgz > log 2>&1)
     judge 'npm installs the package' test -f npm/node_modules/cdpatch/cdpatch.wasm
+    judge 'without a licence npm refuses to publish it' eval '[ -e "$top/LICENSE" ] ||
+        node -e "process.exit(require(\"./npm/node_modules/cdpatch/package.json\").private === true ? 0 : 1)"'
     sed -n '/^```js$/,/^```$/p' "$top/web/npm/README.md" | sed '1d;$d' > npm/readme/readme.mjs
     sed -n '/^```text$/,/^```$/p' "$top/web/npm/README.md" | sed '1d;$d' > npm/readme/wanted
     head -c $((2048 * 20)) /dev/zero > npm/zeros
