@@ -7,7 +7,8 @@ import { localPool } from './pools.mjs';
 import { openedDisc } from './opened.mjs';
 import { recordOf } from './strangers.mjs';
 
-const { applyInMemory, exportRecords, exportTable, importTable, patchedTexts, validScript } = await core('tasks/index.js');
+const { applyInMemory, exportRecords, exportTable, importTable, patchedTexts, textLines, validScript } = await core('tasks/index.js');
+const { ScriptModel, linesMade } = await core('script/views.js');
 const { pieceReader } = await core('readers/index.js');
 const { encodeText, withEnd } = await core('encodings/encoding.js');
 const { SEARCHED, encodingOf } = await core('encodings/encodings.js');
@@ -26,11 +27,17 @@ async function scriptOf(opened, list) {
     return script.pieces;
 }
 
+/** The lines of a script by the texts that they write. */
+function linesOf(opened, pieces) {
+    const script = new ScriptModel(calls, decoded(Buffer.concat(pieces)));
+    return textLines(opened, script, { pointed: [], listed: [], own: encodingOf('CP932') });
+}
+
 /** The list of the texts, with the new texts that a script writes. */
 async function exported(opened, pieces, options) {
     const { reader, base } = opened.image;
     const patched = await applyInMemory(engine, { reader, base }, await validScript(calls, pieces));
-    const freshOf = await patchedTexts(opened, pieceReader(reader, patched.pieces), { isWritten: () => true });
+    const freshOf = await patchedTexts(opened, pieceReader(reader, patched.pieces), { lines: await linesOf(opened, pieces) });
     const texts = [];
     for await (const { text } of exportTable(engine, opened, { ...options, freshOf })) texts.push(text);
     return texts.join('');
@@ -79,7 +86,39 @@ test('an exported table of records has the new texts of the script without their
         const { script } = await importTable(engine, opened, { lists, encodings: SEARCHED.map(it => withEnd(it, end)), isAsked: false, partial: false });
         const { reader, base } = opened.image;
         const patched = await applyInMemory(engine, { reader, base }, await validScript(calls, script.pieces));
-        const freshOf = await patchedTexts(opened, pieceReader(reader, patched.pieces), { end, isWritten: () => true });
+        const freshOf = await patchedTexts(opened, pieceReader(reader, patched.pieces), { end, lines: await linesOf(opened, script.pieces) });
         assert.equal(await listed(freshOf), list, filler);
     }
 });
+
+/** Imports a row for the text `text` at 36, 104, whose room is 8 bytes, into a script. Returns the new lines, and what happens to the old ones. */
+async function importedBeside(text, fresh, sets) {
+    const { opened } = await openedDisc([recordOf('NAMES', 36, 2048, { flags: 0 })], Buffer.from('\x01\x02\x03SLong sw\0\0\0\0', 'latin1'));
+    const pieces = [encoded(`cdpatch 1\n${sets.join('\n')}\n`)];
+    const { reader, base } = opened.image;
+    const patched = pieceReader(reader, (await applyInMemory(engine, { reader, base }, await validScript(calls, pieces))).pieces);
+    const lines = await linesOf(opened, pieces);
+    const textOf = await patchedTexts(opened, patched, { lines });
+    const shown = await textOf({ block: 36, offset: 104, bytes: text.length, room: 8, encoding: 'CP932', text });
+    const lists = [{ name: 'list', reader: readerOf(encoded(`block\toffset\troom\ttext\tnew\n36\t104\t8\t${text}\t${fresh}\n`)) }];
+    const how = { lists, encodings: SEARCHED, isAsked: false, partial: true, earlier: { lines, textOf } };
+    const { script, left } = await importTable(engine, opened, how);
+    const replaced = lines.script.lines.filter(line => lines.isReplaced(line)).map(({ text: it }) => it);
+    return { shown, lines: script === null ? [] : linesMade(script), why: left.map(({ why }) => why.code), replaced, same: [...lines.unchanged] };
+}
+
+for (const [name, text, fresh, sets, due] of [
+    ['begins before a text', 'Long', 'pee', ['set 36 103 C97065 was 534C6F'], { why: ['list/line-across'] }],
+    ['ends after the room of a text', 'Long', 'Une epee', ['set 36 104 556E6520657065652121 was 4C6F6E67207377000000'], { why: ['list/line-across'] }],
+    ['fills the place of a text', 'Long', 'Lame', ['fill 36 104 2 65'], { why: ['list/line-across'] }],
+    ['has the new text with a different filler', 'Long sw', 'Lame', ['set 36 104 4C616D65000000 was 4C6F6E67207377'],
+        { shown: 'Lame', same: ['set 36 104 4C616D65000000 was 4C6F6E67207377'] }],
+    ['has an earlier new text', 'Long sw', 'Epee', ['set 36 104 4C616D65000000 was 4C6F6E67207377', 'set 36 110 21 was 00'],
+        { shown: 'Lame{00}{00}!', lines: ['set 36 104 45706565202020 was 4C6F6E67207377'] }],
+    ['writes in the room after the new text', 'Long', 'Lame', ['set 36 109 2121 was 7377'],
+        { shown: 'Long !!', lines: ['set 36 104 4C616D65 was 4C6F6E67'], replaced: ['set 36 109 2121 was 7377'] }],
+]) {
+    test(`a list is imported into a script with a line that ${name}`, async () => {
+        assert.deepEqual(await importedBeside(text, fresh, sets), { shown: '', lines: [], why: [], replaced: [], same: [], ...due });
+    });
+}

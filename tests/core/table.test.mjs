@@ -66,7 +66,7 @@ test('new texts become a finished script, with a line for each extent', async ()
     const { opened } = await openedDisc();
     const made = await imported(opened.withBase(150), [[181, 2043, TEXT, 'PRESS START'], [186, 100, TEXT, '']]);
     assert.equal(scriptText(made), 'cdpatch 1\n# base 150\nset 181 2043 5052455353 was 7072657373\nset 170 0 205354415254 was 207374617274\n');
-    assert.deepEqual([made.count, made.left, made.codes, made.old.patches], [1, [], [], 0]);
+    assert.deepEqual([made.count, made.left, made.codes, made.empty], [1, [], [], []]);
     assert.deepEqual(linesMade(made.script), ['set 181 2043 5052455353 was 7072657373', 'set 170 0 205354415254 was 207374617274']);
 });
 
@@ -84,11 +84,13 @@ test('rows that do not fit are left out, or there is no script', async () => {
     assert.deepEqual([asked.script, asked.left.length], [null, 1]);
 });
 
-test('rows without a new text that the script writes already have the lines of their old texts, and codes left out are counted', async () => {
+test('rows without a new text that the script writes already have the bytes of their old texts, and codes left out are counted', async () => {
     const { opened } = await openedDisc();
     const made = await imported(opened, [[36, 100, TEXT, ''], [31, 2043, TEXT, '']], { isAlso: ({ block }) => block === 36 });
     assert.deepEqual([made.count, made.script, made.left], [0, null, []]);
-    assert.deepEqual(linesMade(made.old), ['set 36 100 7072657373207374617274 was 7072657373207374617274']);
+    assert.deepEqual(made.empty, [{ block: 36, offset: 100, size: TEXT.length + 36 }]);
+    const repeated = await imported(opened, [[36, 100, TEXT, ''], [36, 100, TEXT, 'PRESS']], { isAlso: () => true });
+    assert.deepEqual(repeated.empty, []);
     const coded = await imported(opened, [[36, 100, `${TEXT}{00}`, 'PRESS START']]);
     assert.deepEqual(coded.codes, [{ code: '00', count: 1, rows: 1, first: [{ list: '', unit: 'row', number: 2, place: '' }] }]);
 });

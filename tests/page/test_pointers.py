@@ -19,7 +19,7 @@ ROW = '''const { cells } = document.querySelector(`.all-texts tbody tr[aria-rowi
     return [cells[2].querySelector('input').value, cells[2].querySelector('p').innerText.trim(), cells[3].innerText.trim()]'''
 
 
-class Pointers(PageTest):
+class PointersPage(PageTest):
     def begin(self, image: bytes) -> Path:
         """Opens an image, and shows its texts."""
         path = discs.written(game=image)['game']
@@ -92,6 +92,8 @@ class Pointers(PageTest):
         common.cdscript_prints('extract', path, f'/EVENT{file}.DAT', out)
         return pointed.texts_in(out.read_bytes())
 
+
+class Pointers(PointersPage):
     def test_tables_are_listed_as_cdscript_lists_them_and_saved_and_opened_again(self) -> None:
         image = self.begin(pointed.game())
         self.find_tables()
@@ -297,3 +299,72 @@ class Pointers(PageTest):
         for css in ('.pointers tbody tr:last-child', '#let-move', f'{CARD} .btn.main'):
             left, right = self.browser.run('const { left, right } = document.querySelector(arguments[0]).getBoundingClientRect(); return [left, right]', css)
             self.assertTrue(0 <= left < right <= 360, css)
+
+
+class NamesBesideTexts(PointersPage):
+    """A script with names in records, made by cdscript, beside the list of all texts."""
+
+    def begin_with_names(self, header: bytes) -> tuple[Path, str]:
+        """Opens an image and the script of its names, and shows all texts."""
+        path = discs.written(game=pointed.english_game(header))['game']
+        layout = ['--every', '24', '--length', '16', '--skip', str(len(header)), '--in', 'ITEMS.DAT', '--encoding', 'Windows-1252']
+        names = path.with_name('names.tsv')
+        head, *rows = [line.split('\t') for line in common.cdscript_prints('texts', *layout, path).splitlines()]
+        for row, fresh in zip(rows, pointed.ITEMS.values(), strict=True):
+            row[head.index('new')] = fresh if header else fresh.lower()
+        names.write_text(''.join('\t'.join(row) + '\n' for row in [head, *rows]))
+        script = common.cdscript_prints('replace', path, '--list', names)
+        self.has_names(path, script, header)
+        self.open_image(path)
+        self.open_script(discs.written(english=script)['english'])
+        self.browser.click('#tab-text')
+        self.browser.choose('#find-encoding', 'Windows-1252')
+        self.show()
+        return path, script
+
+    def has_names(self, image: Path, script: str, header: bytes) -> None:
+        """All lines of a script match, and the patched disc has the new names, byte for byte."""
+        status, _, data = applied(image, discs.written(script=script)['script'])
+        self.assertEqual(status, 0)
+        patched = discs.written(patched=data)['patched']
+        common.cdscript_prints('extract', patched, '/ITEMS.DAT', patched.with_name('items'))
+        self.assertEqual(patched.with_name('items').read_bytes(), pointed.items_file([*pointed.ITEMS.values()], header))
+
+    def test_make_the_script_leaves_the_lines_of_names_as_they_are(self) -> None:
+        for header in (pointed.HEADER, b''):
+            image, script = self.begin_with_names(header)
+            self.find_tables()
+            self.let_move()
+            self.type_text(7, 'Le vieil homme du village numéro 1 m\'a donné une clef en or, et il a souri.')
+            self.make()
+            made = self.script_now()
+            self.assertLess(set(script.splitlines()), set(made.splitlines()))
+            self.has_names(image, made, header)
+            # The texts are put back in place.
+            self.browser.click('#tab-text')
+            self.browser.click('#let-move')
+            self.browser.wait('#panel-text [aria-pressed]:nth-child(3)', 'Do not fit 1')
+            self.assertEqual(sorted(self.script_now().splitlines()), sorted(script.splitlines()))
+            self.setUp()
+
+    def test_a_list_that_is_exported_and_imported_unchanged_changes_nothing(self) -> None:
+        for header, says in ((pointed.HEADER, ''), (b'', '3 lines are unchanged. All 3 translations fit.')):
+            for item, form in (('Export a table', 'csv'), ('Export PO', 'po')):
+                image, script = self.begin_with_names(header)
+                self.press_in('export', item)
+                path = self.browser.downloaded(f'game (texts).{form}')
+                common.waited(path.read_bytes, 'the list is empty')
+                self.browser.give('#panel-text input[accept^=".tsv"]', [path.rename(common.folder('list') / path.name)])
+                self.browser.wait('#panel-text .texts-table ~ * .say.good', says)
+                self.assertEqual(self.script_now(), script)
+                self.has_names(image, script, header)
+                self.setUp()
+
+    def test_a_new_text_over_a_longer_name_is_left_out_with_the_line_of_the_name(self) -> None:
+        image, script = self.begin_with_names(b'')
+        mine = image.with_name('mine.tsv')
+        mine.write_text(with_new(common.cdscript_prints('texts', '--encoding', 'Windows-1252', image), {3: 'épée'}))
+        self.browser.give('#panel-text input[accept^=".tsv"]', [mine])
+        self.browser.wait('#panel-text .say.warn', '1 translation does not fit')
+        self.browser.wait('#panel-text .two', 'of the script already writes here, and also before or after this text')
+        self.assertEqual(self.script_now(), script)

@@ -168,6 +168,8 @@ export interface Facts {
     /** The first separate row into which a quoted cell of an earlier row extends. */
     'list/cell-runs-on': { row: number };
     'list/overlaps': { row: RowName };
+    /** A line of the script that writes at the place of a text, and also before it or after its room. */
+    'list/line-across': { line: number };
     'list/long-text': { most: number };
     'list/no-space': { name: string };
     'list/other-text': {};

@@ -278,6 +278,7 @@ export const ENGLISH = {
     'list/after-file': ({ size }) => `the file has only ${size} bytes`,
     'list/cell-runs-on': ({ row }) => `a quoted cell continues into row ${row}, which is a row of its own`,
     'list/overlaps': ({ row }) => `it overlaps the text of ${rowName(row)}`,
+    'list/line-across': ({ line }) => `line ${line} of the script already writes here, and also before or after this text`,
     'list/long-text': ({ most }) => `a text has more than ${most} characters`,
     'list/no-space': ({ name }) => `${name} has no space character to pad with`,
     'list/other-text': () => 'the old text is not there',

@@ -4,7 +4,7 @@ export { baseComment, scriptForBase } from './base_comment.js';
 export { assertFits } from './fitting.js';
 export { headLine } from './language.js';
 export { LineList } from './line_list.js';
-export { userPlace } from './model.js';
+export { byNumber, userPlace } from './model.js';
 export { applyPatches, passPatched } from './patches.js';
 export { Refusal, readScript } from './script.js';
 export { ScriptParts } from './script_writer.js';

@@ -83,15 +83,16 @@ class Merging {
 }
 
 /**
- * The lines of a script, in order, that write some of the bytes of new lines which set bytes, but begin at none of their places.
+ * The lines of a script, in order, that write some of the bytes of new lines which set bytes.
  * @param {ScriptModel} script
  * @param {string[]} incoming
+ * @param {boolean} [beside] whether only those are returned that begin at none of their places
  */
-export function linesBeside(script, incoming) {
+export function linesUnder(script, incoming, beside = false) {
     const read = linesRead(new ScriptModel(script.calls, scriptOf(incoming)));
     const places = new Set(read.map(({ patch }) => userPlace(patch)));
-    const there = read.flatMap(({ patch }) => script.linesWriting(patch));
-    return there.filter(({ patch }) => patch !== null && !places.has(userPlace(patch))).sort(byNumber);
+    const there = [...new Set(read.flatMap(({ patch }) => script.linesWriting(patch)))].sort(byNumber);
+    return there.filter(({ patch }) => !beside || patch === null || !places.has(userPlace(patch)));
 }
 
 /**
@@ -110,22 +111,4 @@ export async function mergedInTurns(script, incoming, isMade, signal) {
         merging.add(line);
     }
     return merging.merged();
-}
-
-/**
- * The lines of a script, in order, that new lines which set bytes would replace. Other tasks get turns in between, in which the script must
- * not change.
- * @param {ScriptModel} script
- * @param {string[]} incoming
- * @param {(line: ScriptLine) => boolean} isMade whether a line was generated like the new ones, and not typed
- * @param {import('../turns.js').Signal} [signal]
- */
-export async function replacedLinesInTurns(script, incoming, isMade, signal) {
-    /** @type {Set<ScriptLine>} */
-    const removed = new Set();
-    for (const { patch } of linesRead(await modelInParts(script.calls, scriptOf(incoming), () => letOthersIn(signal)))) {
-        if (isTurnDue()) await letOthersIn(signal);
-        for (const line of linesFor(script, patch, isMade)) removed.add(line);
-    }
-    return [...removed].sort(byNumber);
 }

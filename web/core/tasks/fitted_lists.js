@@ -30,7 +30,8 @@ import { fittedEach } from './replace.js';
  */
 /**
  * The number of new texts, repeated ones counted once; the rows that do not fit; the codes that new texts leave out; the
- * characters that only new texts have; the number of fuzzy entries; and the rows without a new text that were selected.
+ * characters that only new texts have; the number of fuzzy entries; and the rows without a new text that were selected, unless others have
+ * one at the same place.
  * @typedef {{ count: number, left: LeftRow[], codes: LeftCode[], glyphs: ReadLists['glyphs'], fuzzy: ReadLists['fuzzy'],
  *     others: ListRow[] }} FittedLists
  */
@@ -73,8 +74,12 @@ function assertKnown(name) {
 export async function fittedLists(lists, place, options, watch = {}) {
     const { rows, fuzzy, glyphs } = await rowsOfLists(lists, options.isAlso, watch.signal);
     const isNew = (/** @type {ListRow} */ { fresh, fault }) => fresh !== '' || fault !== null;
-    const fitted = await fittedRows(rows.filter(isNew), place, options, watch);
-    return { ...fitted, fuzzy, glyphs: [...glyphs, ...fitted.glyphs], others: rows.filter(row => !isNew(row)) };
+    const fresh = rows.filter(isNew);
+    const fitted = await fittedRows(fresh, place, options, watch);
+    const keyOf = (/** @type {ListRow} */ { block, offset, isInFile }) => `${isInFile} ${block} ${offset}`;
+    const known = new Set(fresh.map(keyOf));
+    const others = rows.filter(row => !isNew(row) && !known.has(keyOf(row)));
+    return { ...fitted, fuzzy, glyphs: [...glyphs, ...fitted.glyphs], others };
 }
 
 /**

@@ -8,7 +8,9 @@ import { checkMoved } from './check_moved.js';
 import { encodingsOfRows, fittedLists } from './fitted_lists.js';
 import { MovedTexts } from './moved_texts.js';
 import { FreshFiles, pushFreshFiles } from './moving_script.js';
+import { claimByScript, rangeOfRow } from './patched_texts.js';
 import { openPointedFiles } from './pointed_file.js';
+import { PointedTexts } from './pointed_texts.js';
 import { assertHasRoom } from './replace.js';
 import { replaceBytes } from './replace_bytes.js';
 import { sharingWith } from './replace_file.js';
@@ -66,6 +68,8 @@ class MovingRows {
         this.layouts = [];
         /** @type {LeftRow[]} */
         this.left = [];
+        /** @type {ListRow[]} rows in these files whose texts are those of an earlier script, and stay in place */
+        this.kept = [];
         /** @type {Pick<MovingImport, 'moved' | 'few' | 'sharing'>} */
         this.remarks = { moved: [], few: [], sharing: [] };
     }
@@ -76,17 +80,20 @@ class MovingRows {
      */
     async place(mayMove) {
         const { part } = await this.opened.contents();
-        const { calls } = this.engine;
-        return placeInImage(part, this.options.fill, async (row, window, old, bytes) => {
+        const { engine: { calls }, options: { fill } } = this;
+        const claim = mayMove ? this.claimByScript() : () => 0;
+        return placeInImage(part, fill, async (row, window, old, bytes) => {
             const lines = await replaceBytes(calls, window, row, old, bytes, true);
             const spot = this.files.spotOf(row);
             if (spot === null) return this.parts.push(lines);
             const { file, at } = spot;
             this.fresh.of(file).bytes.set(bytes, at);
             return this.inPlace.push({ file, first: at, after: at + old.length });
-        }, (row, { known, room, size, encoding }, bytes) => {
+        }, async (row, found, bytes) => {
+            const { known, room, size, encoding } = found;
+            const claimed = await claim(row, found, bytes);
             const spot = this.files.spotOf(row);
-            if (spot === null) return 0;
+            if (spot === null || claimed > 0) return claimed;
             const { file, at } = spot;
             const used = Math.max(known, Math.min(bytes.length, room), size);
             if (file.hasPointer(at, at + used)) throw new Fault('pointers/overlap', {});
@@ -99,6 +106,25 @@ class MovingRows {
             if (next !== undefined) assertHasRoom(encoding, bytes, Math.max(known, next.target - at - 1));
             return 0;
         });
+    }
+
+    /**
+     * The function that decides on rows by the lines of an earlier script. Texts to which pointers lead are always generated again.
+     * @returns {import('./rows_in_image.js').ClaimRow}
+     */
+    claimByScript() {
+        const { earlier } = this.options;
+        if (earlier === undefined) return () => 0;
+        const texts = new PointedTexts(this.files);
+        const [inPlace, pointed] = [earlier, { ...earlier, textOf: null }].map(claimByScript);
+        return async (row, found, bytes) => {
+            const spot = this.files.spotOf(row);
+            if (spot?.file.hasPointer(spot.at, spot.at + rangeOfRow(row, found).size)) return 0;
+            const isPointed = spot !== null && texts.of({ ...row, bytes: found.known }, found.encoding) !== null;
+            const claimed = await (isPointed ? pointed : inPlace)(row, found, bytes);
+            if (claimed > 0 && spot !== null) this.kept.push(row);
+            return claimed;
+        };
     }
 
     /**
@@ -192,7 +218,9 @@ class MovingRows {
         }
         if (volume === null) return;
         this.reportSharing(volume);
-        await pushFreshFiles(this.engine.calls, part, volume, this.fresh, this.parts, signal);
+        const { earlier } = this.options;
+        const isKept = earlier && ((/** @type {import('../script/model.js').UserRange} */ range) => earlier.lines.hasStaying(range));
+        await pushFreshFiles(this.engine.calls, part, { names: volume, isKept }, this.fresh, this.parts, signal);
     }
 
     /** @param {import('./replace_file.js').VolumeNames} names */
@@ -237,7 +265,7 @@ export async function importMoving(engine, opened, options, watch = {}) {
     const moving = new MovingRows(engine, opened, files, options, watch);
     const fitted = await fittedLists(lists, await moving.place(true), { encodings, isAsked, isAlso: () => true }, watch);
     if (fitted.count === 0 && fitted.fuzzy === 0) throw new Fault('list/no-new-text', {});
-    for (const [file, firsts] of moving.placesOfOthers(fitted.others)) await moving.layOutFile(file, firsts);
+    for (const [file, firsts] of moving.placesOfOthers([...fitted.others, ...moving.kept])) await moving.layOutFile(file, firsts);
     await moving.write();
     const left = [...fitted.left, ...moving.left];
     const { image } = await opened.contents();

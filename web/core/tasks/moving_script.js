@@ -8,6 +8,7 @@ import { extentKey, pushSize, recordsByKey } from './replace_file.js';
 
 /** @typedef {import('../disc/disc.js').OrderedImage} OrderedImage */
 /** @typedef {import('../module/calls.js').Calls} Calls */
+/** @typedef {import('../script/model.js').UserRange} UserRange */
 /** @typedef {import('../script/script_writer.js').ScriptParts} ScriptParts */
 /** @typedef {import('../turns.js').Signal} Signal */
 /** @typedef {import('./moved_texts.js').MovableText} MovableText */
@@ -67,9 +68,10 @@ export class FreshFiles {
  * The ranges of bytes that differ. Those that are close together are joined.
  * @param {Uint8Array} old
  * @param {Uint8Array} fresh as many bytes
+ * @param {(first: number, after: number) => boolean} mayJoin whether the equal bytes of a range may be between joined ones
  * @param {Signal} [signal]
  */
-async function differingSpans(old, fresh, signal) {
+async function differingSpans(old, fresh, mayJoin, signal) {
     /** @type {import('../pointers/forms.js').Span[]} */
     const spans = [];
     for (let from = 0; from < old.length; from += COMPARED_AT_ONCE) {
@@ -78,7 +80,7 @@ async function differingSpans(old, fresh, signal) {
         for (let at = from; at < end; at++) {
             if (old[at] === fresh[at]) continue;
             const last = spans[spans.length - 1];
-            if (last !== undefined && at - last.after <= JOINED) last.after = at + 1;
+            if (last !== undefined && at - last.after <= JOINED && mayJoin(last.after, at)) last.after = at + 1;
             else spans.push({ first: at, after: at + 1 });
         }
     }
@@ -89,14 +91,17 @@ async function differingSpans(old, fresh, signal) {
  * Adds the lines that give files their new bytes and sizes. Throws a Fault if a sector is not consistent.
  * @param {Calls} calls
  * @param {OrderedImage} image whose reader may read ahead
- * @param {VolumeNames} names
+ * @param {{ names: VolumeNames, isKept?: (range: UserRange) => boolean }} options the names of the volume, and whether other lines write
+ *     in a range, which is then not written again
  * @param {FreshFiles} fresh
  * @param {ScriptParts} parts
  * @param {Signal} [signal]
  */
-export async function pushFreshFiles(calls, image, names, { files }, parts, signal) {
+export async function pushFreshFiles(calls, image, { names, isKept = () => false }, { files }, parts, signal) {
     for (const [{ file, bytes, size, placeOf }, fresh] of files) {
-        for (const { first, after } of await differingSpans(bytes, fresh.bytes, signal)) {
+        const mayJoin = (/** @type {number} */ first, /** @type {number} */ after) =>
+            first === after || !isKept({ ...placeOf(first), size: after - first });
+        for (const { first, after } of await differingSpans(bytes, fresh.bytes, mayJoin, signal)) {
             await letOthersIn(signal);
             const [old, own] = [bytes, fresh.bytes].map(it => it.subarray(first, after));
             parts.push(await replaceBytes(calls, image, placeOf(first), old, own, true));

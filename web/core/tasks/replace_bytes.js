@@ -78,6 +78,17 @@ function cutAtExtents({ order }, change) {
 }
 
 /**
+ * The ranges of a number of user bytes from a place on, split as their lines are.
+ * @param {Pick<OrderedImage, 'order'>} image
+ * @param {Place} place
+ * @param {number} size
+ */
+export function rangesInOrder(image, place, size) {
+    const bytes = new Uint8Array(size);
+    return cutAtExtents(image, { place, old: bytes, fresh: bytes }).map(it => ({ ...it.place, size: it.old.length }));
+}
+
+/**
  * Adds the lines of a change of adjacent sectors.
  * @param {Calls} calls
  * @param {DiscImage} image

@@ -21,7 +21,7 @@ import { filledUp } from './replace_bytes.js';
 /**
  * Takes over a row with its new bytes, so that it is not fitted here. Returns how many bytes it replaces at least, or 0 for a row that is
  * to be fitted.
- * @typedef {(row: ListRow, found: FoundRow, fresh: Uint8Array) => number} ClaimRow
+ * @typedef {(row: ListRow, found: FoundRow, fresh: Uint8Array) => number | Promise<number>} ClaimRow
  */
 
 /**
@@ -44,7 +44,7 @@ export function placeInImage(image, fill = null, take, claim = () => 0) {
         async fit(row, encodings, signal) {
             const found = await foundRow(window, row, encodings, signal);
             const bytes = await newBytesOf(row, found.encoding, signal);
-            const claimed = claim(row, found, bytes);
+            const claimed = await claim(row, found, bytes);
             if (claimed > 0) return claimed;
             const { old, fresh } = fittedRow(found, bytes, fill);
             await take(row, window, old, fresh);

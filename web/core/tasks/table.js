@@ -5,14 +5,16 @@ import { ScriptParts } from '../script/index.js';
 import { NO_BLOCK, PoFile, allTexts, haveSameText, rowText, stretchesOf } from '../texts/index.js';
 import { letOthersIn } from '../turns.js';
 import { fittedLists, fittedRows } from './fitted_lists.js';
-import { placeInImage, roomOfRow } from './rows_in_image.js';
 import { rowsOfLists } from './list_rows.js';
 import { pathFromRoot } from './named_files.js';
+import { claimByScript, noteLeft, rangeOfRow } from './patched_texts.js';
 import { replaceBytes } from './replace_bytes.js';
+import { placeInImage, roomOfRow } from './rows_in_image.js';
 import { fittingScript } from './script_for.js';
 
 /** @typedef {import('../disc/disc.js').DiscFile} DiscFile */
 /** @typedef {import('../encodings/encoding.js').Filler} Filler */
+/** @typedef {import('../script/model.js').UserRange} UserRange */
 /** @typedef {import('../script/script_writer.js').Script} Script */
 /** @typedef {import('../texts/all_texts.js').ListedText} ListedText */
 /** @typedef {import('../texts/all_texts.js').Stretch} Stretch */
@@ -23,6 +25,7 @@ import { fittingScript } from './script_for.js';
 /** @typedef {import('./fitted_lists.js').RowEncodings} RowEncodings */
 /** @typedef {import('./list_rows.js').ListRow} ListRow */
 /** @typedef {import('./opened.js').OpenedTrack} OpenedTrack */
+/** @typedef {import('./patched_texts.js').EarlierTexts} EarlierTexts */
 /**
  * What is listed: the texts of files or directories (`paths`), or all of them; with at least a number of characters. `ended` is called as
  * by allTexts.
@@ -34,16 +37,16 @@ import { fittingScript } from './script_for.js';
  * @typedef {ListOptions & { form?: 'tsv' | 'csv' | 'po', freshOf?: FreshOf, seen?: (texts: ListedText[]) => void }} ExportOptions
  */
 /** @typedef {(listed: ListedText) => string | Promise<string>} FreshOf */
-/** @typedef {RowEncodings & { fill?: Filler }} RowOptions */
+/** How rows are fitted; with an `earlier` script, rows keep to its lines. */
+/** @typedef {RowEncodings & { fill?: Filler, earlier?: EarlierTexts }} RowOptions */
 /**
  * The files with the lists, which rows without a new text are read too, and whether a script is created from the rows that fit if others
  * do not.
  * @typedef {RowOptions & { lists: DiscFile[], isAlso?: (row: ListRow) => boolean, partial: boolean }} ImportOptions
  */
 /**
- * The finished script, null if no row fits or some do not and all are needed; and the script that writes the old texts of the rows without
- * a new one.
- * @typedef {import('./fitted_lists.js').FittedLists & { script: Script | null, old: Script }} ImportedTable
+ * The finished script, null if no row fits or some do not and all are needed; and the bytes of the rows without a new text.
+ * @typedef {import('./fitted_lists.js').FittedLists & { script: Script | null, empty: UserRange[] }} ImportedTable
  */
 
 const COLUMN_NAMES = ['block', 'offset', 'bytes', 'room', 'encoding', 'file', 'text', 'new'];
@@ -208,14 +211,33 @@ async function* poPieces(texts, freshOf, signal) {
  * A track as the place of rows, and the lines that write those that fit.
  * @param {Pick<Engine, 'calls'>} engine
  * @param {OpenedTrack} opened
- * @param {Filler} [fill]
+ * @param {Pick<RowOptions, 'fill' | 'earlier'>} options
  */
-async function linesInTrack({ calls }, opened, fill) {
+async function linesInTrack({ calls }, opened, { fill, earlier }) {
     const { image, part } = await opened.contents();
     const parts = new ScriptParts();
     const place = placeInImage(part, fill, async (row, window, old, fresh) =>
-        parts.push(await replaceBytes(calls, window, row, old, fresh, true)));
-    return { place, parts, script: () => fittingScript(calls, image, parts) };
+        parts.push(await replaceBytes(calls, window, row, old, fresh, true)), earlier && claimByScript(earlier));
+    return { place, script: () => fittingScript(calls, image, parts) };
+}
+
+/**
+ * The bytes of the old texts of rows without a new one, with the room after them. Rows whose texts are not there have none.
+ * @param {OpenedTrack} opened
+ * @param {ListRow[]} rows
+ * @param {RowEncodings} options
+ * @param {Watch['signal']} signal
+ */
+async function rangesOfOthers(opened, rows, options, signal) {
+    /** @type {UserRange[]} */
+    const ranges = [];
+    const { part } = await opened.contents();
+    const place = placeInImage(part, null, () => {}, (row, found) => {
+        ranges.push(rangeOfRow(row, found));
+        return found.known;
+    });
+    await fittedRows(rows.map(row => ({ ...row, fresh: row.text })), place, options, { signal });
+    return ranges;
 }
 
 /**
@@ -227,12 +249,12 @@ async function linesInTrack({ calls }, opened, fill) {
  * @param {Watch} [watch] receives the number of rows
  * @returns {Promise<ImportedTable>}
  */
-export async function importTable(engine, opened, { lists, fill, partial, ...options }, watch = {}) {
-    const [made, old] = [await linesInTrack(engine, opened, fill), await linesInTrack(engine, opened)];
+export async function importTable(engine, opened, { lists, fill, earlier, partial, ...options }, watch = {}) {
+    const made = await linesInTrack(engine, opened, { fill, earlier });
     const fitted = await fittedLists(lists, made.place, options, watch);
-    await fittedRows(fitted.others.map(row => ({ ...row, fresh: row.text })), old.place, options, { signal: watch.signal });
+    if (earlier) noteLeft(fitted.left, earlier);
     const script = partial || fitted.left.length === 0 ? await made.script() : null;
-    return { ...fitted, script, old: old.parts.script(engine.calls) };
+    return { ...fitted, script, empty: await rangesOfOthers(opened, fitted.others, options, watch.signal) };
 }
 
 /**
@@ -242,8 +264,8 @@ export async function importTable(engine, opened, { lists, fill, partial, ...opt
  * @param {ListRow[]} rows
  * @param {RowOptions} options
  */
-export async function importRows(engine, opened, rows, { fill, ...options }) {
-    const { place, script } = await linesInTrack(engine, opened, fill);
+export async function importRows(engine, opened, rows, { fill, earlier, ...options }) {
+    const { place, script } = await linesInTrack(engine, opened, { fill, earlier });
     const { left } = await fittedRows(rows, place, options);
     return { script: await script(), left };
 }

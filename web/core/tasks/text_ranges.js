@@ -1,18 +1,25 @@
-// The bytes of a disc that scripts with new texts may write, so that the lines of an earlier script are known.
+// The rule by which lines of a script are those of a text: they lie within its bytes and room. All others belong to something else.
 
 import { firstAfter } from '../bytes.js';
+import { encodingOf } from '../encodings/index.js';
+import { VERB } from '../module/index.js';
 import { MOST_CODES, joinedSpans } from '../pointers/index.js';
-import { userPlace } from '../script/index.js';
+import { byNumber, userPlace } from '../script/index.js';
 import { isTurnDue, letOthersIn, sortedInTurns } from '../turns.js';
+import { rangesInOrder } from './replace_bytes.js';
 import { extentKey, placeOfLength, recordsByKey } from './replace_file.js';
 
 /** @typedef {import('../pointers/forms.js').Span} Span */
+/** @typedef {import('../disc/disc.js').OrderedImage} OrderedImage */
+/** @typedef {import('../encodings/encoding.js').Encoding} Encoding */
+/** @typedef {import('../script/model.js').ScriptLine} ScriptLine */
+/** @typedef {import('../script/model.js').ScriptModel} ScriptModel */
 /** @typedef {import('../script/model.js').UserRange} UserRange */
 /** @typedef {import('../texts/all_texts.js').ListedText} ListedText */
 /** @typedef {import('../turns.js').Signal} Signal */
 /** @typedef {import('./opened.js').OpenedTrack} OpenedTrack */
 /** @typedef {import('./pointed_file.js').PointedFile} PointedFile */
-/** @typedef {import('./pointed_file.js').PointedFiles} PointedFiles */
+/** @typedef {import('./pointed_texts.js').PointedTexts} PointedTexts */
 /** @typedef {import('./replace_file.js').VolumeNames} VolumeNames */
 
 /** The most bytes that end a text after its room. */
@@ -43,29 +50,130 @@ function rangeOf({ block, offset, bytes, room }, mayMove) {
     return mayMove ? { block, offset: offset - MOST_CODES, size: MOST_CODES + size + MOST_ENDING } : { block, offset, size };
 }
 
+/** The lines of a script that write texts. A line belongs to a text only if it lies within the text's own bytes and room. */
+export class TextLines {
+    /**
+     * @param {ScriptModel} script which may change later
+     * @param {Pick<OrderedImage, 'order'>} image
+     * @param {Span[]} moved the ranges of texts and pointers, in order, in files whose texts move
+     * @param {boolean} isRemade whether the lines of these files are generated again
+     */
+    constructor(script, image, moved, isRemade) {
+        this.script = script;
+        this.image = image;
+        this.moved = moved;
+        this.isRemade = isRemade;
+        this.firsts = moved.map(({ first }) => first);
+        /** @type {Map<ScriptLine, boolean>} what isOfMoved has found */
+        this.ofMoved = new Map();
+        /** @type {Map<string, boolean>} whether lines, by what they say, stay in the script although others are added or generated again */
+        this.staying = new Map();
+        /** @type {Set<string>} the lines of texts that do not change */
+        this.unchanged = new Set();
+    }
+
+    /**
+     * The lines that write bytes of a text with its room, in order: its own, which lie within it, and others, which write more or something
+     * else, such as a name in a record.
+     * @param {UserRange} range
+     */
+    at({ block, offset, size }) {
+        const ranges = rangesInOrder(this.image, { block, offset }, size);
+        const lines = [...new Set(ranges.flatMap(range => this.script.linesWriting(range)))].sort(byNumber);
+        const isOwn = (/** @type {ScriptLine} */ { patch }) => patch !== null && patch.verb === VERB.SET && ranges.some(range =>
+            userPlace(patch) >= userPlace(range) && userPlace(patch) + patch.size <= userPlace(range) + range.size);
+        return { own: lines.filter(isOwn), others: lines.filter(line => !isOwn(line)) };
+    }
+
+    /**
+     * Whether lines write a text, and none of them belongs to something else.
+     * @param {UserRange} range of the text with its room
+     */
+    haveText(range) {
+        const { own, others } = this.at(range);
+        return own.length + others.length > 0 && others.every(line => this.isOfMoved(line));
+    }
+
+    /**
+     * Whether a line changes only texts and pointers of files whose texts move. It may then write several of them.
+     * @param {ScriptLine} line
+     */
+    isOfMoved(line) {
+        const { script, moved, ofMoved } = this;
+        if (moved.length === 0 || line.patch === null || line.patch.verb !== VERB.SET) return false;
+        const known = ofMoved.get(line);
+        if (known !== undefined) return known;
+        const { fresh, old } = script.patchAt(line.number - 1) || { fresh: new Uint8Array(0), old: null };
+        const first = userPlace(line.patch);
+        const changed = [...fresh.keys()].filter(i => old === null || old[i] !== fresh[i]);
+        const isOf = changed.length > 0 && changed.every(i => this.isMoved(first + i));
+        ofMoved.set(line, isOf);
+        return isOf;
+    }
+
+    /** @param {number} place of a user byte */
+    isMoved(place) {
+        const i = firstAfter(this.firsts, place) - 1;
+        return i >= 0 && this.moved[i].after > place;
+    }
+
+    /**
+     * Notes whether lines stay in the script.
+     * @param {ScriptLine[]} lines
+     * @param {boolean} stay
+     */
+    note(lines, stay) {
+        for (const { text } of lines) this.staying.set(text, stay);
+    }
+
+    /**
+     * Notes that the lines of a text stay, because it does not change.
+     * @param {ScriptLine[]} lines
+     */
+    keep(lines) {
+        this.note(lines, true);
+        for (const { text } of lines) this.unchanged.add(text);
+    }
+
+    /**
+     * Whether a line is removed when the lines of new texts are added.
+     * @param {ScriptLine} line
+     */
+    isReplaced(line) {
+        const stays = this.staying.get(line.text);
+        return stays === undefined ? this.isRemade && this.isOfMoved(line) : !stays;
+    }
+
+    /**
+     * Whether a line that stays writes in a range.
+     * @param {UserRange} range
+     */
+    hasStaying(range) {
+        return this.script.linesWriting(range).some(line => !this.isReplaced(line));
+    }
+}
+
 /**
- * Returns a function that tells whether a range has a byte that a script with new texts may write.
+ * The lines of a script by the texts of a disc that they write.
  * @param {OpenedTrack} opened
- * @param {PointedFiles[]} pointed the files of tables, by which texts may move
- * @param {ListedText[]} listed
+ * @param {ScriptModel} script
+ * @param {{ pointed: PointedTexts[], listed: ListedText[], own: Encoding, isRemade?: boolean }} options the texts that may move by some
+ *     tables; all texts; the encoding of those whose encoding has no name; and whether the lines in the files of these tables are
+ *     generated again
  * @param {Signal} [signal]
- * @returns {Promise<(range: UserRange) => boolean>}
  */
-export async function textRanges(opened, pointed, listed, signal) {
-    const { volume } = await opened.contents();
+export async function textLines(opened, script, { pointed, listed, own, isRemade = false }, signal) {
+    const { volume, part } = await opened.contents();
     /** @type {Span[]} */
     const spans = [];
     const add = (/** @type {UserRange} */ range) => spans.push({ first: userPlace(range), after: userPlace(range) + range.size });
-    for (const { files } of pointed) for (const file of files) for (const range of rangesBeside(file, volume)) add(range);
-    for (const it of listed) {
+    for (const { files: { files } } of pointed) for (const file of files) for (const range of rangesBeside(file, volume)) add(range);
+    for (const it of pointed.length === 0 ? [] : listed) {
         if (isTurnDue()) await letOthersIn(signal);
         const { block } = it;
-        if (block !== '-') add(rangeOf({ ...it, block }, pointed.some(files => files.spotOf({ ...it, block }) !== null)));
+        if (block === '-' || !pointed.some(({ files }) => files.spotOf({ ...it, block }) !== null)) continue;
+        add(rangeOf({ ...it, block }, pointed.some(texts => texts.of(it, encodingOf(it.encoding) || own) !== null)));
     }
-    const joined = joinedSpans(await sortedInTurns(spans.filter(({ first, after }) => after > first), ({ first }) => first, signal));
-    const firsts = joined.map(({ first }) => first);
-    return range => {
-        const i = firstAfter(firsts, userPlace(range) + range.size - 1) - 1;
-        return i >= 0 && joined[i].after > userPlace(range);
-    };
+    const some = spans.filter(({ first, after }) => after > first);
+    return new TextLines(script, part, joinedSpans(await sortedInTurns(some, ({ first }) => first, signal)), isRemade);
 }

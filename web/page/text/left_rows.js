@@ -9,6 +9,7 @@ import {
     button, capital, element, fill, keyed, notice, sentence, showFailure, showMessageAt, shownText, tableCard,
 } from '../ui/index.js';
 import { AroundCard, readAround } from './around_card.js';
+import { linesOfTexts } from './earlier_texts.js';
 import { chosenEncoding } from './encodings.js';
 import { lineBeside, mergedWords, rowsMerged } from './merged_rows.js';
 import { RowCard } from './row_card.js';
@@ -157,17 +158,18 @@ export class LeftRows {
         const rows = all ? this.equalRows() : [left.rows[chosen]];
         const fresh = rows.map(({ text }) => ({ ...text, fresh: row.fresh }));
         try {
-            const { script, left: others } = await importRows(app, left.image.opened, fresh, left.options);
+            const earlier = { lines: await linesOfTexts(app, left.image), textOf: null };
+            const { script, left: others } = await importRows(app, left.image.opened, fresh, { ...left.options, earlier });
             const why = others.map(it => `${capital(remarkText(it.why))}.`)[0] || '';
             if (others.length === rows.length) return say(notice('bad', why, texts.discNothingAdded));
             const line = lineBeside(app, script);
             if (line > 0) return say(notice('bad', format(texts.textLineWritesHere, { line: String(line) }), texts.discNothingAdded));
-            const made = await rowsMerged(app, left.image, script);
-            if (made === null || this.left !== left) return undefined;
+            const merged = await rowsMerged(app, left.image, script, app.closing.signal, earlier.lines);
+            if (merged === null || this.left !== left) return undefined;
             this.leave(left, rows, others);
             if (left.rows.length === 0) return this.end();
             const rest = others.length === 0 ? '' : `${format(texts.textEqualRowsLeft, { n: others.length })} ${why}`;
-            say(notice(rest === '' ? 'good' : 'warn', mergedWords(made.merged), rest));
+            say(notice(rest === '' ? 'good' : 'warn', mergedWords(merged), rest));
             await this.choose(chosen);
             return this.row.input.focus();
         } catch (error) {

@@ -1,6 +1,6 @@
 // Adds the lines of imported rows to the script.
 
-import { linesBeside, linesMade } from '../../core/script/views.js';
+import { linesMade, linesUnder } from '../../core/script/views.js';
 import { ownFault } from '../../sentences/index.js';
 import { mergeOf } from '../app/index.js';
 import * as texts from '../texts/index.js';
@@ -10,21 +10,39 @@ import { format } from '../texts/index.js';
 /** @typedef {import('../app/state.js').Image} Image */
 /** @typedef {import('../../core/script/script_writer.js').Script} Script */
 /** @typedef {import('../../core/script/merge_lines.js').Merged} Merged */
+/** @typedef {import('../../core/script/model.js').ScriptLine} ScriptLine */
+/** @typedef {import('../../core/tasks/text_ranges.js').TextLines} TextLines */
 
 /**
- * Merges the lines of a finished script into the open one, and returns them with their counts; null if the image was closed meanwhile.
+ * Throws an error if a line of the script that stays writes bytes of new lines.
+ * @param {App} app
+ * @param {string[]} incoming
+ * @param {TextLines} lines
+ */
+function assertFree({ script }, incoming, lines) {
+    const same = new Set(incoming);
+    const line = linesUnder(script, incoming).find(it => !lines.isReplaced(it) && !same.has(it.text));
+    if (line) throw ownFault(format(texts.textLineWritesHere, { line: String(line.number) }));
+}
+
+/**
+ * Merges the lines of a finished script into the open one, and returns their counts, with those of the lines whose texts do not change;
+ * null if the image was closed meanwhile.
  * @param {App} app
  * @param {Image} image
  * @param {Script | null} script null if there are no lines
  * @param {AbortSignal} [signal]
- * @param {(line: import('../../core/script/model.js').ScriptLine) => boolean} [isRemoved] selects lines of the open script to be removed
+ * @param {TextLines} [lines] those of the open script, of which some may be removed
  */
-export async function rowsMerged(app, image, script, signal, isRemoved) {
+export async function rowsMerged(app, image, script, signal, lines) {
     if (script !== null && script.long) throw ownFault(texts.textScriptLongerThanTaken);
     const incoming = script === null ? [] : linesMade(script);
-    const merge = script === null && !isRemoved ? null : await mergeOf(app.script, incoming, signal, isRemoved);
+    if (lines?.isRemade) assertFree(app, incoming, lines);
+    const isRemoved = lines && ((/** @type {ScriptLine} */ line) => lines.isReplaced(line));
+    const merge = script === null && !lines?.isRemade ? null : await mergeOf(app.script, incoming, signal, isRemoved);
     if (app.image !== image) return null;
-    return { incoming, merged: merge === null ? { added: 0, replaced: 0, same: 0 } : app.changeScript(merge) };
+    const merged = merge === null ? { added: 0, replaced: 0, same: 0 } : app.changeScript(merge);
+    return { ...merged, same: merged.same + (lines === undefined ? 0 : lines.unchanged.size) };
 }
 
 /**
@@ -43,6 +61,6 @@ export function mergedWords({ added, replaced, same }) {
  * @param {Script | null} script
  */
 export function lineBeside({ script: own }, script) {
-    const [line] = linesBeside(own, script === null ? [] : linesMade(script));
+    const [line] = linesUnder(own, script === null ? [] : linesMade(script), true);
     return line ? line.number : 0;
 }

@@ -1,10 +1,10 @@
 // Generates the script of all new texts, which may move, and replaces the lines of earlier texts in the open script by it.
 
-import { VERB } from '../../core/module/index.js';
-import { exportedPieces, importMoving, importTable, openPointedFiles, textRanges } from '../../core/tasks/index.js';
+import { PointedTexts, exportedPieces, importMoving, importTable, noteOtherLines, openPointedFiles } from '../../core/tasks/index.js';
 import { ownFault } from '../../sentences/index.js';
 import { discFileOf } from '../open/index.js';
 import * as texts from '../texts/index.js';
+import { earlierTexts } from './earlier_texts.js';
 import { rowsMerged } from './merged_rows.js';
 
 /** @typedef {import('../app/state.js').App} App */
@@ -12,9 +12,9 @@ import { rowsMerged } from './merged_rows.js';
 /** @typedef {import('../../core/disc/disc.js').DiscFile} DiscFile */
 /** @typedef {import('../../core/pointers/tsv.js').ListedTable} ListedTable */
 /** @typedef {import('../../core/script/merge_lines.js').Merged} Merged */
-/** @typedef {import('../../core/script/model.js').ScriptLine} ScriptLine */
 /** @typedef {import('../../core/tasks/engine.js').Watch} Watch */
 /** @typedef {import('../../core/tasks/import_moving.js').MovingImport} MovingImport */
+/** @typedef {import('../../core/tasks/patched_texts.js').EarlierTexts} EarlierTexts */
 /** @typedef {import('../../core/texts/all_texts.js').ListedText} ListedText */
 /** @typedef {import('./known_texts.js').KnownTexts} KnownTexts */
 /** @typedef {import('./texts_card.js').List & { image: Image }} DiscList the listed texts of a disc */
@@ -48,20 +48,20 @@ export async function listFile(listed, { news }) {
  * Imports lists, whose texts move by the pointers of tables, or stay in place.
  * @param {App} app
  * @param {DiscList} list
- * @param {Moving} moving
+ * @param {Moving & { earlier: EarlierTexts }} moving
  * @param {Watch} watch
  * @returns {Promise<Made>}
  */
-async function imported(app, { image, options }, { lists, tables }, watch) {
-    const how = { ...options, lists, partial: true };
+async function imported(app, { image, options }, { lists, tables, earlier }, watch) {
+    const how = { ...options, lists, partial: true, earlier };
     if (lists.length === 0) return NOTHING_MADE;
     if (tables !== null) return importMoving(app, image.opened, { ...how, tables, isKept: () => false }, watch);
     return { ...await importTable(app, image.opened, how, watch), ...NOTHING_MOVED };
 }
 
 /**
- * Generates the script of lists, and puts it into the open one in place of all lines that write texts, or what moves them. Returns what was
- * imported, with the counts of lines; null if the image was closed meanwhile.
+ * Generates the script of lists, and puts it into the open one in place of the lines that write texts which change, or what moves them.
+ * Returns what was imported, with the counts of lines; null if the image was closed meanwhile.
  * @param {App} app
  * @param {DiscList} list
  * @param {Moving} moving
@@ -69,12 +69,12 @@ async function imported(app, { image, options }, { lists, tables }, watch) {
  */
 export async function movedScript(app, list, moving, watch) {
     if (app.script.long !== null) throw ownFault(texts.textTooLongToMove);
-    const { image, texts: { listed } } = list;
-    const made = await imported(app, list, moving, watch);
+    const { image, options: { encodings: [{ end }] }, texts: { listed, news } } = list;
     const pointed = [];
-    for (const tables of moving.used) pointed.push(await openPointedFiles(image.opened, tables, watch.signal));
-    const isOfTexts = await textRanges(image.opened, pointed, listed, watch.signal);
-    const isRemoved = (/** @type {ScriptLine} */ { patch }) => patch !== null && patch.verb === VERB.SET && isOfTexts(patch);
-    const lines = await rowsMerged(app, image, made.script, watch.signal, isRemoved);
-    return lines === null ? null : { made, merged: lines.merged };
+    for (const tables of moving.used) pointed.push(new PointedTexts(await openPointedFiles(image.opened, tables, watch.signal)));
+    const earlier = await earlierTexts(app, image, { end: end || undefined, movable: { pointed, listed, isRemade: true } });
+    await noteOtherLines(listed, it => news.get(it) || '', earlier, watch.signal);
+    const made = await imported(app, list, { ...moving, earlier }, watch);
+    const merged = await rowsMerged(app, image, made.script, watch.signal, earlier.lines);
+    return merged === null ? null : { made, merged };
 }

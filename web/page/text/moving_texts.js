@@ -88,6 +88,11 @@ export class MovingTexts {
         this.card.drawSwitch({ isOn, isOwn, isReady: pointed !== null, waiting: list === null ? 0 : list.texts.waiting, isOld });
     }
 
+    /** The texts that may have moved, and those of the list. */
+    get movable() {
+        return { pointed: this.pointed === null ? [] : [this.pointed], listed: this.list === null ? [] : this.list.texts.listed };
+    }
+
     /**
      * Whether the new texts of a list wait until the script of all texts is generated.
      * @param {List | null} list

@@ -4,14 +4,15 @@ import { sentence } from '../ui/index.js';
 
 /** @typedef {import('../app/state.js').App} App */
 /** @typedef {import('../../core/tasks/table.js').FreshOf} FreshOf */
+/** @typedef {import('../../core/texts/all_texts.js').ListedText} ListedText */
 /** @typedef {import('./known_texts.js').KnownText} KnownText */
 /** @typedef {import('./texts_card.js').List} List */
 /** @typedef {{ known: KnownText, fresh: string }} Change */
 /**
  * The callbacks to the table: the function that finds the new texts of the script, as TextsTable returns it; the new texts that are still
  * being typed in their fields; drawing after changes; and the display of an error.
- * @typedef {{ newTextOf: (image: List['image']) => Promise<FreshOf | null>, inFields: () => Change[], redraw: () => void,
- *     failed: (error: unknown) => void }} ChangesOwner
+ * @typedef {{ newTextOf: (image: List['image'], listed: ListedText[]) => Promise<FreshOf | null>, inFields: () => Change[],
+ *     redraw: () => void, failed: (error: unknown) => void }} ChangesOwner
  */
 
 /** The typed texts of a list. */
@@ -167,7 +168,7 @@ export class TextChanges {
      */
     async readScript(list, areKept) {
         try {
-            const newTextOf = await this.owner.newTextOf(list.image);
+            const newTextOf = await this.owner.newTextOf(list.image, list.texts.listed);
             if (newTextOf === null || this.list !== list) return;
             await list.texts.readNews(newTextOf, this.app.closing.signal, areKept);
             if (this.list === list) this.owner.redraw();

@@ -1,15 +1,15 @@
 // Saves all texts of the disc as a table or a PO file for a translator, and generates lines of the script from lists with new texts.
 
 import { isTableList } from '../../core/pointers/views.js';
-import { linesMade } from '../../core/script/views.js';
-import { importTable, patchedTexts } from '../../core/tasks/index.js';
+import { importTable } from '../../core/tasks/index.js';
 import { jobAt } from '../app/index.js';
 import { fileReader } from '../open/index.js';
-import { downloadBytes, patchedWork } from '../save/index.js';
+import { downloadBytes } from '../save/index.js';
 import * as texts from '../texts/index.js';
 import { format, say } from '../texts/index.js';
 import { announce, button, element, failureNotice, fill, menuButton, nameOf, notice, showMessageAt } from '../ui/index.js';
-import { chosenEncoding, rowOptionsOf } from './encodings.js';
+import { earlierTexts, isWritten, withdrawnLines } from './earlier_texts.js';
+import { rowOptionsOf } from './encodings.js';
 import { bestWords, exportedList, exportedWords, inParts, listName } from './exported_list.js';
 import { importedWords } from './imported_words.js';
 import { KnownTexts } from './known_texts.js';
@@ -22,7 +22,6 @@ import { TextsCard } from './texts_card.js';
 import { putIntoScript } from './typed_text.js';
 import { currentLeft, waitingOutcomes } from './waiting_texts.js';
 import { WhatToList } from './what_to_list.js';
-import { isWritten, withdrawnLines } from './withdrawn.js';
 
 /** @typedef {import('../app/jobs.js').Bar} Bar */
 /** @typedef {import('../app/state.js').App} App */
@@ -30,6 +29,7 @@ import { isWritten, withdrawnLines } from './withdrawn.js';
 /** @typedef {import('../app/state.js').PlainFile} PlainFile */
 /** @typedef {import('../../core/script/merge_lines.js').ScriptLine} ScriptLine */
 /** @typedef {import('../../core/tasks/list_rows.js').ListRow} ListRow */
+/** @typedef {import('../../core/texts/all_texts.js').ListedText} ListedText */
 /** @typedef {import('../ui/fill.js').Child} Child */
 /** @typedef {import('./known_texts.js').KnownText} KnownText */
 
@@ -48,8 +48,8 @@ export class TextsTable {
         this.message = element('div', { role: 'status' });
         this.left = new LeftRows(app, () => this.ended());
         this.what = new WhatToList(app);
-        this.known = new TextsCard(app, { newTextOf: image => this.newTextOf(image), save: (list, form) => this.saveKnown(list, form),
-            changed: () => this.changed() });
+        this.known = new TextsCard(app, { newTextOf: (...given) => this.newTextOf(...given), changed: () => this.changed(),
+            save: (list, form) => this.saveKnown(list, form) });
         /** @type {MovingTexts} */
         this.moving = new MovingTexts(app, { known: this.known, madeNotice: (...made) => this.madeNotice(...made) });
         this.plain = /** @type {PlainTexts | null} */ (null);
@@ -136,7 +136,7 @@ export class TextsTable {
         for await (const some of pieces) await found.add(some, signal);
         if (found.all.length === 0) return notice('plain', texts.textNoTextFound, texts.textAnotherEncoding);
         await this.known.settled();
-        const newTextOf = await this.newTextOf(image);
+        const newTextOf = await this.newTextOf(image, found.listed);
         if (newTextOf !== null) await found.readNews(newTextOf, signal);
         const { app, plain } = this;
         const put = async (/** @type {KnownText[]} */ some) => {
@@ -171,9 +171,11 @@ export class TextsTable {
      */
     save(form) {
         return this.work(texts.textLookingForTexts, texts.textMakingOfRows, texts.textNoTableSaved, async (image, bar, signal) => {
-            const newTextOf = await this.newTextOf(image);
-            const { pieces: listed, areRecords, best, ends } = await this.what.listing(image.opened, this.endByte(), bar, signal);
-            const { pieces, ...counts } = await exportedList(listed, { form, areRecords, newTextOf, signal });
+            const { pieces: some, areRecords, best, ends } = await this.what.listing(image.opened, this.endByte(), bar, signal);
+            const listed = [];
+            for await (const part of some) listed.push(...part);
+            const newTextOf = await this.newTextOf(image, listed);
+            const { pieces, ...counts } = await exportedList(inParts(listed), { form, areRecords, newTextOf, signal });
             if (counts.all === 0) return notice('plain', texts.textNoTextFound, texts.textAnotherEncoding);
             const name = listName(image.name, areRecords, form);
             downloadBytes(pieces, name);
@@ -186,18 +188,14 @@ export class TextsTable {
     /**
      * The function that finds the new texts of the script, or of the ordinary file; null if the script has a faulty line.
      * @param {Image | PlainFile} image
+     * @param {ListedText[]} listed all listed texts
      * @returns {Promise<import('../../core/tasks/table.js').FreshOf | null>}
      */
-    async newTextOf(image) {
-        const { app, plain } = this;
-        if (!('disc' in image)) return plain && plain.newTextOf();
-        if (app.script.faults > 0) return null;
-        if (app.script.patches === 0) return async () => '';
-        const work = { reader: image.reader, base: image.base, script: app.script.text(), carry: true };
-        const { result } = await patchedWork(app, work);
-        const { pointed } = this.moving;
-        return patchedTexts(image.opened, result, { own: chosenEncoding(app), end: this.endByte(), pointed,
-            isWritten: range => app.script.lineAt(range) > 0 });
+    async newTextOf(image, listed) {
+        if (!('disc' in image)) return this.plain && this.plain.newTextOf();
+        const { pointed: moved } = this.moving;
+        const movable = { pointed: moved === null ? [] : [moved], listed };
+        return (await earlierTexts(this.app, image, { end: this.endByte(), movable, moved })).textOf;
     }
 
     chosen() {
@@ -236,16 +234,17 @@ export class TextsTable {
             const options = this.rowOptions();
             const lists = [{ name: file.name, reader: fileReader(file) }];
             if (!('disc' in image)) return this.takeIntoFile(image, lists, bar, signal);
+            const earlier = await earlierTexts(app, image, { end: this.endByte(), movable: this.moving.movable });
             const isAlso = (/** @type {ListRow} */ row) => isWritten(app, row);
-            const imported = { ...options, lists, isAlso, partial: true };
+            const imported = { ...options, lists, isAlso, partial: true, earlier };
             const made = await importTable(app, image.opened, imported, { signal, progress: bar.things });
-            const lines = await rowsMerged(app, image, made.script, signal);
-            if (lines === null) return null;
+            const merged = await rowsMerged(app, image, made.script, signal, earlier.lines);
+            if (merged === null) return null;
             app.checkAfterChange();
-            const withdrawn = await withdrawnLines(app, linesMade(made.old), lines.incoming, signal);
+            const withdrawn = withdrawnLines(earlier.lines, made.empty);
             this.known.takeLeft(made.left);
             await this.left.show({ image, name: file.name, rows: made.left, options });
-            return this.madeNotice(made, lines.merged, withdrawn);
+            return this.madeNotice(made, merged, withdrawn);
         });
     }
 

@@ -1,12 +1,11 @@
 // Puts new texts that were typed in the table of texts into the script, at all places of the old texts, and removes them again.
 
-import { linesMade, userPlace } from '../../core/script/views.js';
 import { importRows } from '../../core/tasks/index.js';
 import * as texts from '../texts/index.js';
 import { format, remarkText } from '../texts/index.js';
 import { capital } from '../ui/index.js';
+import { isWritten, linesOfTexts } from './earlier_texts.js';
 import { lineBeside, rowsMerged } from './merged_rows.js';
-import { isWritten, withdrawnLines } from './withdrawn.js';
 
 /** @typedef {import('../app/state.js').App} App */
 /** @typedef {import('../app/state.js').Image} Image */
@@ -40,19 +39,11 @@ function writtenBy(line) {
 }
 
 /**
- * The number of a line of the open script that writes in the room of a text, and also before or after it, or 0: in a script that moves
- * texts, it may have others too.
- * @param {App} app
- * @param {KnownText} known
+ * The bytes of a listed text with the room after it.
+ * @param {ListedText} listed
  */
-function lineAcross({ script }, { places }) {
-    for (const { block, offset, room } of places) {
-        const from = block === '-' ? -1 : userPlace({ block, offset });
-        const line = block === '-' ? undefined : script.linesWriting({ block, offset, size: room }).find(({ patch }) =>
-            patch !== null && (userPlace(patch) < from || userPlace(patch) + patch.size > from + room));
-        if (line !== undefined) return line.number;
-    }
-    return 0;
+function rangeOf({ block, offset, bytes, room }) {
+    return { block: block === '-' ? 0 : block, offset, size: Math.max(bytes, room) };
 }
 
 /**
@@ -64,11 +55,13 @@ function lineAcross({ script }, { places }) {
  * @param {RowOptions} options
  */
 export async function putIntoScript(app, image, some, options) {
-    const lines = new Map(some.map(known => [known, lineAcross(app, known)]));
-    const free = some.filter(known => lines.get(known) === 0);
-    await removeFromScript(app, image, free.filter(({ fresh }) => fresh === ''), options);
+    const lines = await linesOfTexts(app, image);
+    const others = new Map(some.map(known => [known, known.places.flatMap(it => lines.at(rangeOf(it)).others)[0]?.number || 0]));
+    const free = some.filter(known => others.get(known) === 0);
+    const removed = free.flatMap(({ fresh, places }) => fresh === '' ? places.flatMap(it => lines.at(rangeOf(it)).own) : []);
+    if (removed.length > 0 && app.image === image) app.changeScript(own => own.remove(new Set(removed.map(({ text }) => text))));
     const outcomes = await putNewTexts(app, image, free.filter(({ fresh }) => fresh !== ''), options);
-    for (const [known, line] of lines) if (line > 0) outcomes.set(known, writtenBy(line));
+    for (const [known, line] of others) if (line > 0) outcomes.set(known, writtenBy(line));
     return outcomes;
 }
 
@@ -118,19 +111,4 @@ export function outcomesOf(owners, left, remarkOn = () => '') {
  */
 export function leftWords(why) {
     return `${capital(remarkText(why))}.`;
-}
-
-/**
- * Removes the lines from the script that write new texts at the places of some texts.
- * @param {App} app
- * @param {Image} image
- * @param {KnownText[]} some
- * @param {RowOptions} options
- */
-async function removeFromScript(app, image, some, options) {
-    const rows = some.flatMap(({ places }) => places.map(it => rowOfListed(it, it.text)));
-    const { script } = await importRows(app, image.opened, rows, options);
-    if (script === null) return;
-    const lines = await withdrawnLines(app, linesMade(script), [], app.closing.signal);
-    if (app.image === image) app.changeScript(own => own.remove(new Set(lines.map(({ text }) => text))));
 }
