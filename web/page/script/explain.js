@@ -3,7 +3,7 @@
 import { filesAt } from '../../core/iso/views.js';
 import { CONTENT, isFault } from '../../core/module/index.js';
 import { wordsOf } from '../../core/script/views.js';
-import { chosenEncoding } from '../text/index.js';
+import { chosenEncoding, encodingLabel } from '../text/index.js';
 import * as texts from '../texts/index.js';
 import { format, say } from '../texts/index.js';
 import { element, fill, shownPaths, shownText, term } from '../ui/index.js';
@@ -61,7 +61,7 @@ function withTerms(text) {
 }
 
 /**
- * The new and the old bytes as text.
+ * The new and the old bytes as text. The script does not say its encoding, so it is that of the panel Text.
  * @param {App} app
  * @param {{ fresh: Uint8Array, old: Uint8Array | null }} patch
  */
@@ -70,5 +70,7 @@ function pairOf(app, { fresh, old }) {
     const encoding = chosenEncoding(app);
     const row = (/** @type {string} */ name, /** @type {Uint8Array} */ bytes) => [element('span', { class: 'quiet' }, name),
         element('span', { class: 'mono' }, shownText(encoding.text(bytes.subarray(0, MOST_BYTES_SHOWN))))];
-    return element('div', { class: 'pair' }, ...row(texts.scriptNewTextShort, fresh), ...old ? row(texts.scriptOldText, old) : []);
+    const pair = element('div', { class: 'pair' }, ...row(texts.scriptNewTextShort, fresh), ...old ? row(texts.scriptOldText, old) : []);
+    const remark = format(texts.scriptTextsReadIn, { encoding: encodingLabel(encoding.name) });
+    return element('div', {}, pair, element('span', { class: 'quiet' }, remark));
 }

@@ -913,6 +913,7 @@ export const scriptWriteAddress = 'write the address {address} in the header of 
 export const scriptPatchIsRefused = 'It is {words}.';
 export const scriptNewTextShort = 'new';
 export const scriptOldText = 'old';
+export const scriptTextsReadIn = 'Read in {encoding}. The tab Text has other encodings.';
 
 // the help for a faulty line, and the labels of the buttons that correct it
 export const scriptLineHasForm = 'The line has this form: {form}.';
