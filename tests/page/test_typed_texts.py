@@ -75,6 +75,7 @@ class TypedTexts(PageTest):
         self.assertEqual(self.row(2)[3:], ['18 bytes too many.', '56 of 38'])
         self.browser.press(Keys.ENTER)
         self.browser.wait('#panel-text [aria-pressed]:nth-child(3)', 'Do not fit 1')
+        self.becomes(2, 3, f"18 too many. {common.text('textScriptKeeps')}")
         self.browser.wait('#count-script', '6')
         self.press('Do not fit')
         self.assertEqual([cells[1] for cells in self.cells()], [SENTENCES[1]])
@@ -87,6 +88,19 @@ class TypedTexts(PageTest):
         self.press_in('image', 'Close the image')
         self.browser.wait('#sheet')
         self.assertNotIn(common.text('textTypedAreLost'), self.browser.text('#sheet'))
+
+    def test_tab_goes_on_from_a_typed_text_and_the_keys_of_undo_take_it_back(self) -> None:
+        self.begin(spoken_texts())
+        self.browser.click(self.field(2))
+        self.browser.press('Save?', Keys.TAB)
+        self.browser.wait('#count-script', '6')
+        self.becomes(2, 4, '5 of 38')
+        place = self.browser.run("return document.querySelector('#panel-text .foot .tiny').innerText")
+        self.assertEqual(self.browser.run('return document.activeElement.innerText'), place)
+        self.browser.click(self.field(2))
+        self.browser.press('z', held=Keys.CONTROL)
+        self.becomes(2, 4, '0 of 38')
+        self.browser.wait('#panel-text .meter', '0 of 4 done')
 
     def test_typed_texts_that_do_not_fit_stay_if_the_texts_are_listed_again_and_are_not_lost_without_a_question(self) -> None:
         text = b'\0'.join(it.encode('cp932') for it in SENTENCES) + b'\0'

@@ -8,10 +8,10 @@ import { element, fill, seen, sentence, setAttribute, shownText } from '../ui/in
 /** @typedef {import('../ui/fill.js').Child} Child */
 /** @typedef {import('./known_texts.js').KnownText} KnownText */
 /**
- * The callbacks to the table: the field got the focus; a new text was typed, and the field was left; a key moves to a different row; the
- * room is to be read; and the comparison with it was drawn.
- * @typedef {{ focused: () => void, typed: (fresh: string) => void, move: (step: number) => void, readFit: () => Promise<void>,
- *     drawn: () => void }} RowOwner
+ * The callbacks to the table: the field got the focus; a new text was typed, and the field was left; a key moves to a different row, or
+ * undoes what was typed last; the room is to be read; and the comparison with it was drawn.
+ * @typedef {{ focused: () => void, typed: (fresh: string) => void, move: (step: number) => void, undo: () => void,
+ *     readFit: () => Promise<void>, drawn: () => void }} RowOwner
  */
 
 /** The keys that move to a different row, by how many rows. */
@@ -147,7 +147,7 @@ export class TextRow {
     remark(fault, more) {
         const { known: { places, why, written, waits, mayMove } } = this;
         if (fault !== '') return fault;
-        if (more > 0 && !mayMove) return format(texts.textTooMany, { n: more });
+        if (more > 0 && !mayMove) return this.isKept() && why !== '' ? why : format(texts.textTooMany, { n: more });
         const later = waits && this.isKept() ? texts.textNotInScript : '';
         if (more > 0 && (why === '' || !this.isKept())) return `${format(texts.textHasToMove, { n: more })} ${later}`;
         if (later !== '') return later;
@@ -159,8 +159,10 @@ export class TextRow {
     /** @param {KeyboardEvent} event */
     pressed(event) {
         const { key } = event;
-        if (event.isComposing || event.altKey || event.ctrlKey || event.metaKey) return;
-        if (key === 'Escape' && !this.isKept()) {
+        const isUndo = (event.ctrlKey || event.metaKey) && !event.shiftKey && key.toLowerCase() === 'z';
+        if (event.isComposing || event.altKey || (event.ctrlKey || event.metaKey) && !isUndo) return;
+        if (isUndo && this.isKept()) this.owner.undo();
+        else if (key === 'Escape' && !this.isKept()) {
             this.input.value = this.known.fresh;
             this.drawSize();
         } else if (STEPS[key]) {

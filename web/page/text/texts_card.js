@@ -183,6 +183,7 @@ export class TextsCard {
             focused: () => this.choose(this.shown.indexOf(known)),
             typed: fresh => this.changes.typed([{ known, fresh }]),
             move: step => this.move(step),
+            undo: () => this.undo(),
             readFit: () => this.readFit(known),
             drawn: () => {
                 if (this.shown[this.chosen] === known) this.drawStrip();
@@ -233,6 +234,8 @@ export class TextsCard {
     undo() {
         const known = this.changes.undo();
         fill(this.message);
+        const row = known && this.drawn.get(known);
+        if (row) row.input.value = row.known.fresh;
         const index = this.shown.findIndex(it => it === known);
         if (index < 0) return;
         this.choose(index);
@@ -271,13 +274,13 @@ export class TextsCard {
         if (known === undefined) return fill(this.strip, texts.textNoneShown);
         const { places } = known;
         const listed = places.slice(0, MOST_PLACES).map(({ block, offset }) => block === '-' ? element('span', {}, String(offset))
-            : button('tiny bare', () => app.goTo(block, offset, true), placeWords({ block, offset })));
+            : keyed(`${block}, ${offset}`, button('tiny bare', () => app.goTo(block, offset, true), placeWords({ block, offset }))));
         const more = places.length > MOST_PLACES && format(texts.andMore, { n: String(places.length - MOST_PLACES) });
         return fill(this.strip, element('p', { class: 'old-text' }, ...withCodes(known.text)),
             known.fresh.includes('{') && element('p', { class: 'old-text' }, ...withCodes(known.fresh)),
-            element('div', { class: 'row quiet' }, element('span', {}, encodingLabel(known.encoding)),
+            keyed('places', element('div', { class: 'row quiet' }, element('span', {}, encodingLabel(known.encoding)),
                 element('span', {}, places[0].block === '-' ? texts.textColumnOffset : texts.textColumnPlace, ':'), ...listed, more,
-                list.ends.length > 0 && format(texts.textEndsFound, { bytes: list.ends.join(', ') })));
+                list.ends.length > 0 && format(texts.textEndsFound, { bytes: list.ends.join(', ') }))));
     }
 
     /** Saves the texts with their new texts in a form that the user chooses. */
