@@ -3,7 +3,9 @@
 from __future__ import annotations
 
 import ctypes
-from typing import TYPE_CHECKING, Callable, Optional, Protocol
+import os
+import stat
+from typing import TYPE_CHECKING, Callable, Optional, Protocol, Tuple
 
 from ._reports import Report
 from ._running import UNKNOWN_SIZE, run
@@ -73,6 +75,34 @@ class _Streams:
         return size
 
 
+def _regular_file(stream: object) -> Optional[Tuple[int, int]]:
+    """The device and the inode of a stream's regular file, or None if it has none."""
+    try:
+        status = os.fstat(stream.fileno())  # type: ignore[attr-defined]
+    except (AttributeError, TypeError, ValueError, OSError):
+        return None
+    return (status.st_dev, status.st_ino) if stat.S_ISREG(status.st_mode) else None
+
+
+def _has_position(stream: object) -> bool:
+    """Whether a stream has a position, unlike a socket or a pipe."""
+    try:
+        stream.tell()  # type: ignore[attr-defined]
+    except (AttributeError, OSError):
+        return False
+    return True
+
+
+def _assert_different_files(reader: object, writer: object, log: object) -> None:
+    """Raises ValueError if what is written would overwrite the image or the new image."""
+    # A method such as `sys.stdout.write` knows its file.
+    image, new, lines = map(_regular_file, (reader, writer, getattr(log, '__self__', None)))
+    if new and new == image or reader is writer and _has_position(reader):
+        raise ValueError('reader and writer are the same file; write the new image to another file')
+    if lines and lines in (image, new):
+        raise ValueError('log writes to the file of the image or of the new image; use another file')
+
+
 def patch(reader: Reader, script: ReadableBuffer, writer: Writer, base: int = 0, carry: bool = False, *,
           log: Optional[Callable[[str], object]] = None) -> Report:
     """Reads an image whose first sector is block `base`, applies a script to it, and writes the new image, which has the same size.
@@ -86,10 +116,15 @@ def patch(reader: Reader, script: ReadableBuffer, writer: Writer, base: int = 0,
     change of it during the call has no effect. A read may return fewer bytes than requested, and a write may write fewer; `write` returns
     the number of bytes written, as Python's files do. Nothing is read after the end of the image, and nothing is flushed or closed.
 
+    `writer` must not be the file of `reader`, because the image would be overwritten before it is read. Raises ValueError, before anything
+    is read or written, if both are the same object with a position, or if two of `reader`, `writer`, and the file of which `log` is a
+    method are the same regular file.
+
     Raises Failed, before anything is read or written, if the base is not 0 to 449849, or if the script is invalid or too long. To avoid an
     empty file if the script is invalid, call `check(b'', script)` before you open `writer`.
 
     Other errors can occur after a prefix of the new image was written: Failed, with the log so far, if the image has more than 2352000000
     bytes; OSError if the writer writes nothing; BlockingIOError if the reader has no bytes yet; ValueError if it returns more bytes than
     requested; and whatever `reader`, `writer`, and `log` raise."""
+    _assert_different_files(reader, writer, log)
     return run(_Streams(reader, writer), UNKNOWN_SIZE, script, base, carry, log)

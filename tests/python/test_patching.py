@@ -2,8 +2,10 @@
 
 import ctypes
 import io
+import mmap
 import os
 import re
+import socket
 import subprocess
 import textwrap
 import threading
@@ -181,6 +183,53 @@ def test_a_script_of_too_many_patches_is_refused():
     assert patched(b'', script)[1].endswith('applied 0 refused 65535\n')
     with pytest.raises(cdpatch.Failed, match='^script line 65537: more than 65535 patches$'):
         patched(b'', script + b'rebuild 0\n')
+
+
+def same_file_twice(path, opened):
+    """Opens a file twice: as one object, as two, by a hard link, or by a copy of the descriptor."""
+    first = open(path, 'r+b')
+    if opened == 'one object':
+        return first, first
+    if opened == 'a hard link':
+        os.link(path, f'{path}.link')
+        return first, open(f'{path}.link', 'r+b')
+    return first, open(os.dup(first.fileno()), 'r+b') if opened == 'a copied descriptor' else open(path, 'ab')
+
+
+@pytest.mark.parametrize('opened', ['one object', 'two objects', 'a hard link', 'a copied descriptor'])
+def test_an_image_is_not_patched_into_its_own_file(tmp_path, opened):
+    path = tmp_path / 'disc.bin'
+    path.write_bytes(IMAGE)
+    reader, writer = same_file_twice(path, opened)
+    with reader, writer, pytest.raises(ValueError, match='^reader and writer are the same file; '):
+        cdpatch.patch(reader, SCRIPT, writer)
+    assert path.read_bytes() == IMAGE
+
+
+def test_memory_with_one_position_is_not_patched_into_itself():
+    with mmap.mmap(-1, len(IMAGE)) as mapped:
+        mapped[:] = IMAGE
+        for both in io.BytesIO(IMAGE), mapped:
+            with pytest.raises(ValueError, match='^reader and writer are the same file; '):
+                cdpatch.patch(both, SCRIPT, both)
+            assert both.tell() == 0 and both.read() == IMAGE
+
+
+def test_a_socket_may_be_reader_and_writer():
+    ours, theirs = socket.socketpair()
+    with ours, theirs, ours.makefile('rwb') as both:
+        theirs.sendall(IMAGE)
+        theirs.shutdown(socket.SHUT_WR)
+        assert cdpatch.patch(both, SCRIPT, both) == PATCHED[1:]
+        both.flush()
+        assert theirs.recv(len(IMAGE), socket.MSG_WAITALL) == PATCHED.image
+
+
+@pytest.mark.parametrize('name', ['disc.bin', 'new.bin'])
+def test_a_log_in_the_file_of_an_image_is_refused(room, name):
+    with open('disc.bin', 'rb') as image, open('new.bin', 'xb') as new, open(name, 'a') as log, pytest.raises(ValueError, match='^log writes'):
+        cdpatch.patch(image, SCRIPT, new, log=log.write)
+    assert (room / 'disc.bin').read_bytes() == IMAGE and (room / 'new.bin').read_bytes() == b''
 
 
 class Endless:
