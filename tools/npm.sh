@@ -14,8 +14,8 @@ trap 'rm -rf "$scratch"' EXIT
 mkdir "$scratch/package"
 # joined OUT WORD..: bundles the interface and the core into one file.
 joined() {
-    esbuild web/npm/cdpatch.js --bundle --format=esm --platform=neutral --target=es2022 --charset=utf8 --legal-comments=none \
-        --log-level=warning --outfile="$scratch/package/$1" "$2"
+    esbuild web/npm/cdpatch.js --bundle --format=esm --platform=neutral --target=es2022 --charset=utf8 --keep-names \
+        --legal-comments=none --log-level=warning --outfile="$scratch/package/$1" "$2"
 }
 joined cdpatch.js --external:node:fs/promises
 joined browser.js --alias:node:fs/promises=./web/npm/no_files.js
@@ -24,7 +24,8 @@ tsc --allowJs --strict --declaration --emitDeclarationOnly --target es2022 --mod
 mkdir -p "$scratch"/package/types/{npm,core}
 cp "$scratch"/types/npm/{cdpatch,errors}.d.ts "$scratch/package/types/npm"
 cp -r "$scratch/types/core/module" "$scratch/package/types/core"
-cp web/npm/README.md web/npm/example.html "$library"/{cdpatch.wasm,NOTICES} "$scratch/package"
+cp web/npm/README.md web/npm/example.html docs/MODULES.md "$library"/{cdpatch.wasm,NOTICES} "$scratch/package"
+echo 'declare const bytes: Uint8Array; export default bytes;' > "$scratch/package/cdpatch.wasm.d.ts"
 [ ! -f LICENSE ] || cp LICENSE "$scratch/package"
 # npm starts a command by its first line on all systems.
 { echo '#!/usr/bin/env node'; sed "1,/^\*\/;$/d" "$cdscript"; } > "$scratch/package/cdscript.cjs"
@@ -39,7 +40,7 @@ cat > "$scratch/package/package.json" << END
     "engines": { "node": ">=18" },
     "exports": {
         ".": { "types": "./types/npm/cdpatch.d.ts", "browser": "./browser.js", "default": "./cdpatch.js" },
-        "./cdpatch.wasm": "./cdpatch.wasm",
+        "./cdpatch.wasm": { "types": "./cdpatch.wasm.d.ts", "default": "./cdpatch.wasm" },
         "./package.json": "./package.json"
     },
     "types": "./types/npm/cdpatch.d.ts",

@@ -72,8 +72,9 @@ const others = [handle, new DataView(sound.buffer), new Uint16Array(sound.buffer
 for (const other of others) {
     const isNamed = what => error => error instanceof TypeError
         && error.message.startsWith(`${what} a Blob, a Uint8Array, an ArrayBuffer, the result of openFile`);
-    for (const job of ['survey', 'list', 'audit', 'check', 'apply']) {
-        await assert.rejects(cdpatch[job](other, bytes, () => assert.fail()), isNamed('an image must be'));
+    for (const job of ['survey', 'list', 'audit']) await assert.rejects(cdpatch[job](other), isNamed('an image must be'));
+    for (const job of ['check', 'apply']) {
+        await assert.rejects(cdpatch[job](other, bytes, job === 'apply' ? () => assert.fail() : {}), isNamed('an image must be'));
     }
     await assert.rejects(cdpatch.check(sound, other), isNamed('a script must be a string,'));
     await assert.rejects(cdpatch.patches(other), isNamed('a script must be a string,'));
@@ -93,6 +94,7 @@ class Slow {
 assert.deepEqual(await cdpatch.check(new Slow(), script), await cdpatch.check(damaged, script));
 
 // The names of errors and results.
+assert.deepEqual([Fault, ScriptError].map(({ name }) => name), ['Fault', 'ScriptError']);
 const { outcomes } = await cdpatch.check(damaged, script);
 assert.deepEqual(outcomes.map(({ result }) => result), [RESULT.OK, RESULT.DIFFERS, RESULT.DAMAGED, RESULT.OK]);
 await assert.rejects(cdpatch.check(sound, 'cdpatch 1\n\nset 0 0 XY\n'), { name: 'ScriptError', line: 3 });
@@ -141,3 +143,12 @@ for (const [name, job] of Object.entries(jobs)) {
     await assert.rejects(job({ signal: ending.signal, progress }), /^Error: enough$/, name);
     await assert.rejects(job({ signal: AbortSignal.abort() }), { name: 'AbortError' }, name);
 }
+
+// The bytes of a piece that is kept do not change later.
+const each = `cdpatch 1\n${Array.from({ length: 4000 }, (_, block) => `set ${block} 5 0102\n`).join('')}`;
+const [kept, copied] = [[], []];
+await cdpatch.apply(many, each, piece => {
+    kept.push(piece);
+    copied.push(piece.slice());
+});
+assert.ok(Buffer.concat(kept).equals(Buffer.concat(copied)));

@@ -59,15 +59,32 @@ const { status, text } = await cdpatch.list(blank(2352000000));
 assert.deepEqual([status, text], [0, '0-999999 nosync\nsectors 1000000 tail 0\n']);
 
 // A base that no image has.
-for (const base of [449850, 500000, -1, 0.5, NaN, '5', null, 2 ** 32]) {
-    const isNamed = { name: 'RangeError', message: `a base must be a whole number from 0 to 449849, not ${base}` };
-    for (const job of ['list', 'audit']) await assert.rejects(cdpatch[job](sound, { base }), isNamed);
+for (const base of [449850, 500000, -1, 0.5, NaN, '5', null, 5n, 2 ** 32]) {
+    const found = typeof base === 'number' ? base : `the ${typeof base} ${base}`;
+    const isNamed = { name: 'RangeError', message: `a base must be a whole number from 0 to 449849, not ${found}` };
+    for (const job of ['survey', 'list', 'audit']) await assert.rejects(cdpatch[job](sound, { base }), isNamed);
     await assert.rejects(cdpatch.check(sound, script, { base }), isNamed);
     await assert.rejects(cdpatch.apply(sound, script, () => assert.fail(), { base }), isNamed);
 }
 for (const job of ['list', 'audit']) {
     assert.equal((await cdpatch[job](sound, { base: 449849 })).text, printed(job, '--base', '449849', 'disc.bin'));
 }
+
+// Settings of a wrong type or name; those that a call does not use are accepted.
+const wrongSettings = [[null, 'settings must be an object, not null'], [150, 'settings must be an object, not 150'],
+    [{ bsae: 150 }, 'there is no setting bsae; the settings are base, carry, progress, signal'],
+    [{ toString: 1 }, /^there is no setting toString;/], [{ signal: 5 }, 'the setting signal must be an AbortSignal, not Number'],
+    [{ carry: 'no' }, 'the setting carry must be true or false, not String'], [{ progress: {} }, 'the setting progress must be a function, not Object']];
+for (const [settings, message] of wrongSettings) {
+    for (const job of ['survey', 'list', 'audit']) await assert.rejects(cdpatch[job](sound, settings), { name: 'TypeError', message });
+    await assert.rejects(cdpatch.check(sound, script, settings), { name: 'TypeError', message });
+    await assert.rejects(cdpatch.apply(sound, script, () => assert.fail(), settings), { name: 'TypeError', message });
+}
+await cdpatch.audit(sound, { base: undefined, carry: true, signal: undefined, progress: undefined });
+
+// A module of something else.
+const emptyModule = Uint8Array.of(0, 0x61, 0x73, 0x6D, 1, 0, 0, 0);
+await assert.rejects(load(emptyModule), { name: 'TypeError', message: 'the module is not cdpatch.wasm of this package' });
 
 // Scripts with more patches or bytes than the program accepts.
 const rebuilds = count => `cdpatch 1\n${'rebuild 1\n'.repeat(count)}`;

@@ -195,7 +195,7 @@ bundled_packages() {
     done
     mkdir npm/elsewhere
     judge 'without it too' bundle elsewhere/beside.mjs beside.mjs --platform=node --format=esm
-    judge 'then it says what is missing' eval '! (cd npm && node elsewhere/beside.mjs) > log 2>&1 && grep -q "elsewhere/cdpatch.wasm" log'
+    judge 'then it says what is missing' eval '! (cd npm && node elsewhere/beside.mjs) > log 2>&1 && grep -q "Fault.*elsewhere/cdpatch.wasm" log'
     cp npm/node_modules/cdpatch/cdpatch.wasm npm/elsewhere
     judge 'and runs if its module is beside the bundle' eval '(cd npm && node elsewhere/beside.mjs | grep .) | cmp - npm/wanted.list'
     missing chromium chromium 'bundles with the package for npm in a browser'

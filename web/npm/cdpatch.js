@@ -42,6 +42,8 @@ export { Fault, ScriptError } from './errors.js';
 export class Cdpatch {
     /** @param {WebAssembly.Module} module `cdpatch.wasm` of this package */
     constructor(module) {
+        const isOurs = WebAssembly.Module.exports(module).some(({ name }) => name === 'cdpatch_run_next');
+        if (!isOurs) throw new TypeError('the module is not cdpatch.wasm of this package');
         /** @private */
         this.calls = new Calls(module);
     }
@@ -110,9 +112,10 @@ export class Cdpatch {
     }
 
     /**
-     * Creates the patched image, and passes it to `write` in order, each piece when `write` is done with the one before. Its bytes may
-     * change after that. `write` has to write all bytes of a piece. `writeFile` of a FileHandle does so, but its `write` does not. Throws
-     * what check throws, and then nothing was written.
+     * Creates the patched image, and passes it to `write` in order, each piece when `write` is done with the one before. A piece may be
+     * kept, but it may share memory with the image, with what its `read` returned, and with other pieces: copy it before you change or
+     * transfer it. `write` has to write all bytes of a piece. `writeFile` of a FileHandle does so, but its `write` does not. Throws what
+     * check throws, and then nothing was written.
      * @param {Input} image
      * @param {ScriptInput} script
      * @param {(bytes: Uint8Array) => void | Promise<void>} write
@@ -145,7 +148,7 @@ export function patchedStream(cdpatch, image, script, settings) {
 }
 
 /**
- * Loads the library: `cdpatch.wasm` beside this file, or a given module or its bytes. Throws a Fault if a server lacks that file, or if the
+ * Loads the library: `cdpatch.wasm` beside this file, or a given module or its bytes. Throws a Fault if that file is missing, or if the
  * engine has no WebAssembly SIMD.
  * @param {WebAssembly.Module | BufferSource} [module]
  * @returns {Promise<Cdpatch>}
@@ -184,10 +187,14 @@ export async function openFile(path) {
  * @returns {Promise<BufferSource>}
  */
 async function ownModule(place) {
-    if (place.protocol === 'file:') return (await import('node:fs/promises')).readFile(place);
+    const missing = new Fault(`cdpatch.wasm is not at ${place}; put it there, or pass its bytes to load`);
+    if (place.protocol === 'file:') {
+        const { readFile } = await import('node:fs/promises');
+        return readFile(place).catch(error => { throw error.code === 'ENOENT' ? missing : error; });
+    }
     const response = await fetch(place);
     // Some servers answer with a page instead of a file that they lack.
     const isPage = /^text\//.test(response.headers.get('content-type') || '');
     if (response.ok && !isPage) return response.arrayBuffer();
-    throw new Fault(`cdpatch.wasm is not at ${place}; put it there, or pass its bytes to load`);
+    throw missing;
 }

@@ -9,7 +9,10 @@ const LINE = /^(?:script )?line (\d+)/;
 /** The codes by which callers recognise failures of the core. */
 const CODES = new Map([['image-ended', 'image ended'], ['no-memory', 'no memory']]);
 
-/** An expected failure. Its `code` is 'image ended' for an image that ends before its size. */
+/**
+ * An expected failure. Its `code` is 'image ended' for an image that ends before its size, 'no memory' if there is too little memory, and
+ * 'input' otherwise.
+ */
 export class Fault extends Error {
     /**
      * @param {string} message

@@ -1,10 +1,12 @@
-// Converts the inputs of the package, which are images and scripts of several types, to sources, and ends their reads by a signal.
+// Checks the arguments of the package: converts images and scripts of several types to sources, and ends their reads by a signal.
 
 import { READ_SIZE, readBytes } from '../core/bytes.js';
+import { LAST_BASE } from '../core/module/index.js';
 import { watchedReader } from '../core/readers/views.js';
 
 /** @typedef {import('./cdpatch.js').Input} Input */
 /** @typedef {import('./cdpatch.js').ScriptInput} ScriptInput */
+/** @typedef {import('./cdpatch.js').Settings} Settings */
 /** @typedef {import('./cdpatch.js').Source} Source */
 /** @typedef {import('./cdpatch.js').Watch} Watch */
 
@@ -55,6 +57,42 @@ export function sourceOf(input, kinds = `an image must be ${KINDS}`) {
  */
 export function scriptSource(script) {
     return sourceOf(typeof script === 'string' ? new TextEncoder().encode(script) : script, `a script must be a string, ${KINDS}`);
+}
+
+/**
+ * Throws a RangeError if a block cannot be the first one of an image.
+ * @param {unknown} base
+ */
+function assertBase(base) {
+    if (Number.isInteger(base) && Number(base) >= 0 && Number(base) <= LAST_BASE) return;
+    const found = typeof base === 'number' ? base : `the ${typeof base} ${String(base)}`;
+    throw new RangeError(`a base must be a whole number from 0 to ${LAST_BASE}, not ${found}`);
+}
+
+/** For each setting but the base, whether a value has its type, and that type. */
+/** @type {Record<string, [(value: any) => boolean, string]>} */
+const SETTINGS = {
+    carry: [value => typeof value === 'boolean', 'true or false'],
+    progress: [value => typeof value === 'function', 'a function'],
+    signal: [value => typeof Object(value).aborted === 'boolean', 'an AbortSignal'],
+};
+
+/**
+ * The settings of a job, with their defaults. Throws a TypeError for a different type and for an unknown name, since with a mistyped `base`
+ * the report would silently have wrong blocks.
+ * @param {Settings} settings
+ */
+export function settingsOf(settings) {
+    if (typeof settings !== 'object' || settings === null) throw new TypeError(`settings must be an object, not ${settings}`);
+    for (const [name, value] of Object.entries(settings)) {
+        if (name === 'base' || value === undefined) continue;
+        const [isRight, type] = Object.hasOwn(SETTINGS, name) ? SETTINGS[name] : [];
+        if (!isRight) throw new TypeError(`there is no setting ${name}; the settings are base, ${Object.keys(SETTINGS).join(', ')}`);
+        if (!isRight(value)) throw new TypeError(`the setting ${name} must be ${type}, not ${value?.constructor?.name ?? value}`);
+    }
+    const { base = 0, carry = false, progress = () => {}, signal } = settings;
+    assertBase(base);
+    return { base, carry, progress, signal };
 }
 
 /** @param {Source} source */

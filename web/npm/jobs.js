@@ -1,13 +1,13 @@
 // The jobs of the package, which use the core.
 
-import { READ_SIZE, bytesOfPieces, readBytes } from '../core/bytes.js';
-import { LAST_BASE, RECORD_SIZE, SECTOR_SIZE, STATUS, sectorCount } from '../core/module/index.js';
+import { PieceKeeper, READ_SIZE, bytesOfPieces, readBytes } from '../core/bytes.js';
+import { RECORD_SIZE, SECTOR_SIZE, STATUS, sectorCount } from '../core/module/index.js';
 import { readLines } from '../core/script/views.js';
 import { imageTooLong } from '../core/sectors/views.js';
 import { applyScript, validScript } from '../core/tasks/index.js';
 import { LONG_IMAGE } from '../sentences/index.js';
 import { ScriptError } from './errors.js';
-import { assertWanted, piecesOf, scriptSource, sourceOf, watchedSource } from './inputs.js';
+import { assertWanted, piecesOf, scriptSource, settingsOf, sourceOf, watchedSource } from './inputs.js';
 
 /** @typedef {import('../core/bytes.js').Piece} Piece */
 /** @typedef {import('../core/module/calls.js').Calls} Calls */
@@ -16,7 +16,6 @@ import { assertWanted, piecesOf, scriptSource, sourceOf, watchedSource } from '.
 /** @typedef {import('./cdpatch.js').Report} Report */
 /** @typedef {import('./cdpatch.js').ScriptInput} ScriptInput */
 /** @typedef {import('./cdpatch.js').Settings} Settings */
-/** @typedef {import('./cdpatch.js').Watch} Watch */
 
 /** @param {Uint8Array} bytes */
 export function textOf(bytes) {
@@ -35,42 +34,33 @@ function reportOf({ status, text }) {
  * Surveys an image: the records of its sectors, and how many bytes follow the last sector.
  * @param {Calls} calls
  * @param {Input} image
- * @param {{ base?: number } & Watch} settings
+ * @param {Settings} settings
  */
-export async function surveyed(calls, image, { base = 0, signal, progress }) {
+export async function surveyed(calls, image, settings) {
+    const { base, signal, progress } = settingsOf(settings);
     const source = watchedSource(sourceOf(image), signal);
     const count = sectorCount(source.size);
     const records = new Uint8Array(RECORD_SIZE * count);
     const step = Math.floor(READ_SIZE / SECTOR_SIZE);
     for (let i = 0; i < count; i += step) {
-        if (progress) progress(i * SECTOR_SIZE, source.size);
+        progress(i * SECTOR_SIZE, source.size);
         const bytes = await readBytes(source, i * SECTOR_SIZE, Math.min(step, count - i) * SECTOR_SIZE);
         records.set(calls.survey(bytes, base + i), RECORD_SIZE * i);
     }
-    if (progress) progress(source.size, source.size);
+    progress(source.size, source.size);
     return { survey: { block: base, records }, tail: source.size - count * SECTOR_SIZE };
-}
-
-/**
- * Throws a RangeError if a block cannot be the first one of an image.
- * @param {number} base
- */
-function assertBase(base) {
-    if (Number.isInteger(base) && base >= 0 && base <= LAST_BASE) return;
-    throw new RangeError(`a base must be a whole number from 0 to ${LAST_BASE}, not ${base}`);
 }
 
 /**
  * The report of a command on an image's sectors. If the image is too long, it is only the line that says so, and nothing is read.
  * @param {Calls} calls
  * @param {Input} image
- * @param {{ base?: number } & Watch} settings
+ * @param {Settings} settings
  * @param {typeof import('../core/sectors/survey.js').listText} made
  * @returns {Promise<Report>}
  */
 export async function reported(calls, image, settings, made) {
-    const { base = 0 } = settings;
-    assertBase(base);
+    settingsOf(settings);
     if (imageTooLong(sourceOf(image).size)) return { status: STATUS.FAILED, text: `cdpatch: ${LONG_IMAGE}\n` };
     const { survey, tail } = await surveyed(calls, image, settings);
     return reportOf(made(calls, survey, tail));
@@ -93,17 +83,18 @@ export async function patchLines(calls, script) {
  * @param {Calls} calls
  * @param {Input} image
  * @param {ScriptInput} script
- * @param {Settings & Watch} settings
+ * @param {Settings} settings
  * @param {((bytes: Uint8Array) => void | Promise<void>) | null} write
  * @returns {Promise<Patched>}
  */
-export async function patched(calls, image, script, { base = 0, carry = false, signal, progress = () => {} }, write) {
-    assertBase(base);
+export async function patched(calls, image, script, settings, write) {
+    const { base, carry, signal, progress } = settingsOf(settings);
     const source = watchedSource(sourceOf(image), signal, at => write || progress(at, source.size));
     const read = await validScript(calls, piecesOf(scriptSource(script)));
     let done = 0;
+    const keeper = new PieceKeeper();
     const take = write && (async (/** @type {Piece} */ piece) => {
-        for await (const bytes of bytesOfPieces(source, [piece])) {
+        for await (const bytes of bytesOfPieces(source, [keeper.kept(piece)])) {
             assertWanted(signal);
             await write(bytes);
             done += bytes.length;
