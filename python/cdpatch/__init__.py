@@ -21,7 +21,7 @@ The calls; help(cdpatch.patch) describes one in full:
 
     patch(reader, script, writer)    patches an image that is read from a file or a pipe, in little memory
     apply(image, script)             patches an image in memory or in a mapped file
-    check(image, script)             reports what apply would do; with an empty image, only whether the script is valid
+    check(image, script)             reports what apply would do; with an empty image, it only raises Failed if the script is invalid
     audit(image)                     the damaged sectors of an image, as `cdpatch audit` prints them
     listing(image)                   the runs of sectors of one kind, as `cdpatch list` prints them
 
@@ -53,7 +53,8 @@ reclaims them.
 
 This package is tested, not proved; the calls of libcdpatch that it makes are proved.
 
-It is safe to call from several threads, also with the same bytes, unless one of them writes these bytes.
+It is safe to call from several threads, also with the same bytes, unless one of them writes these bytes. The library's calls release the
+GIL. A bytearray that a call reads or writes cannot be resized meanwhile: Python raises BufferError.
 
 The library is the file that CDPATCH_LIBRARY names. Without that variable it is the one in the directory of this package, else the one that
 the loader finds, else the one in `lib` of the prefix below which this package is installed. Of these last two, a library that lacks a call

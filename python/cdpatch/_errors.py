@@ -3,7 +3,8 @@
 from __future__ import annotations
 
 import ctypes
-from typing import Type
+import re
+from typing import Optional, Type
 
 from ._library import library
 from ._numbers import LINE_SIZE, Result
@@ -12,6 +13,12 @@ from ._numbers import LINE_SIZE, Result
 class Failed(ValueError):
     """Raised where the command would end with status 2. The message is what the command prints, without the last line feed, or that no
     image has this base."""
+
+    @property
+    def line(self) -> Optional[int]:
+        """The number of the script's line with the error, or None if it is not an error of a line."""
+        found = re.match(r'script line (\d+): ', str(self))
+        return int(found[1]) if found else None
 
 
 class Refused(ValueError):

@@ -73,7 +73,8 @@ def audit(image: ReadableBuffer, base: int = 0) -> Report:
 
 def check(image: ReadableBuffer, script: ReadableBuffer, base: int = 0, carry: bool = False) -> Report:
     """Returns what `cdpatch check` prints, that is, what `apply` would do with each patch of a script, and whether a patch would be
-    refused. Only the sectors that patches refer to are read. With an empty image (`b''`) only the script is checked.
+    refused. Only the sectors that patches refer to are read. With an empty image (`b''`) only the script is checked: a script is valid if the
+    call raises nothing, and the report, which refuses each patch, has no meaning.
 
     Raises Failed as `apply` does."""
     with Held(image) as held:
@@ -95,6 +96,8 @@ def apply(image: ReadableBuffer, script: ReadableBuffer, base: int = 0, carry: b
     """Applies a script to an image of any size whose first sector is block `base`. Returns a Patched: the new image, what `cdpatch apply`
     prints, and whether a patch was refused. The new image has all patches that were not refused. With `carry`, patches of damaged sectors
     are applied too, and the damage stays. A `rebuild` removes damage with or without `carry`.
+
+    A line `# base N` in the script is a comment, and has no effect: pass N as `base`.
 
     With `out`, for example a mapped new file, the new image is written to its first bytes, its other bytes do not change, and the result is
     a Report, which has no image. The call also needs memory for the log (at most 5243080 bytes, twice), 20 bytes for each patch, and a copy

@@ -33,6 +33,8 @@ def _number(given: int, most: int = LARGEST_NUMBER) -> int:
 def listing_line(first: int, last: int, kind: str) -> str:
     """Returns the line that `listing` prints, with its line feed, for the blocks `first` to `last`, all of one kind. Raises ValueError if
     the kind is not in KINDS, if `last` is less than `first`, or if a block is not 0 to 4294967295."""
+    if kind not in KINDS:
+        raise ValueError(f'kind must be one of {", ".join(KINDS)}, not {kind!r}')
     line = _line(library.cdpatch_list_line, _number(first), _number(last), KINDS.index(kind))
     if not line:
         raise ValueError(f'there are no blocks from {first} to {last}')
@@ -48,6 +50,8 @@ def listing_end(sectors: int, tail: int) -> str:
 def audit_line(block: int, record: Record) -> str:
     """Returns the line that `audit` prints for a block, with its line feed, from the record that `survey` gave. The text is empty if the
     sector is not a Mode 1 sector, or if nothing is wrong with it. Raises ValueError if the block is not 0 to 4294967295."""
+    if not isinstance(record, Record):
+        raise TypeError(f'record must be a Record of survey, not {type(record).__name__}')
     return _line(library.cdpatch_audit_line, _number(block), ctypes.pointer(record))
 
 

@@ -52,6 +52,8 @@ class _Streams:
     def _pass_on(self, data: bytes) -> None:
         while data:
             taken = self.writer.write(data)
+            if not (taken is None or hasattr(taken, '__index__')):
+                raise TypeError(f'the writer must return a number of bytes, not {type(taken).__name__}')
             if not taken or not 0 < taken <= len(data):
                 raise OSError(f'the writer took {taken} of {len(data)} bytes')
             data = data[taken:]
@@ -119,6 +121,8 @@ def patch(reader: Reader, script: ReadableBuffer, writer: Writer, base: int = 0,
     `writer` must not be the file of `reader`, because the image would be overwritten before it is read. Raises ValueError, before anything
     is read or written, if both are the same object with a position, or if two of `reader`, `writer`, and the file of which `log` is a
     method are the same regular file.
+
+    A line `# base N` in the script is a comment, and has no effect: pass N as `base`.
 
     Raises Failed, before anything is read or written, if the base is not 0 to 449849, or if the script is invalid or too long. To avoid an
     empty file if the script is invalid, call `check(b'', script)` before you open `writer`.

@@ -133,7 +133,7 @@ def survey(sectors: ReadableBuffer, block: int = 0) -> ctypes.Array[Record]:
         count = held.size // SECTOR_SIZE
         records = records_type(count)()
         if not 0 <= block <= LARGEST_NUMBER or not library.cdpatch_survey(held.place, count, block, records, count):
-            raise ValueError(f'{count} sectors from block {block} on, and not blocks 0 to {LARGEST_NUMBER - 1}')
+            raise ValueError(f'the blocks of {count} sectors from block {block} on are not all 0 to {LARGEST_NUMBER - 1}')
     return records
 
 
@@ -181,7 +181,7 @@ def merge_sector(address: ReadableBuffer, sector: ReadableBuffer, copies: Iterab
 def correct_sector(sector: ReadableBuffer) -> Optional[bytes]:
     """Returns a damaged Mode 1 sector of 2352 bytes as its own P and Q parity corrects it, or None if that is not possible: Intermediate
     field, EDC, and all parity are then right. The header and the EDC field are never changed, so the EDC confirms the result. Returns None
-    for a sector without damage, too. Raises ValueError for a different size.
+    for a sector without damage, too, which is_consistent recognises. Raises ValueError for a different size.
 
     Damage may be deliberate, so ask before you correct it."""
     made = _copied(sector)

@@ -36,6 +36,13 @@ def test_a_run_that_no_image_has_is_refused(first, last, kind):
         cdpatch.listing_line(first, last, kind)
 
 
+def test_an_argument_of_another_type_is_named():
+    with pytest.raises(TypeError, match='^record must be a Record of survey, not tuple$'):
+        cdpatch.audit_line(1, (1, 2))
+    with pytest.raises(ValueError, match="^kind must be one of nosync, mode0, mode1, mode2, other, not 'x'$"):
+        cdpatch.listing_line(1, 2, 'x')
+
+
 @pytest.mark.parametrize('number', [-1, 2 ** 32, 2 ** 64 + 1])
 def test_a_number_that_would_wrap_is_refused(number):
     for call, *given_numbers in [(cdpatch.listing_end, number, 0), (cdpatch.audit_line, number, RECORD), (cdpatch.audit_end, number, 0, 0, 0),

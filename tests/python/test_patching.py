@@ -166,14 +166,15 @@ def test_an_invalid_script_is_refused_before_a_byte_is_read(script, text):
     nothing = Answering(b'', 0, raising(AssertionError('read or written')))
     with pytest.raises(cdpatch.Failed) as failed:
         cdpatch.patch(nothing, script, nothing)
-    assert str(failed.value) == text
+    assert str(failed.value) == text and failed.value.line == int(text.split(':')[0].removeprefix('script line '))
 
 
 def test_a_script_that_is_too_long_is_refused():
     script = b'#' * (MOST_SCRIPT_BYTES + 1)
     for call in (cdpatch.check, cdpatch.apply, patched):
-        with pytest.raises(cdpatch.Failed, match=f'^cdpatch: the script is longer than {MOST_SCRIPT_BYTES} bytes$'):
+        with pytest.raises(cdpatch.Failed, match=f'^cdpatch: the script is longer than {MOST_SCRIPT_BYTES} bytes$') as failed:
             call(b'', script)
+        assert failed.value.line is None
     with pytest.raises(cdpatch.Failed, match=f'line 2: {MESSAGES["no_head"]}'):
         patched(b'', script[1:])
 
@@ -288,7 +289,7 @@ def test_a_reader_that_fails_leaves_a_prefix(first, answer, error, text):
 
 @pytest.mark.parametrize('first', [0, 3, 8])
 @pytest.mark.parametrize('answer, error', [
-    (lambda data: 0, OSError), (lambda data: None, OSError), (lambda data: -1, OSError), (lambda data: len(data) + 1, OSError),
+    (lambda data: 0, OSError), (lambda data: None, OSError), (lambda data: 'all', TypeError), (lambda data: -1, OSError), (lambda data: len(data) + 1, OSError),
     (raising(KeyError('mine')), KeyError)])
 def test_a_writer_that_fails_leaves_a_prefix(first, answer, error):
     writer = Answering(b'', first, answer)

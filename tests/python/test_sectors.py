@@ -207,7 +207,7 @@ def test_a_survey_agrees_with_the_model(number):
 
 def test_the_blocks_of_a_survey():
     for block in (-1, 2 ** 32 - 2, 2 ** 32 - 1, 2 ** 32, 2 ** 64, 2 ** 64 + 7, -2 ** 32):
-        with pytest.raises(ValueError, match=f'^2 sectors from block {block} on, and not blocks 0 to 4294967294$'):
+        with pytest.raises(ValueError, match=f'^the blocks of 2 sectors from block {block} on are not all 0 to 4294967294$'):
             cdpatch.survey(SECTOR + SECTOR, block)
     assert [(record.kind, record.address) for record in cdpatch.survey(SECTOR + SECTOR, 2 ** 32 - 3)] == [(2, False), (2, False)]
     assert len(cdpatch.survey(b'', 2 ** 32 - 1)) == 0
