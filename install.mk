@@ -31,4 +31,5 @@ PLACES = prefix bindir man1dir man3dir libdir includedir pkgconfigdir cmakedir f
     pythondir
 
 install uninstall:
+	$(if $(patsubst /%,,$(firstword $(prefix))),$(error PREFIX must begin with /, since cdpatch.pc has it: $(prefix)))
 	@$(foreach each,$(PLACES) DESTDIR VERSION LEAVE_OUT INSTALL PACKAGE,$(each)='$(subst ','\'',$($(each)))') sh tools/files.sh $@
