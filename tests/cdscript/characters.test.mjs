@@ -86,6 +86,18 @@ test('show keeps characters whole over rows, and goes on in the next block', () 
     assert.equal(rows((await run(['show', 'image', '7', '2047'], { cwd: room })).out).length, 1);
 }));
 
+test('show prints no EDC of a sector that is not Mode 1, and says that it was not tested', () => inDirectory(async room => {
+    const image = imageOf(room, 4);
+    image[2 * 2352 + 15] = 2;
+    write(room, { image });
+    const shown = await run(['show', 'image', '2', '0'], { cwd: room });
+    assert.deepEqual([shown.status, shown.out.split('\n')[0]], [0, 'block 2 address 00:02:02 mode2']);
+    assert.match(shown.errors, /^cdscript: block 2 was not tested: show tests the codes of Mode 1 only$/m);
+    const sound = await run(['show', 'image', '1', '0'], { cwd: room });
+    assert.match(sound.out, /^block 1 address 00:02:01 mode1 edc \w{8}\n/);
+    assert.doesNotMatch(sound.errors, /not tested/);
+}));
+
 test('encodings of other languages are searched if they are named', () => inDirectory(async room => {
     const others = ENCODINGS_KNOWN.filter(({ found }) => found);
     const placeOf = i => [2 + i % 4, 100 + 200 * Math.floor(i / 4)];

@@ -177,7 +177,7 @@ export const FORMS = {
         job: undoJob, takes: ['IMAGE', 'SCRIPT'], options: ['base', 'track', 'carry', 'long', 'output'],
         says: 'Write a script that undoes another script',
         does: 'IMAGE is the image as it was before SCRIPT was applied.',
-        ends: { 0: 'done', 1: 'some changes cannot be undone (they are listed)', 2: 'failed' },
+        ends: { 0: 'done', 1: 'some changes cannot be undone (they are listed), or the script has refused lines', 2: 'failed' },
         example: 'cdscript undo game.cue english.txt -o back.txt',
         own: { carry: 'SCRIPT is applied with --carry' },
     },

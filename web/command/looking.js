@@ -3,7 +3,7 @@
 import { bytesOfLines } from '../core/bytes.js';
 import { hexText } from '../core/hex_digits.js';
 import { filesLines } from '../core/iso/views.js';
-import { USER_SIZE, kindName } from '../core/module/index.js';
+import { SECTOR_KIND, USER_SIZE, kindName } from '../core/module/index.js';
 import { FIELDS, addressIn, addressText, findingOf } from '../core/sectors/views.js';
 import { entriesNamed, pathFromRoot, sectorsOfRange } from '../core/tasks/index.js';
 import { FilesAlong, LONGEST_CHARACTER, LOOKED_BACK, bytesAround, bytesInside, charactersFrom } from '../core/texts/views.js';
@@ -162,7 +162,8 @@ async function rowLines(image, encoding, place, size) {
 }
 
 /**
- * The lines about a sector: its address, kind, and EDC, what is wrong with it, and the files that contain the byte at `place`.
+ * The lines about a sector: its address and kind, the files that contain the byte at `place`, and of a Mode 1 sector the EDC, and what is
+ * wrong with it.
  * @param {Job} job
  * @param {OpenedTrack} opened
  * @param {Uint8Array} sector
@@ -172,10 +173,12 @@ async function sectorLines(job, opened, sector, place) {
     const found = findingOf(job.calls, place.block, job.calls.survey(sector, place.block));
     const contents = await opened.contents();
     sayNoVolume(job, contents);
-    const kind = kindName(job.calls.kind(sector));
-    const edc = hexText(sector.subarray(FIELDS.edc, FIELDS.zeros));
+    const kind = job.calls.kind(sector);
+    const isMode1 = kind === SECTOR_KIND.MODE1;
+    if (!isMode1) job.say(`block ${place.block} was not tested: show tests the codes of Mode 1 only`);
+    const edc = isMode1 ? ` edc ${hexText(sector.subarray(FIELDS.edc, FIELDS.zeros))}` : '';
     return [
-        `block ${place.block} address ${addressText(addressIn(sector, 0))} ${kind} edc ${edc}`,
+        `block ${place.block} address ${addressText(addressIn(sector, 0))} ${kindName(kind)}${edc}`,
         ...found === '' ? [] : [`wrong: ${found}`],
         `file ${filesText(printedFiles(contents.files), place)}`,
     ];
