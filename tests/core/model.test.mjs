@@ -7,7 +7,7 @@ import { calls, core, decoded, diceOf, newCalls } from './common.mjs';
 const { ScriptModel, lastBlockOf, writersIn } = await core('script/model.js');
 const { firstLinesOf } = await core('script/block_lines.js');
 const { faultyWord, lacksDigit, wordsOf } = await core('script/line_words.js');
-const { replacedLinesInTurns, mergedInTurns } = await core('script/merge_lines.js');
+const { linesUnder, mergedInTurns } = await core('script/merge_lines.js');
 const { isMeantAsScript, isScript } = await core('script/script_start.js');
 const { CONTENT, VERB } = await core('module/records.js');
 
@@ -202,20 +202,18 @@ test('merged lines replace those that write the same bytes, and a signal ends it
             old.forEach(k => { put[k] ??= ''; });
             if (first === undefined) end.push(line);
             else put[first] = line;
-            old.forEach(k => all.add(k + 2));
+            replacedBy(texts, line, () => true).forEach(k => all.add(k + 2));
         }
         const lines = ['cdpatch 1', ...texts.flatMap((text, k) => put[k] === '' ? [] : [put[k] ?? text]), ...end, ''];
         assert.deepEqual((await mergedInTurns(script, incoming, isMade)).lines, lines);
-        const found = await replacedLinesInTurns(script, incoming, isMade);
+        const found = linesUnder(script, incoming);
         assert.deepEqual(found.map(({ number }) => number), [...all].sort((a, b) => a - b));
     }
     const script = new ScriptModel(calls, 'cdpatch 1\nset 1 0 4141 was 0000\n');
-    for (const merge of [mergedInTurns, replacedLinesInTurns]) {
-        const signal = { aborted: false };
-        const endLater = () => {
-            for (const began = Date.now(); Date.now() < began + 60;);
-            signal.aborted = true;
-        };
-        await assert.rejects(merge(script, ['set 1 1 4242 was 4100', 'set 2 0 42 was 00'], endLater, signal), { code: 'cancelled' });
-    }
+    const signal = { aborted: false };
+    const endLater = () => {
+        for (const began = Date.now(); Date.now() < began + 60;);
+        signal.aborted = true;
+    };
+    await assert.rejects(mergedInTurns(script, ['set 1 1 4242 was 4100', 'set 2 0 42 was 00'], endLater, signal), { code: 'cancelled' });
 });

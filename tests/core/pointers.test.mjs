@@ -9,7 +9,7 @@ import { linesOf, number } from './made_games.mjs';
 import { localPool } from './pools.mjs';
 import { discOf, pointedGames } from './pointed_games.mjs';
 
-const { ListedSpans, PointedTexts, applyInMemory, exportTable, findPointers, importMoving, patchedTexts, textRanges } = await core('tasks/index.js');
+const { ListedSpans, PointedTexts, applyInMemory, exportTable, findPointers, importMoving, patchedTexts, textLines } = await core('tasks/index.js');
 const { TextStarts, findPointerTables, pointerList, tablesOfList, placesOf } = await core('pointers/index.js');
 const { checkMoved } = await core('tasks/check_moved.js');
 const { openPointedFiles } = await core('tasks/pointed_file.js');
@@ -395,19 +395,17 @@ test('a list of the texts has those that moved: each is read where its pointer l
         const model = new ScriptModel(calls, decoded(joinedBytes(script.pieces)));
         const tables = await tablesOfList(readerOf(encoded(pointers)));
         const pointed = new PointedTexts(await openPointedFiles(opened, tables));
-        const freshOf = await patchedTexts(opened, patched, { isWritten: range => model.lineAt(range) > 0, pointed });
+        const listed = rows.map(row => ({ ...row, block: Number(row.block), offset: Number(row.offset), bytes: Number(row.bytes), room: Number(row.room) }));
+        const lines = await textLines(opened, model, { pointed: [pointed], listed, own: SEARCHED[0], isRemade: true });
+        const freshOf = await patchedTexts(opened, patched, { lines, pointed });
         const isLeft = new Set(left.map(({ text }) => text.number));
-        for (const row of rows) {
+        for (const [i, row] of rows.entries()) {
             const due = row.new === '' || isLeft.has(row.number) ? '' : row.new;
-            const listed = { ...row, block: Number(row.block), offset: Number(row.offset), room: Number(row.room) };
-            assert.equal((await freshOf(listed)).trimEnd(), due.trimEnd(), `${name}, row ${row.number}`);
+            assert.equal((await freshOf(listed[i])).trimEnd(), due.trimEnd(), `${name}, row ${row.number}`);
         }
         // All lines of the script belong to texts, and no other bytes do.
-        const listed = rows.map(row => ({ ...row, block: Number(row.block), offset: Number(row.offset), room: Number(row.room) }));
-        const isOfTexts = await textRanges(opened, [pointed.files], listed);
-        for (const { patch, text } of model.lines) if (patch !== null) assert.ok(isOfTexts(patch), `${name}: ${text}`);
-        const last = game.files[game.file].length - 1;
-        assert.equal(isOfTexts({ block: 20 + Math.floor(last / 2048), offset: last % 2048, size: 1 }), game.table !== game.file, name);
-        assert.equal(isOfTexts({ block: 16, offset: 0, size: 2048 }), false, name);
+        for (const line of model.lines) if (line.patch !== null) assert.ok(lines.isReplaced(line), `${name}: ${line.text}`);
+        assert.equal(lines.isMoved(20 * 2048 + game.files[game.file].length - 1), game.table !== game.file, name);
+        assert.equal(lines.isMoved(16 * 2048), false, name);
     }
 });

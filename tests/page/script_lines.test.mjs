@@ -5,7 +5,7 @@ import { test } from 'node:test';
 import { MESSAGES } from '../lib/messages.mjs';
 import { calls, core, page } from './page.mjs';
 
-const { replacedLinesInTurns } = await core('script/merge_lines.js');
+const { linesUnder } = await core('script/merge_lines.js');
 const { modelInParts } = await core('script/model.js');
 const { mergeOf } = await page('app/merging.js');
 const { ReplacedFiles } = await page('app/replaced_files.js');
@@ -253,12 +253,14 @@ test('what an import or a replacement made gives way where it is met in part, an
     assert.ok(lines.isSaved());
 });
 
-test('lines that give way to others are found in their order, and taken out by one edit', async () => {
+test('lines that write the bytes of others are found in their order, and taken out by one edit', async () => {
     const lines = linesOf('cdpatch 1\n# mine\nfill 5 0 3 00\n');
     lines.add(['set 6 1 4141 was 2020'], '');
     lines.add(['set 5 0 41 was 20', 'set 6 3 42 was 20', 'set 7 0 43 was 20'], 'bytes');
-    const found = await replacedLinesInTurns(lines, ['set 6 2 2020 was 2020', 'set 5 0 202020 was 202020'], ({ text }) => lines.made.has(text));
+    const incoming = ['set 6 2 2020 was 2020', 'set 5 0 202020 was 202020'];
+    const found = linesUnder(lines, incoming).filter(({ patch }) => patch.verb === 0);
     assert.deepEqual(found.map(({ number }) => number), [4, 5, 6]);
+    assert.deepEqual(linesUnder(lines, incoming, true).map(({ number }) => number), [4, 6]);
     const before = lines.text();
     assert.equal(lines.remove(new Set(found.map(({ text }) => text))), 3);
     assert.equal(lines.text(), 'cdpatch 1\n# mine\nfill 5 0 3 00\nset 7 0 43 was 20\n');
