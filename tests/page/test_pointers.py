@@ -348,7 +348,7 @@ class NamesBesideTexts(PointersPage):
             self.setUp()
 
     def test_a_list_that_is_exported_and_imported_unchanged_changes_nothing(self) -> None:
-        for header, says in ((pointed.HEADER, ''), (b'', '3 lines are unchanged. All 3 translations fit.')):
+        for header, says in ((pointed.HEADER, ''), (b'', '3 lines are unchanged.')):
             for item, form in (('Export a table', 'csv'), ('Export PO', 'po')):
                 image, script = self.begin_with_names(header)
                 self.press_in('export', item)

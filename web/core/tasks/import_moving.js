@@ -10,7 +10,6 @@ import { MovedTexts } from './moved_texts.js';
 import { FreshFiles, pushFreshFiles } from './moving_script.js';
 import { claimByScript, rangeOfRow } from './patched_texts.js';
 import { openPointedFiles } from './pointed_file.js';
-import { PointedTexts } from './pointed_texts.js';
 import { assertHasRoom } from './replace.js';
 import { replaceBytes } from './replace_bytes.js';
 import { sharingWith } from './replace_file.js';
@@ -109,19 +108,17 @@ class MovingRows {
     }
 
     /**
-     * The function that decides on rows by the lines of an earlier script. Texts to which pointers lead are always generated again.
+     * The function that decides on rows by the lines of an earlier script, except for rows that are partly pointers.
      * @returns {import('./rows_in_image.js').ClaimRow}
      */
     claimByScript() {
         const { earlier } = this.options;
         if (earlier === undefined) return () => 0;
-        const texts = new PointedTexts(this.files);
-        const [inPlace, pointed] = [earlier, { ...earlier, textOf: null }].map(claimByScript);
+        const claim = claimByScript(earlier);
         return async (row, found, bytes) => {
             const spot = this.files.spotOf(row);
             if (spot?.file.hasPointer(spot.at, spot.at + rangeOfRow(row, found).size)) return 0;
-            const isPointed = spot !== null && texts.of({ ...row, bytes: found.known }, found.encoding) !== null;
-            const claimed = await (isPointed ? pointed : inPlace)(row, found, bytes);
+            const claimed = await claim(row, found, bytes);
             if (claimed > 0 && spot !== null) this.kept.push(row);
             return claimed;
         };

@@ -96,7 +96,8 @@ export function rangeOfRow({ block, offset, room, unit }, { known, filled, at })
 
 /**
  * Returns a function that decides on the rows of a list by the lines of an earlier script. A row whose text the script has already keeps
- * its lines. A row does not fit if a line that is not its own writes at its place: then the function throws a Fault.
+ * its lines, unless they are generated again because a pointer leads to it. A row does not fit if a line that is not its own writes at its
+ * place: then the function throws a Fault.
  * @param {EarlierTexts} earlier
  * @returns {import('./rows_in_image.js').ClaimRow}
  */
@@ -108,7 +109,8 @@ export function claimByScript({ lines, textOf }) {
         const { own, others } = lines.at(range);
         const fill = row.fill === '' ? undefined : row.fill;
         const listed = { ...row, bytes: known, room: range.size, encoding: encoding.name, fill };
-        const now = own.length + others.length === 0 || textOf === null || (isRemade && others.length > 0) ? '' : await textOf(listed);
+        const isNew = own.length + others.length === 0 || (isRemade && (others.length > 0 || lines.isPointed(listed, encoding)));
+        const now = isNew || textOf === null ? '' : await textOf(listed);
         if (now !== '' && now === filledCell(encoding, bytes, fill === undefined ? null : encoding)) {
             lines.keep([...own, ...others]);
             return Math.max(known, bytes.length);

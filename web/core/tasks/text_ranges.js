@@ -55,12 +55,14 @@ export class TextLines {
     /**
      * @param {ScriptModel} script which may change later
      * @param {Pick<OrderedImage, 'order'>} image
-     * @param {Span[]} moved the ranges of texts and pointers, in order, in files whose texts move
+     * @param {PointedTexts[]} pointed the texts that may move
+     * @param {Span[]} moved the ranges of texts and pointers, in order, in their files
      * @param {boolean} isRemade whether the lines of these files are generated again
      */
-    constructor(script, image, moved, isRemade) {
+    constructor(script, image, pointed, moved, isRemade) {
         this.script = script;
         this.image = image;
+        this.pointed = pointed;
         this.moved = moved;
         this.isRemade = isRemade;
         this.firsts = moved.map(({ first }) => first);
@@ -109,6 +111,15 @@ export class TextLines {
         const isOf = changed.length > 0 && changed.every(i => this.isMoved(first + i));
         ofMoved.set(line, isOf);
         return isOf;
+    }
+
+    /**
+     * Whether a pointer leads to a text.
+     * @param {Parameters<PointedTexts['of']>[0]} text
+     * @param {Encoding} encoding
+     */
+    isPointed(text, encoding) {
+        return this.pointed.some(texts => texts.of(text, encoding) !== null);
     }
 
     /** @param {number} place of a user byte */
@@ -175,5 +186,5 @@ export async function textLines(opened, script, { pointed, listed, own, isRemade
         add(rangeOf({ ...it, block }, pointed.some(texts => texts.of(it, encodingOf(it.encoding) || own) !== null)));
     }
     const some = spans.filter(({ first, after }) => after > first);
-    return new TextLines(script, part, joinedSpans(await sortedInTurns(some, ({ first }) => first, signal)), isRemade);
+    return new TextLines(script, part, pointed, joinedSpans(await sortedInTurns(some, ({ first }) => first, signal)), isRemade);
 }

@@ -216,7 +216,12 @@ export class TextsTable {
 
     /** @param {File} file with texts, or with tables of pointers to the texts of the disc, which are then listed first */
     async takeAny(file) {
-        if (!await isTableList(fileReader(file))) return this.take(file);
+        let isOfTables = false;
+        await this.work(texts.discMakingLines, texts.textMakingOfRows, texts.discNothingAdded, async (...given) => {
+            isOfTables = await isTableList(fileReader(file));
+            return isOfTables ? null : this.take(file, ...given);
+        });
+        if (!isOfTables) return undefined;
         if (this.known.list === null) await this.list();
         if (this.moving.list !== null) return this.moving.open(file);
         return this.known.list && fill(this.message, notice('warn', texts.textPointersLeadToTexts, texts.textListTheTexts));
@@ -225,27 +230,28 @@ export class TextsTable {
     /**
      * Generates lines of the script from a table in a file, and shows the rows that do not fit.
      * @param {File} file
+     * @param {Image | PlainFile} image
+     * @param {Bar} bar
+     * @param {AbortSignal} signal
      */
-    take(file) {
+    async take(file, image, bar, signal) {
         const { app } = this;
-        return this.work(texts.discMakingLines, texts.textMakingOfRows, texts.discNothingAdded, async (image, bar, signal) => {
-            this.forget();
-            if (this.moving.letsWait(this.known.list)) return this.moving.importList(file, this.left, { signal, progress: bar.things });
-            const options = this.rowOptions();
-            const lists = [{ name: file.name, reader: fileReader(file) }];
-            if (!('disc' in image)) return this.takeIntoFile(image, lists, bar, signal);
-            const earlier = await earlierTexts(app, image, { end: this.endByte(), movable: this.moving.movable });
-            const isAlso = (/** @type {ListRow} */ row) => isWritten(app, row);
-            const imported = { ...options, lists, isAlso, partial: true, earlier };
-            const made = await importTable(app, image.opened, imported, { signal, progress: bar.things });
-            const merged = await rowsMerged(app, image, made.script, signal, earlier.lines);
-            if (merged === null) return null;
-            app.checkAfterChange();
-            const withdrawn = withdrawnLines(earlier.lines, made.empty);
-            this.known.takeLeft(made.left);
-            await this.left.show({ image, name: file.name, rows: made.left, options });
-            return this.madeNotice(made, merged, withdrawn);
-        });
+        this.forget();
+        if (this.moving.letsWait(this.known.list)) return this.moving.importList(file, this.left, { signal, progress: bar.things });
+        const options = this.rowOptions();
+        const lists = [{ name: file.name, reader: fileReader(file) }];
+        if (!('disc' in image)) return this.takeIntoFile(image, lists, bar, signal);
+        const earlier = await earlierTexts(app, image, { end: this.endByte(), movable: this.moving.movable });
+        const isAlso = (/** @type {ListRow} */ row) => isWritten(app, row);
+        const imported = { ...options, lists, isAlso, partial: true, earlier };
+        const made = await importTable(app, image.opened, imported, { signal, progress: bar.things });
+        const merged = await rowsMerged(app, image, made.script, signal, earlier.lines);
+        if (merged === null) return null;
+        app.checkAfterChange();
+        const withdrawn = withdrawnLines(earlier.lines, made.empty);
+        this.known.takeLeft(made.left);
+        await this.left.show({ image, name: file.name, rows: made.left, options });
+        return this.madeNotice(made, merged, withdrawn);
     }
 
     /**
