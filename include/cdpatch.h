@@ -24,9 +24,10 @@
  *
  * A program that reads and writes the image itself, with memory of a constant size, makes a run of patches, below.
  *
- * A sector is 2352 bytes. An address is three: minute, second, and frame in BCD. Memory may hold any bytes, and a number may have any
- * value. Each pointer must be valid for the size given here, and may be null only if the size is 0. What a call writes must not overlap its
- * other arguments. Text is written to the first bytes of its buffer; the other bytes do not change.
+ * A sector is 2352 bytes. An address is three: minute, second, and frame in BCD. A line `# base 3` of a script is a comment for each call:
+ * pass 3 as the base. Memory may hold any bytes, and a number may have any value. Each pointer must be valid for the size given here, and
+ * may be null only if the size is 0. What a call writes must not overlap its other arguments. Text is written to the first bytes of its
+ * buffer; the other bytes do not change.
  *
  * Nothing is kept between calls, so threads may make calls at the same time. No other thread may access memory that a call writes. No call
  * allocates memory, and each may be made in a signal handler.
@@ -169,7 +170,8 @@ void cdpatch_encode(const uint8_t address[CDPATCH_AT_LEAST 3], const uint8_t use
 void cdpatch_fill_parity(uint8_t sector[CDPATCH_AT_LEAST 2352]);
 /** Returns whether a sector is a Mode 1 sector with nothing wrong in Intermediate field, EDC, and P and Q parity. */
 bool cdpatch_is_consistent(const uint8_t sector[CDPATCH_AT_LEAST 2352]);
-/** Writes what is wrong with a sector of any kind, read as a Mode 1 sector. */
+/** Writes what is wrong with a sector of any kind, read as a Mode 1 sector. Nothing is wrong with a sector of zeros. To
+ * decide whether a sector is sound, use cdpatch_is_consistent, which also tests the sync field and the mode byte. */
 void cdpatch_find_defect(const uint8_t sector[CDPATCH_AT_LEAST 2352], struct cdpatch_defect defect[CDPATCH_AT_LEAST 1]);
 /** For a sector of any kind, writes 1 for each of the 86 P columns and 52 Q diagonals that is not a code word, and 0 for the others. Column
  * C has the bytes 12 + C + 86 * I for I from 0 to 25. Diagonal D, with N = D / 2, has the bytes 12 + (86 * N + 88 * I) % 2236 + D % 2 for I
@@ -301,7 +303,8 @@ enum cdpatch_result cdpatch_apply_patch(const struct cdpatch_patch patch[CDPATCH
  *
  * An image of more than 2352000000 bytes ends the run with a line that says so, and CDPATCH_STATUS_FAILED. So does an invalid or too long
  * script, before any byte is requested. Create the output at the first READ, COPY, or WRITE, or at an END that is not
- * CDPATCH_STATUS_FAILED: such a script then leaves none.
+ * CDPATCH_STATUS_FAILED: such a script then leaves none. The output must not be the file of the image, which could be overwritten before it
+ * is read. To patch a mapped file in place, see examples/patch_map.c.
  *
  * If a read or a write failed, pass CDPATCH_MOVE_FAILED: the run ends with CDPATCH_STATUS_FAILED, without a line. If you mistake a failed
  * read for the end of the image, the new image is incomplete, but the status is that of a complete one.
@@ -322,7 +325,8 @@ size_t cdpatch_run_begin(struct cdpatch_run run[CDPATCH_AT_LEAST 1], const uint8
  * The script and the entries are those of cdpatch_run_begin. `hand` is a buffer of at least three `sectors`; today only three are used.
  * Its bytes must be kept between calls; those of `rooms` need not be. Whatever bytes these buffers contain, the call returns. It
  * writes END with CDPATCH_STATUS_FAILED if there are fewer than three sectors, if more bytes were moved than requested, or if fewer were
- * written or logged. A state of zeros may be that of a finished run: call cdpatch_run_begin first. */
+ * written or logged. After END make no more calls: what they write has no meaning. The same is true of a state that is not from
+ * cdpatch_run_begin: with zeros, the run may log `applied 0 refused 0` and end with CDPATCH_STATUS_DONE. */
 void cdpatch_run_next(struct cdpatch_run run[CDPATCH_AT_LEAST 1], size_t done, const uint8_t *script, size_t script_size,
                       const struct cdpatch_entry *entries, size_t room, uint8_t *hand, size_t sectors,
                       struct cdpatch_rooms rooms[CDPATCH_AT_LEAST 1], struct cdpatch_step step[CDPATCH_AT_LEAST 1]);
@@ -363,11 +367,11 @@ void cdpatch_sha1_end(const struct cdpatch_sha1 state[CDPATCH_AT_LEAST 1], uint8
  * An image is `size` bytes, such as a mapped file, whose first sector is block `base`. Each call does the same as the command of that name
  * (cdpatch(1)), and returns its exit status. The text that the command prints has `*length` bytes.
  *
- * CDPATCH_STATUS_FAILED has three causes. After an error the last line says why, also if `out` is too small. If the text is longer than
- * `room`, its beginning fills the room. If the base is above 449849, nothing is written, and `*length` becomes 0; in cdpatch_check and
- * cdpatch_apply also if the flags are not a sum of flags, or if `most`, the number of entries, is less than the number of the script's
- * patches. An entry for each line of the script is enough, and so are CDPATCH_MOST_PATCHES. What entries and buffers hold before does not
- * matter.
+ * CDPATCH_STATUS_FAILED has three causes. After an error the last line says why; it is `cdpatch: writing the output failed` if `out` is too
+ * small. If the text is longer than `room`, its beginning fills the room, and the size that it needs is not returned. If the base is above
+ * 449849, nothing is written, and `*length` becomes 0; in cdpatch_check and cdpatch_apply also if the flags are not a sum of flags, or if
+ * `most`, the number of entries, is less than the number of the script's patches. An entry for each line of the script is enough, and so
+ * are CDPATCH_MOST_PATCHES. What entries and buffers hold before does not matter.
  *
  * Enough room for cdpatch_list and cdpatch_audit is 100 bytes and 40 for each sector. For a log it is 200 bytes and 80 for each line of the
  * script, or 5243080 for any script.

@@ -73,8 +73,8 @@ def audit(image: ReadableBuffer, base: int = 0) -> Report:
 
 def check(image: ReadableBuffer, script: ReadableBuffer, base: int = 0, carry: bool = False) -> Report:
     """Returns what `cdpatch check` prints, that is, what `apply` would do with each patch of a script, and whether a patch would be
-    refused. Only the sectors that patches refer to are read. With an empty image (`b''`) only the script is checked: a script is valid if the
-    call raises nothing, and the report, which refuses each patch, has no meaning.
+    refused. Only the sectors that patches refer to are read. With an empty image (`b''`) only the script is checked: it is valid if the call
+    raises nothing, and the report, which refuses each patch, has no meaning.
 
     Raises Failed as `apply` does."""
     with Held(image) as held:

@@ -293,8 +293,9 @@ def test_a_reader_that_fails_leaves_a_prefix(first, answer, error, text):
     (raising(KeyError('mine')), KeyError)])
 def test_a_writer_that_fails_leaves_a_prefix(first, answer, error):
     writer = Answering(b'', first, answer)
-    with pytest.raises(error):
+    with pytest.raises(error) as failed:
         cdpatch.patch(io.BytesIO(IMAGE), EACH_SECTOR, writer)
+    assert error is not TypeError or str(failed.value) == 'the writer must return a number of bytes, not str'
     assert writer.inner.getvalue() == cdpatch.apply(IMAGE, EACH_SECTOR).image[:2352 * first]
 
 
