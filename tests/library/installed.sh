@@ -55,7 +55,7 @@ test_static() {
     judge 'the static library by pkg-config, as INSTALL says' compiles_as_said "$PWD/plain" "$PWD/plain/lib" 1
     judge 'it is the static one' is_linked_statically
     judge 'libcdpatch(3) says the same' test "$(sed -n '/^cc program/{N;s/ \\e\n */ /;s/^/    /p}' "$top/man/libcdpatch.3")" = \
-        "$(grep -m 1 '^    cc .*pkg-config' "$documents/docs/INSTALL.md")"
+        "$(grep '^    cc .*pkg-config' "$documents/docs/INSTALL.md")"
 }
 
 test_pkg_config() {
