@@ -25,9 +25,16 @@ const WORDS = ['やくそう', 'どくけし', 'せいすい', '剣士', '鉄の
 const PARTS = {
     English: [['Cannot open', 'Delete', 'Save changes to', 'Please insert', 'You found', 'The old man gave you'], ['the file', 'this game', 'the disc', 'a silver key', 'the castle gate', 'your profile'], ['.', '?', ' now.', ' before you continue.']],
     German: [['Möchten Sie', 'Sie können', 'Bitte prüfen Sie, ob Sie', 'Der Händler möchte'], ['den Schlüssel öffnen', 'die Größe ändern', 'das Gerät für später wählen', 'zurück zum Menü'], ['?', '.', ' ...', '!']],
+    French: [['Où avez-vous vu', 'Épargnez', '« Prends', 'À toi', '¿Qui a pris', '"Je garde'], ['la clé du château', "l'épée de mon père", 'ce bouclier', 'le trésor du roi'], [' ?', '.', ' !', ' ?"', '...']],
     Polish: [['Czy chcesz', 'Nie można', 'Możesz teraz', 'Proszę najpierw'], ['usunąć plik', 'zapisać zmiany', 'otworzyć drzwi', 'włożyć płytę do napędu'], ['?', '.', ' później.', ' jeszcze raz.']],
     Russian: [['Вы хотите', 'Невозможно', 'Теперь можно', 'Сначала нужно'], ['удалить файл', 'сохранить игру', 'открыть дверь', 'вставить диск в дисковод'], ['?', '.', ' позже.', ' ещё раз.']],
 };
+
+/** Names of things in a language with accents. */
+const NAMES = ['Épée', 'Épée longue', 'Bouclier', 'Potion de soin', 'Hache', 'Écu du roi', 'Clé rouillée', 'Pièce d’or', 'Arc long', 'Élixir', 'Torche', 'Île', 'Âme'];
+
+/** Control codes of games before a text. */
+const CODES = [[0x01], [0x02, 0x05], [0x1B, 0x03], [0x0E], [0x01, 0xFE]];
 
 /** A line of a game with about as many forms as this number says. */
 function lineOf(dice) {
@@ -108,7 +115,43 @@ function program(dice, language, encoding) {
     let at = 400;
     const places = padded.map((it, i) => [at, (at += it.length) - it.length + all[i].length - 1]);
     const bytes = Buffer.concat([others(dice, 396), Buffer.alloc(4), ...padded, others(dice, 3000)]);
-    return { name: `${language} in ${encoding}`, encoding, bytes, places, isNamed: true, read: file => places.map(([from]) => [from, file.indexOf(0, from)]) };
+    return { name: `${language} in ${encoding}`, encoding, bytes, places, options: { encoding }, read: file => places.map(([from]) => [from, file.indexOf(0, from)]) };
+}
+
+/** A game whose texts, in an encoding that must be named, have control codes before them, and a byte after them. */
+function coded(dice, language, encoding, end) {
+    const all = sentencesOf(language, dice, 40).map(text => [Buffer.from(CODES[dice(CODES.length)]), bytesOf(encoding, text), Buffer.of(end)]);
+    let at = 60;
+    const places = all.map(parts => {
+        const from = at + parts[0].length;
+        at += Buffer.concat(parts).length;
+        return [from, at - 1];
+    });
+    const bytes = Buffer.concat([others(dice, 60), ...all.flat(), others(dice, 300)]);
+    const name = `${language} in ${encoding} after codes, then ${end}`;
+    return { name, encoding, bytes, places, options: { encoding }, read: file => places.map(([from]) => [from, file.indexOf(end, from)]) };
+}
+
+/** A file of text, of which each line is a row, and one that is a row as a whole. Some lines have numbers, and words in capitals. */
+function linesOfText(dice, language, encoding) {
+    const lines = sentencesOf(language, dice, 30).map((text, i) => ['', '1.2 ', `${text} SETUP 3.14: `, `(${i}) `, 'VERSION 1.0', `DOS 5.0, ${text} `][dice(6)] + text);
+    const read = file => {
+        const found = [];
+        for (let from = 0; from < file.length; from = found.at(-1)[1] + 2) found.push([from, file.indexOf('\r\n', from, 'latin1')]);
+        return found;
+    };
+    const bytes = Buffer.concat(lines.map(line => bytesOf(encoding, `${line}\r\n`)));
+    const whole = { name: `${language} in ${encoding}, a file of text`, encoding, bytes, places: [[0, bytes.length]], options: { encoding }, read: file => [[0, file.length]] };
+    return [{ name: `${language} in ${encoding}, line by line`, encoding, bytes, places: read(bytes), options: { encoding, lines: true }, read }, whole];
+}
+
+/** Languages of Europe, and their encodings; and whether FF is a letter in them. */
+const OF_EUROPE = [['English', 'Windows-1252'], ['French', 'Windows-1252'], ['German', 'CP850'], ['Polish', 'Windows-1250'], ['Russian', 'Windows-1251', true]];
+
+/** Texts that end with FF, which is a character of their encoding. */
+function endedByFF(dice, texts, encoding) {
+    const game = ended(dice, texts, 0xFF, `${texts[0].split(' ')[0]} in ${encoding}, then 255`, encoding);
+    return { ...game, options: { encoding } };
 }
 
 /** All games. Of the texts of each, 9 in 10 are rows, or a share of `least`. */
@@ -125,5 +168,9 @@ export function madeGames(seed) {
         tables(dice, linesOf(dice, 60)), ...[0x00, 0x20, 0xFF].map(filler => fields(dice, wordsOf(dice, 60), filler)),
         program(dice, 'English', 'Windows-1252'), program(dice, 'German', 'Windows-1252'), program(dice, 'German', 'CP850'),
         program(dice, 'Polish', 'Windows-1250'), program(dice, 'Polish', 'CP852'), program(dice, 'Russian', 'Windows-1251'), program(dice, 'Russian', 'CP866'),
+        ...OF_EUROPE.flatMap(([language, encoding]) => [0x00, 0x03].map(end => coded(dice, language, encoding, end))),
+        ...OF_EUROPE.flatMap(([language, encoding]) => linesOfText(dice, language, encoding)),
+        ...OF_EUROPE.filter(([, , isLetter]) => !isLetter).map(([language, encoding]) => endedByFF(dice, sentencesOf(language, dice, 60), encoding)),
+        endedByFF(dice, Array.from({ length: 60 }, () => NAMES[dice(NAMES.length)]), 'Windows-1252'),
     ];
 }

@@ -34,7 +34,7 @@ async function replacedAll(bytes, rows, name) {
 
 for (const game of madeGames(7)) test(`what is listed of ${game.name} is replaced to its whole room, and the game reads all texts`, async () => {
     const { name, bytes, places, encoding } = game;
-    const rows = await rowsOf(bytes, game.isNamed ? { encoding } : {});
+    const rows = await rowsOf(bytes, game.options ?? {});
     const exact = places.filter(([from, to]) => rows.some(({ at, end }) => at === from && end === to));
     assert.ok(exact.length >= (game.least ?? 0.9) * places.length, `${name}: ${exact.length} of ${places.length} texts are rows`);
     const known = rows.filter(({ at, end }) => places.some(([from, to]) => from === at && to === end));
@@ -56,6 +56,11 @@ test('the byte that ends texts is found by itself only if it follows most texts,
     assert.deepEqual(await rowsOf(game.bytes, { end: 3, ended }), rows);
     const joined = await rowsOf(game.bytes, { end: 0, ended });
     assert.deepEqual([found.length, joined.length < rows.length / 2, joined.some(({ text }) => text.includes('{03}'))], [1, true, true]);
+});
+
+test('a given byte does not end the texts of a file in which 00 does', async () => {
+    const { bytes, options } = madeGames(3).find(({ name }) => name === 'English in Windows-1252');
+    assert.deepEqual(await rowsOf(bytes, { ...options, end: 0xFF }), await rowsOf(bytes, options));
 });
 
 test('no encoding of Europe finds texts in noise, in whatever order its bytes come', async () => {

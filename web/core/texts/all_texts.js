@@ -1,5 +1,6 @@
 // All texts of a track.
 
+import { encodingOf } from '../encodings/index.js';
 import { cancelled } from '../faults.js';
 import { hexText } from '../hex_digits.js';
 import { SECTOR_SIZE, USER_SIZE } from '../module/index.js';
@@ -46,6 +47,15 @@ const LEAST_OF_LINES = 1;
  * have been joined: then each of these codes counts too.
  */
 const ENDED = 6;
+
+/** A given byte does not end the texts of a file if 00 follows more than this many times as many. */
+const MORE_ZEROS = 5;
+
+/** What a text begins with, other than a small letter, after a byte that ends texts. */
+const BEGINS = '[\\p{Lu}\\p{N}\\p{Ps}\\p{Pi}"\'¿¡]';
+
+/** The byte that ends texts in many games, although the encodings of Europe have a character for it, such as ÿ. */
+const FULL = 0xFF;
 
 /** How many sectors are searched in a worker at a time, so that those full of texts give a short answer; and how many texts are listed. */
 const SEARCHED_SECTORS = 256;
@@ -99,32 +109,54 @@ function countsAfter(texts) {
 }
 
 /**
+ * How many texts are joined with the next one by FF, as a character of an encoding of Europe.
+ * @param {FoundText[]} texts
+ * @param {TextOptions} options
+ */
+function countJoined(texts, { encoding: name, table }) {
+    const encoding = name === undefined || table !== undefined ? null : encodingOf(name);
+    if (encoding === null || !encoding.isSingle) return 0;
+    const joint = new RegExp(`${encoding.text(Uint8Array.of(FULL))}(?=${BEGINS})`, 'u');
+    return texts.reduce((count, { text }) => count + text.split(joint).length - 1, 0);
+}
+
+/**
  * The byte that ends most texts of a file, if it is not 00; or undefined.
  * @param {FoundText[]} texts
+ * @param {TextOptions} options
  */
-function usualEnd(texts) {
+function usualEnd(texts, options) {
     const counts = countsAfter(texts);
+    const joined = countJoined(texts, options);
+    counts[FULL] += joined;
     const end = counts.indexOf(Math.max(...counts));
-    if (end === 0 || 2 * counts[end] <= texts.length) return undefined;
+    if (end === 0 || 2 * counts[end] <= texts.length + joined) return undefined;
     const code = `{${hexText(Uint8Array.of(end))}}`;
     const codes = texts.reduce((count, { text }) => count + text.split(code).length - 1, 0);
     return counts[end] + codes >= ENDED ? end : undefined;
 }
 
 /**
- * The texts of a stretch. If a byte other than 00 ends most of them, they are recognised again by it.
+ * The texts of a stretch. If a byte other than 00 ends most of them, they are recognised again by it; and if 00 ends most of them, although
+ * another byte was given for the whole disc, by 00.
  * @param {Sharer} pool
  * @param {OrderedImage} part
  * @param {Stretch} stretch
  * @param {Pick<TextsHow, 'options' | 'signal' | 'ended'>} how
  * @param {import('../pool/pool.js').Sharing} watch
+ * @returns {Promise<FoundText[]>}
  */
 async function textsOf(pool, part, stretch, { options, signal, ended }, watch) {
     const texts = await recognisedIn(pool, part, stretch, options, watch);
-    const end = options.end === undefined ? usualEnd(texts) : undefined;
+    const counts = countsAfter(texts);
+    if (options.end !== undefined) {
+        if (counts[0] <= MORE_ZEROS * counts[options.end]) return texts;
+        return textsOf(pool, part, stretch, { options: { ...options, end: undefined }, signal, ended }, { signal });
+    }
+    const end = usualEnd(texts, options);
     if (end === undefined) return texts;
     const others = await recognisedIn(pool, part, stretch, { ...options, end }, { signal });
-    if (countsAfter(others)[end] < countsAfter(texts)[end]) return texts;
+    if (countsAfter(others)[end] < counts[end]) return texts;
     if (ended) ended(stretch.path, end);
     return others;
 }

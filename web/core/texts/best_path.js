@@ -54,9 +54,11 @@ export class PathFinder {
             this.put(k + LONGEST, k + LONGEST, 0, 0, 0);
             if (at > place + LONGEST && this.isOver(k, Math.max(score[best] - FALL, 0))) break;
             const byte = bytes[at];
-            const oneSum = one[byte] === BAD ? 0 : score[k] + one[byte] + after[kind[k]][oneKind[byte]];
+            const going = score[k] + after[kind[k]][oneKind[byte]];
+            const first = after[0][oneKind[byte]];
+            const oneSum = one[byte] === BAD ? 0 : one[byte] + Math.max(going, first);
             if (oneSum > score[k + 1]) {
-                this.put(k + 1, start[k], oneSum, oneKind[byte], 0);
+                this.put(k + 1, going < first ? k : start[k], oneSum, oneKind[byte], 0);
                 if (oneSum > score[best] && at >= place) best = k + 1;
             }
             const code = codeAt(scores, bytes, at, bytes.length);

@@ -15,6 +15,12 @@ const LEAST_LETTERS = 2;
 
 const BEGINS = /[A-Za-z0-9([<"'`]/;
 
+/** A letter, a digit, or an opening mark, with which a text in a language of Europe may begin. */
+const BEGINS_SINGLE = /[\p{L}\p{N}\p{Ps}\p{Pi}<"'`¿¡]/u;
+
+/** The kinds of small letters of Europe beyond ASCII: a byte of this kind beside a text is a code rather than a letter of it. */
+const SMALL = [1, 3];
+
 /** Marks that end a sentence in a language with spaces. */
 const EDGE_MARKS = Array.from('.!?)"\'', mark => mark.charCodeAt(0));
 
@@ -51,9 +57,12 @@ function isLead({ size, pair }, byte) {
     return size === 3 ? byte < 0xF8 : pair.subarray(byte << 8, (byte + 1) << 8).some(score => score !== BAD);
 }
 
+/** The byte that ends texts in many games, even if it is a character of their encoding. */
+const FULL = 0xFF;
+
 /**
- * The byte after a text if it may be the one that ends texts: 00, a control code other than tabs and line ends, or a byte that is not part
- * of a character. Else, in UTF-16, and at the end of the bytes it is -1. A control code before a 00 counts instead if it is in the text so
+ * The byte after a text if it may be the one that ends texts: 00, FF, a control code other than tabs and line ends, or a byte that is not
+ * part of a character. Else, in UTF-16, and at the end of the bytes it is -1. A control code before a 00 counts instead if it is in the text so
  * often that it may be the end of several texts.
  * @param {Pick<Candidate, 'scores' | 'start' | 'end'>} text
  * @param {Uint8Array} bytes
@@ -66,7 +75,8 @@ export function byteAfter({ scores, start, end }, bytes) {
         if (count >= LEAST_ENDED) return last;
     }
     const isNoCharacter = scores.one[byte] === BAD && !isLead(scores, byte);
-    return byte === scores.end[0] || scores.oneKind[byte] === CONTROL || isNoCharacter ? byte : -1;
+    const isUsual = byte === 0 || byte === scores.end[0] || (byte === FULL && scores.encoding.isSingle);
+    return isUsual || scores.oneKind[byte] === CONTROL || isNoCharacter ? byte : -1;
 }
 
 /**
@@ -92,12 +102,14 @@ export function withEdges(bytes, texts) {
  * @param {number} last what ends texts
  */
 function endWithMarks(bytes, { end, scores }, high, last) {
-    if (scores.own || isZero(scores, bytes, end)) return end;
+    if (isZero(scores, bytes, end)) return end;
     const limit = Math.min(high, end + MOST_EXTENSION);
+    const words = scores.encoding.isSingle ? endOfWords(scores, bytes, end, limit) : end;
+    if (words > end || (scores.own && !scores.encoding.isSingle)) return words;
     const read = readTo(scores, bytes, end, limit);
     if (read < bytes.length && bytes[read] === last) return read;
     let at = end;
-    while (scores.encoding.usual && at < limit && EDGE_MARKS.includes(bytes[at])) at += 1;
+    while ((scores.encoding.usual || scores.own) && at < limit && EDGE_MARKS.includes(bytes[at])) at += 1;
     return at;
 }
 
@@ -108,8 +120,9 @@ function endWithMarks(bytes, { end, scores }, high, last) {
  * @param {number} last what ends texts
  */
 function startWithMarks(bytes, { start, from, scores }, low, last) {
-    if (scores.own || scores.wide) return start;
     const least = Math.max(low, from - MOST_EXTENSION);
+    if (scores.encoding.isSingle) return Math.min(start, startOfWords(scores, bytes, from, least));
+    if (scores.own || scores.wide) return start;
     let begin = from;
     while (begin > least && bytes[begin - 1] !== 0 && bytes[begin - 1] !== last) begin -= 1;
     const isBound = begin === 0 || (begin > 0 && (bytes[begin - 1] === 0 || bytes[begin - 1] === last)) || begin === low;
@@ -117,6 +130,55 @@ function startWithMarks(bytes, { start, from, scores }, low, last) {
     while (code > begin && isPrinted(scores, bytes[code - 1])) code -= 1;
     if (isBound && code === begin && readTo(scores, bytes, begin, from) === from) return begin;
     return Math.max(begin, from - lettersBefore(scores, bytes, from, begin));
+}
+
+/**
+ * Whether a byte beside the scored part of a text in a language of Europe belongs to it: a sign, a digit, or a letter. A small letter beyond
+ * ASCII belongs to it only after another letter, for it may be a code.
+ * @param {Uint8Array} oneKind
+ * @param {Uint8Array} bytes
+ * @param {number} at
+ */
+function isBesideText(oneKind, bytes, at) {
+    const kind = oneKind[bytes[at]];
+    const mayBeCode = bytes[at] >= 0x80 && SMALL.includes(kind) && !isLetter(oneKind[bytes[at - 1]]);
+    return kind > 0 && kind <= ASCII && !mayBeCode;
+}
+
+/**
+ * Where the words, numbers, and marks begin that are directly before a text in a language of Europe.
+ * @param {Scores} scores
+ * @param {Uint8Array} bytes
+ * @param {number} from
+ * @param {number} low
+ */
+function startOfWords({ oneKind, encoding }, bytes, from, low) {
+    let at = from;
+    while (at > low && SMALL.includes(oneKind[bytes[at]]) && SMALL.includes(oneKind[bytes[at - 1]])) at -= 1;
+    // If a letter before a letter is a part of the text, the text begins with it already.
+    if (at > low && isLetter(oneKind[bytes[at]]) && isLetter(oneKind[bytes[at - 1]])) return at;
+    while (at > low && isBesideText(oneKind, bytes, at - 1)) at -= 1;
+    if (from - at === MOST_EXTENSION) return from;
+    while (at < from && !BEGINS_SINGLE.test(encoding.text(bytes.subarray(at, at + 1)))) at += 1;
+    return at;
+}
+
+/**
+ * Where the words, numbers, and marks end that are directly after a text in a language of Europe.
+ * @param {Scores} scores
+ * @param {Uint8Array} bytes
+ * @param {number} end
+ * @param {number} limit
+ */
+function endOfWords({ oneKind }, bytes, end, limit) {
+    let at = end;
+    while (at < limit && isBesideText(oneKind, bytes, at)) at += 1;
+    return at - end === MOST_EXTENSION ? end : at;
+}
+
+/** @param {number} kind of a character in an encoding of Europe */
+function isLetter(kind) {
+    return kind > 0 && kind <= 4;
 }
 
 /**

@@ -30,6 +30,7 @@ function plainSizeAt(scores, bytes, at, end) {
     const { wide, size, oneKind, pairKind, encoding, end: [last] } = scores;
     const kind = wide ? 0 : oneKind[bytes[at]];
     if (!wide && last !== 0 && bytes[at] === last) return 0;
+    if (encoding.isSingle) return kind > 0 ? 1 : 0;
     if (!wide && bytes[at] < 0x80) return kind === ASCII || kind === LINE_END ? 1 : 0;
     const code = codeAt(scores, bytes, at, end);
     if (code > 0 && pairKind[code] > 0) return pairKind[code] === CONTROL ? 0 : size;
@@ -53,11 +54,12 @@ export function plainTo(scores, bytes, from, end) {
 }
 
 /**
- * How many bytes are not ASCII; in UTF-16, how many belong to characters that are not ASCII.
+ * How many bytes are not ASCII; in UTF-16, how many belong to characters that are not ASCII; and in an encoding of Europe, all bytes.
  * @param {Scores} scores
  * @param {Uint8Array} bytes
  */
-function countOthers({ wide, pairKind }, bytes) {
+function countOthers({ wide, pairKind, encoding }, bytes) {
+    if (encoding.isSingle) return bytes.length;
     let count = 0;
     for (let at = 0; at + 1 < bytes.length && wide; at += 2) count += pairKind[bytes[at] << 8 | bytes[at + 1]] < ASCII ? 2 : 0;
     for (let at = 0; at < bytes.length && !wide; at++) count += bytes[at] >> 7;

@@ -13,8 +13,12 @@ const LONGEST_ROW = 4096;
 const WINDOW = 1024;
 const GRID = LONGEST_ROW - WINDOW;
 
-/** The most bytes between two parts of one text, such as a line in a language that is not scored. */
+/**
+ * The most bytes between two parts of one text, such as a line in a language that is not scored; fewer in an encoding of Europe, in which
+ * most bytes are characters.
+ */
 const MOST_BETWEEN = 512;
+const MOST_BETWEEN_SINGLE = 32;
 
 const SENTENCE_END = /[。．！？.!?…」』]/;
 const CR = '\r';
@@ -50,8 +54,17 @@ export function joinedTexts(bytes, texts, shift) {
  * @param {Candidate} next
  */
 function isOneWith(bytes, { end, scores }, next) {
-    if (next.scores !== scores || next.from - end > MOST_BETWEEN) return false;
-    return scores.own ? next.from <= end : plainTo(scores, bytes, end, next.from) >= next.from;
+    const most = scores.encoding.isSingle ? MOST_BETWEEN_SINGLE : MOST_BETWEEN;
+    if (next.scores !== scores || next.from - end > most) return false;
+    return isOwn(scores) ? next.from <= end : plainTo(scores, bytes, end, next.from) >= next.from;
+}
+
+/**
+ * Whether an encoding is a game's own table, in which any byte may be a character.
+ * @param {Scores} scores
+ */
+function isOwn({ own, encoding }) {
+    return own && !encoding.isSingle;
 }
 
 /**
@@ -65,7 +78,7 @@ function allText(bytes, texts, shift) {
     const covered = new Map();
     for (const { start, end, scores } of texts) covered.set(scores, (covered.get(scores) || 0) + end - start);
     const [most] = [...covered].sort(([, a], [, b]) => b - a);
-    if (most === undefined || most[0].own) return null;
+    if (most === undefined || isOwn(most[0])) return null;
     const [scores, count] = most;
     const own = texts.filter(it => it.scores === scores);
     const longest = own.reduce((last, it) => it.to - it.from > last.to - last.from ? it : last);

@@ -204,9 +204,13 @@ const SINGLES = [
     [/\p{Script=Cyrillic}/u, 4, -16], [/\p{Ll}/u, 1, -2], [/\p{L}/u, 2, -12], [/[\p{P}\p{Zs}\d]/u, ASCII, -12], [/./u, 5, -24],
 ];
 
+/** By the kind of a text's first character, what is added for it: a large letter scores a little more than nothing there. */
+const FIRST_LETTERS = [0, 0, 16, 0, 20];
+
 /** By the kinds of two such characters, in quarter bits: two alphabets, a large letter after a small one, and signs beside letters. */
 const AFTER_SINGLES = Array.from({ length: AFTER_KINDS.length }, (_, before) => AFTER_KINDS.map((__, after) => {
     const [first, second] = [Math.min(before, after), Math.max(before, after)];
+    if (before === 0) return FIRST_LETTERS[after] || 0;
     if (first === 0 || second > 5) return 0;
     if (second === 5) return -10;
     if (first <= 2 && second >= 3) return -24;
