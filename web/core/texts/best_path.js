@@ -45,6 +45,7 @@ export class PathFinder {
     find(scores, bytes, low, place) {
         const { score, start, kind } = this;
         const { one, oneKind, pairKind, size, after } = scores;
+        const [atFirst] = after;
         const origin = Math.max(low, place - BACK);
         const last = Math.min(bytes.length, origin + MOST) - origin;
         for (let k = 0; k < LONGEST; k++) this.put(k, k, 0, 0, 0);
@@ -55,8 +56,8 @@ export class PathFinder {
             if (at > place + LONGEST && this.isOver(k, Math.max(score[best] - FALL, 0))) break;
             const byte = bytes[at];
             const going = score[k] + after[kind[k]][oneKind[byte]];
-            const first = after[0][oneKind[byte]];
-            const oneSum = one[byte] === BAD ? 0 : one[byte] + Math.max(going, first);
+            const first = atFirst[oneKind[byte]];
+            const oneSum = one[byte] === BAD ? 0 : one[byte] + (going < first ? first : going);
             if (oneSum > score[k + 1]) {
                 this.put(k + 1, going < first ? k : start[k], oneSum, oneKind[byte], 0);
                 if (oneSum > score[best] && at >= place) best = k + 1;

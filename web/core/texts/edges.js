@@ -62,8 +62,8 @@ const FULL = 0xFF;
 
 /**
  * The byte after a text if it may be the one that ends texts: 00, FF, a control code other than tabs and line ends, or a byte that is not
- * part of a character. Else, in UTF-16, and at the end of the bytes it is -1. A control code before a 00 counts instead if it is in the text so
- * often that it may be the end of several texts.
+ * part of a character. Else, in UTF-16, and at the end of the bytes it is -1. A control code before a 00 counts instead if it is in the
+ * text so often that it may be the end of several texts.
  * @param {Pick<Candidate, 'scores' | 'start' | 'end'>} text
  * @param {Uint8Array} bytes
  */
@@ -133,8 +133,8 @@ function startWithMarks(bytes, { start, from, scores }, low, last) {
 }
 
 /**
- * Whether a byte beside the scored part of a text in a language of Europe belongs to it: a sign, a digit, or a letter. A small letter beyond
- * ASCII belongs to it only after another letter, for it may be a code.
+ * Whether a byte beside the scored part of a text in a language of Europe belongs to it: a sign, a digit, or a letter. A small letter
+ * beyond ASCII belongs to it only after another letter, since otherwise it may be a code.
  * @param {Uint8Array} oneKind
  * @param {Uint8Array} bytes
  * @param {number} at
