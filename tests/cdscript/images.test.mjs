@@ -9,6 +9,7 @@ import { ENCODINGS_KNOWN, damaged, imageOf, inDirectory, program, read, run, sam
 import { files, makeDisc, noise } from './discs.mjs';
 
 const skip = tool('genisoimage', ['--version']) === null && 'no genisoimage';
+const TRY_PARITY = 'cdscript: with --parity, such a sector is corrected by its own P and Q instead, if its EDC confirms the result\n';
 const NOT_CONVERTED = 'expected an image of 2048, 2336, or 2448 bytes per sector, but';
 const sheet = (name, type = 'MODE1/2352') => `FILE "${name}" BINARY\n  TRACK 01 ${type}\n    INDEX 01 00:00:00\n`;
 
@@ -244,7 +245,15 @@ test('a repair takes what the EDC of the damaged sector fits, and names what it 
     sameFile(read(room, 'one'), good, 'the repaired image');
     const other = await run(['merge', 'old', 'door.bin', 'two'], { cwd: room });
     assert.deepEqual([other.status, other.errors],
-        [1, "cdscript: block 17: copied from door.bin, but old has neither its data nor its EDC: perhaps the dumps are of different versions\n"]);
+        [1, `cdscript: block 17: copied from door.bin, but old has neither its data nor its EDC: perhaps the dumps are of different versions\n${TRY_PARITY}`]);
+    // A sector of zeros confirms nothing, although no other dump disputes its copy, and it has no parity to correct it.
+    const empty = Buffer.from(good).fill(0, 2352 * 17, 2352 * 18);
+    write(room, { empty });
+    for (const [parity, more] of [[[], TRY_PARITY], [['--parity'], '']]) {
+        const filled = await run(['merge', 'empty', 'door.bin', `filled${parity}`, '--json', ...parity], { cwd: room });
+        assert.deepEqual([filled.status, JSON.parse(filled.out).doubtful, filled.errors], [1, 1,
+            `cdscript: block 17: copied from door.bin, but empty has neither its data nor its EDC: perhaps the dumps are of different versions\n${more}`]);
+    }
 }));
 
 test('merge --parity corrects what no other dump surely repairs, and needs none', () => inDirectory(async room => {

@@ -122,9 +122,8 @@ export function dueOf([old, ...dumps], base) {
             found.bytes[i] = best.bytes;
             found.taken.push({ block, other: best.other });
             const isDisputed = copies.some(it => !same(it.bytes, best.bytes, 0, RAW));
-            const isLost = here.state !== 'untested' && new Set(here.bytes.subarray(SUBHEADER)).size === 1;
             if (isDisputed) found.disputed.push({ block });
-            if (fit(here, best) === 0 && (isDisputed || !isLost)) found.doubtful.push({ block, other: best.other });
+            if (fit(here, best) === 0) found.doubtful.push({ block, other: best.other });
         } else if (here.state === 'sound') {
             if (!here.isHome) found.wrongAddress.push({ block });
             unlike.filter(it => it.state === 'sound').forEach(it => { found.different[it.other] += 1; });

@@ -121,8 +121,9 @@ test('of sound sectors that differ that one is taken whose EDC stands in the dam
     assert.deepEqual(blocksOf(one.taken), [1, 2, 3, 4].map(i => ({ block: BASE + i, other: Number(i < 4) })));
     assert.deepEqual([blocksOf(one.doubtful), blocksOf(one.disputed).length], [[{ block: BASE + 4, other: 0 }], 4]);
     const odd = await merged([old, other]);
-    assert.deepEqual(blocksOf(odd.doubtful), [1, 2, 3].map(i => ({ block: BASE + i, other: 0 })));
-    assert.deepEqual((await merged([old, image])).doubtful, []);
+    assert.deepEqual(blocksOf(odd.doubtful), [1, 2, 3, 4].map(i => ({ block: BASE + i, other: 0 })));
+    // Nothing in a filled sector confirms its copy, although no other dump disputes it.
+    assert.deepEqual(blocksOf((await merged([old, image])).doubtful), [{ block: BASE + 4, other: 0 }]);
 });
 
 /** The result of a repair that may correct sectors by their own parity, or not. */

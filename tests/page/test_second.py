@@ -158,8 +158,13 @@ class Second(PageTest):
                 saved.unlink()
 
     def test_a_sector_whose_data_and_edc_are_others_is_named(self) -> None:
-        self.pair(with_faults((40, 9), (40, 2048), (60, 9)), with_faults())
-        self.browser.wait('#second-body .say.warn', 'look at block 40 first')
+        empty = bytearray(with_faults((40, 9), (40, 2048), (60, 9)))
+        empty[80 * SECTOR_SIZE:81 * SECTOR_SIZE] = bytes(SECTOR_SIZE)
+        self.pair(bytes(empty), with_faults())
+        self.browser.wait('#second-body .say.warn', 'look at blocks 40 and 80 first')
+        self.press('Save repaired image')
+        self.browser.wait('#second-body .say.warn', '3 sectors repaired. Nothing confirms the copies of 2 sectors: blocks 40 and 80.')
+        self.browser.downloaded('game (repaired).bin').unlink()
 
     def test_a_repair_as_a_script_gives_the_same_image(self) -> None:
         first, second = with_faults((40, 9), (60, 9)), with_faults()

@@ -21,6 +21,7 @@ import { MOST_UNTESTED, linesOfRuns, nameOfUntested, sayOfRuns, untestedTexts, v
 /** @typedef {import('./job.js').Job} Job */
 
 const NOT_CONFIRMED = 'has neither its data nor its EDC: perhaps the dumps are of different versions';
+const TRY_PARITY = 'with --parity, such a sector is corrected by its own P and Q instead, if its EDC confirms the result';
 
 /** At most this many places with the same damage in all dumps are listed, since each is also listed as damaged. */
 const MOST_ALIKE = 10;
@@ -155,6 +156,7 @@ export async function mergeJob(job) {
     untestedTexts(untested, opened.disc.sheet !== null).forEach(text => job.say(text));
     const dump = known && made.hashes && sayKnown(job, known, made.name, made.size, made.hashes);
     sayOfRuns(job, doubtful, it => `${blocksText([it])}: copied from ${others[it.other].name}, but ${name} ${NOT_CONFIRMED}`);
+    if (doubtful.length > 0 && !job.options.parity) job.say(TRY_PARITY);
     if (dump) return Number(dump.isBad);
     return Number([repair.damaged, doubtful, repair.wrongAddress, repair.lost, repair.unlike].some(runs => runs.length > 0));
 }

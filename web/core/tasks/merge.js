@@ -18,12 +18,11 @@ import { STATE, hasSameContents, replacementOf } from './merge_sector.js';
 /** @typedef {Run & { elsewhere: boolean }} DamagedRun `elsewhere` if an image has a sound sector with the address of a different block */
 /**
  * The findings of a repair, as runs of blocks. `taken`: blocks copied from one other image for each run. `doubtful`: those of them whose
- * copy nothing in the replaced sector confirms, unless the sector was lost and one byte fills it, and nothing disputes the copy.
- * `corrected`: blocks that their own parity corrected. `damaged`: blocks that nothing repaired. `alike`: those of them with the same bytes
- * in all images that have the block. `disputed`: taken blocks in which other images are also sound, but different. `wrongAddress`: sound
- * blocks that keep the address of a different block. `others`: blocks that were not repaired, are neither sound nor Mode 1 in any image,
- * and are not tested Mode 2, with their kinds in the repaired image. `filled`: those of them that one byte fills there. `unlike`: those of
- * them that are different in some image.
+ * copy nothing in the replaced sector confirms. `corrected`: blocks that their own parity corrected. `damaged`: blocks that nothing
+ * repaired. `alike`: those of them with the same bytes in all images that have the block. `disputed`: taken blocks in which other images
+ * are also sound, but different. `wrongAddress`: sound blocks that keep the address of a different block. `others`: blocks that were not
+ * repaired, are neither sound nor Mode 1 in any image, and are not tested Mode 2, with their kinds in the repaired image. `filled`: those
+ * of them that one byte fills there. `unlike`: those of them that are different in some image.
  *
  * For each other image, `same` is the number of blocks with the same bytes, `differing` lists the blocks in which both are sound, but
  * different, and `differingUntested` the Mode 2 blocks that were not tested in the repaired image, and are different in the other one,

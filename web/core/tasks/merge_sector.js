@@ -15,7 +15,7 @@ export const STATE = Object.freeze({ LOST: 0, DAMAGED: 1, UNTESTED: 2, SOUND: 3 
 /** @typedef {{ bytes: Uint8Array, state: number, isHome: boolean }} Copy a sector of an image; `isHome`: it has the address of its block */
 /**
  * The copy that replaces a sector. `isDisputed`: other copies would replace it too, but are different. `isDoubtful`: nothing in the sector
- * confirms the copy, and nothing shows that the sector was lost.
+ * confirms the copy, since neither its data nor its EDC is that of the copy, as in an empty or lost sector.
  * @template {Copy} C
  * @typedef {{ copy: C, isDisputed: boolean, isDoubtful: boolean }} Replacement
  */
@@ -42,8 +42,7 @@ export function replacementOf(calls, address, own, copies) {
     if (fitting.length === 0) return null;
     const { copy, fit } = fitting.reduce((best, it) => it.fit > best.fit ? it : best);
     const isDisputed = possible.some(({ bytes }) => !sameBytes(copy.bytes, bytes));
-    const isLost = own.state !== STATE.UNTESTED && isFilledAfterHeader(own.bytes);
-    return { copy, isDisputed, isDoubtful: fit === FIT.NEITHER && (isDisputed || !isLost) };
+    return { copy, isDisputed, isDoubtful: fit === FIT.NEITHER };
 }
 
 /**

@@ -93,7 +93,7 @@ export class SecondRepair extends PairJob {
      */
     buttons(image, { repair, pieces, unrepaired }) {
         if (blocksIn(repair.taken) === 0) return null;
-        const save = () => void this.saver.save(pieces, blocksIn(repair.taken), unrepaired, this.app.second);
+        const save = () => void this.saver.save(pieces, blocksIn(repair.taken), unrepaired, this.app.second, repair.doubtful);
         this.without.show(image, pieces);
         return element('div', { class: 'stack' }, this.without.part,
             element('div', { class: 'row' }, button('main', save, texts.secondSaveRepaired)));

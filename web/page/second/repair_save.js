@@ -9,7 +9,7 @@ import * as texts from '../texts/index.js';
 import { format, playerTexts, say } from '../texts/index.js';
 import { button, element, fill, hashParts, megabytes, messageOf, nameOf, notice } from '../ui/index.js';
 
-/** @typedef {{ words: string, tone: 'good' | 'warn' }} Done what was repaired, and a warning if sectors are still damaged */
+/** @typedef {{ words: string, tone: 'good' | 'warn' }} Done what was repaired, and a warning if sectors are damaged or copies not confirmed */
 /** @typedef {import('../app/state.js').App} App */
 /** @typedef {import('../app/state.js').Image} Image */
 /** @typedef {import('../app/hub.js').RunningJob} RunningJob */
@@ -45,8 +45,9 @@ export class RepairSaver {
      * @param {number} repaired the number of repaired sectors
      * @param {Run[]} unrepaired
      * @param {Image | null} [second] from which sectors were copied
+     * @param {Run[]} [doubtful] copied sectors that nothing confirms
      */
-    async save(pieces, repaired, unrepaired, second = null) {
+    async save(pieces, repaired, unrepaired, second = null, doubtful = []) {
         const { app, place, app: { image } } = this;
         if (image === null) return;
         const { size } = image.reader;
@@ -65,7 +66,7 @@ export class RepairSaver {
                 app.noteSaved(image, saved.name);
                 if (!saved.streamed) this.kept = app.beginJob({ name: saved.name, isLost: true });
                 const hash = saved.file && hashOf(app, saved.file, size, this.id, ends);
-                return fill(place, ...this.savedWords(saved, image, await oneTrack, doneWords(repaired, unrepaired), hash));
+                return fill(place, ...this.savedWords(saved, image, await oneTrack, doneWords(repaired, unrepaired, doubtful), hash));
             },
             failed: error => fill(place, failureOfSaving(error, size)),
         });
@@ -122,14 +123,16 @@ function hashOf(app, file, size, id, signal) {
 }
 
 /**
- * Says how many sectors were repaired, and which are still damaged.
+ * Says how many sectors were repaired, which are still damaged, and which copies nothing confirms.
  * @param {number} repaired
  * @param {Run[]} unrepaired
+ * @param {Run[]} doubtful
  * @returns {Done}
  */
-function doneWords(repaired, unrepaired) {
-    const left = blocksIn(unrepaired);
-    const still = left === 0 ? texts.secondNoneStillDamaged
-        : format(texts.secondStillDamaged, { n: left, blocks: blocksText(unrepaired, MOST_RUNS_NAMED) });
-    return { words: `${format(texts.secondSectorsRepaired, { n: repaired })} ${still}`, tone: left === 0 ? 'good' : 'warn' };
+function doneWords(repaired, unrepaired, doubtful) {
+    const listed = (/** @type {string} */ text, /** @type {Run[]} */ runs) =>
+        runs.length === 0 ? [] : [format(text, { n: blocksIn(runs), blocks: blocksText(runs, MOST_RUNS_NAMED) })];
+    const left = [...listed(texts.secondStillDamaged, unrepaired), ...listed(texts.secondNotConfirmed, doubtful)];
+    const words = [format(texts.secondSectorsRepaired, { n: repaired }), ...left.length > 0 ? left : [texts.secondNoneStillDamaged]];
+    return { words: words.join(' '), tone: left.length === 0 ? 'good' : 'warn' };
 }

@@ -1088,7 +1088,8 @@ export const secondSectorsDifferOf =
     '{n} of {all} sectors differs between the two images.|{n} of {all} sectors differ between the two images.';
 export const secondNoneSoundThere = 'None of the sectors damaged here has a sound copy with the right address there.';
 export const secondOtherDataHere =
-    '{n} sector has different data and a different EDC here.|{n} sectors have different data and a different EDC here.';
+    'Nothing confirms the copy of {n} sector, whose data and EDC are different here.|' +
+    'Nothing confirms the copies of {n} sectors, whose data and EDC are different here.';
 export const secondLookAtThemFirst = 'Perhaps the second image is another release of the disc: look at {blocks} first.';
 export const secondSoundInBoth = '{n} sector is sound in both, and differs.|{n} sectors are sound in both, and differ.';
 export const secondNotTestedDiffer = '{n} sector was not tested, and differs.|{n} sectors were not tested, and differ.';
@@ -1137,6 +1138,7 @@ export const secondSomeOfBlocks = '{n} of these blocks';
 export const secondSectorsRepaired = '{n} sector repaired.|{n} sectors repaired.';
 export const secondStillDamaged = '{n} is still damaged: {blocks}.|{n} are still damaged: {blocks}.';
 export const secondNoneStillDamaged = 'None is damaged any more.';
+export const secondNotConfirmed = 'Nothing confirms the copy of {n} sector: {blocks}.|Nothing confirms the copies of {n} sectors: {blocks}.';
 export const secondOthersAsBefore = 'All sectors that were not repaired are as before.';
 
 // comparison
