@@ -225,12 +225,14 @@ test('a repair takes sound sectors only, of the first image that has one', () =>
         first: withTail(damaged(good, 30, [40, 17], [50, 77])), second: withTail(damaged(good, 30, [50, 2300], [60, 100])),
     });
     const { status, out, errors } = await run(['merge', 'old', 'first', 'second', 'out'], { cwd: room });
-    assert.deepEqual([status, errors], [1, '']);
+    assert.deepEqual([status, errors], [1, 'cdscript: out: the last sector is cut\n']);
     assert.equal(out, '31-31 from first\n40-40 from second\n41-41 from first\n50-50 damaged, without a sound copy\ntaken 3 damaged 1 disputed 0 different 0\n');
     sameFile(read(room, 'out'), withTail(damaged(good, 30, [50, 1000])), 'the repaired image');
-    write(room, { sound: withTail(good) });
-    assert.equal((await run(['merge', 'old', 'sound', 'whole'], { cwd: room })).status, 0);
+    write(room, { sound: withTail(good), plain: damaged(good, 30, [31, 500]), good });
+    const whole = await run(['merge', 'old', 'sound', 'whole', '--json'], { cwd: room });
+    assert.deepEqual([whole.status, whole.errors, JSON.parse(whole.out).tail], [1, 'cdscript: whole: the last sector is cut\n', tail.length]);
     sameFile(read(room, 'whole'), withTail(good), 'the repaired image');
+    assert.deepEqual([(await run(['merge', 'plain', 'good', 'all'], { cwd: room })).status, read(room, 'all')], [0, good]);
 }));
 
 test('a repair takes what the EDC of the damaged sector fits, and names what it fits nowhere', () => inDirectory(async room => {

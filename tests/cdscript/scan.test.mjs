@@ -352,7 +352,7 @@ test('info and merge say whether a dump is known', () => inDirectory(async room 
     assert.deepEqual([merged.status, merged.errors], [0, 'cdscript: out: verified The Game (Japan).bin\n']);
     sameFile(read(room, 'out'), image, 'the repaired image');
     const other = await run(['merge', 'a.bin', 'b.bin', 'new', '--dat', 'one.dat'], { cwd: room });
-    assert.deepEqual([other.status, other.errors], [0, `cdscript: new: ${NOT_EVEN_SIZE}; its SHA-1 is ${shaOf(image)}\n`]);
+    assert.deepEqual([other.status, other.errors], [1, `cdscript: new: ${NOT_EVEN_SIZE}; its SHA-1 is ${shaOf(image)}\n`]);
     const hurt = damaged(image, 0, [3, 100]);
     const same = await run(['merge', 'a.bin', 'a.bin', 'same', ...dats], { cwd: room });
     assert.deepEqual([same.status, same.errors], [1, `cdscript: same: ${ONLY_SIZE}; its SHA-1 is ${shaOf(hurt)}\n`]);
@@ -463,7 +463,7 @@ test('the status and the last line say what a DAT knows', () => inDirectory(asyn
     assert.deepEqual(await info('a.bin', '--dat', 'none.dat'), [1, NOT_EVEN_SIZE, counts(0, 0, 1)]);
     assert.deepEqual(await info('a.bin', '--dat', 'bad.dat'), [1, 'known as a bad dump: Bad.bin', counts(0, 1, 0)]);
     assert.deepEqual(await info('g.iso', '--dat', 'two.dat'), [0, 'verified I.iso', counts(1, 0, 0)]);
-    for (const [dat, due] of [['bad.dat', 1], ['none.dat', 0], ['two.dat', 0]]) {
+    for (const [dat, due] of [['bad.dat', 1], ['none.dat', 1], ['two.dat', 0]]) {
         assert.equal((await run(['merge', 'b.bin', 'a.bin', `out ${dat}`, '--dat', dat], { cwd: room })).status, due, dat);
     }
 }));

@@ -52,6 +52,20 @@ test('info and scan give the verdict of the table', () => inDirectory(async room
     for (const name of others) assert.equal((await run(['info', name], { cwd: room })).status, 1, name);
 }));
 
+test('merge gives the verdict of info on an image that ends too early', () => inDirectory(async room => {
+    spawnSync('python3', ['-B', join(top, 'tests/lib/verdict_images.py'), room]);
+    for (const [name, due, short, tail] of [['short.bin', '40 blocks of the volume are missing at the end', 40, 0], ['short.cue', '40 blocks of the volume are missing at the end', 40, 0],
+        ['cut.bin', '1 block of the volume is missing at the end; the last sector is cut', 1, 1352], ['sound.bin', '', 0, 0]]) {
+        for (const words of [[name, '--parity'], [name, 'sound.bin']]) {
+            const { status, out, errors } = await run(['merge', ...words, `${words.join()}.out`, '--json'], { cwd: room });
+            const said = errors.split('\n').filter(line => line.startsWith(`cdscript: ${words.join()}.out: `));
+            assert.deepEqual([status, said], [due === '' ? 0 : 1, due === '' ? [] : [`cdscript: ${words.join()}.out: ${due}`]], words.join());
+            const object = JSON.parse(out);
+            assert.deepEqual([object.short, object.tail], [short, tail], words.join());
+        }
+    }
+}));
+
 test('info of one track has the verdict on its file, whichever track that is', () => inDirectory(async room => {
     spawnSync('python3', ['-B', join(top, 'tests/lib/verdict_images.py'), room]);
     const tracks = [['MODE1/2352', '00:00:00'], ['MODE1/2352', '00:04:30']].map(([type, at], i) =>

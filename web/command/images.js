@@ -4,8 +4,8 @@ import { bytesOfLines } from '../core/bytes.js';
 import { kindOfFile } from '../core/disc/views.js';
 import { USER_SIZE, kindName } from '../core/module/index.js';
 import { blocksIn } from '../core/sectors/views.js';
-import { CONVERTIBLE, convertToRaw, extractFile, isConvertible, passUser, repairTrack } from '../core/tasks/index.js';
-import { blocksText, ownFault, sentenceOf } from '../sentences/index.js';
+import { CONVERTIBLE, convertToRaw, extractFile, isConvertible, passUser, repairTrack, verdictOfRepair } from '../core/tasks/index.js';
+import { blocksText, ownFault, sentenceOf, verdictText } from '../sentences/index.js';
 import { ALL_HASHES, RunningHashes, sayKnown } from './hashes.js';
 import { jsonLine, mergeObject } from './json_lines.js';
 import { entriesAtPath } from './looking.js';
@@ -154,11 +154,12 @@ export async function mergeJob(job) {
     await job.output.write(job.options.json && made.hashes ? jsonLine(mergeObject({ ...made, hashes: made.hashes }, known, repair, others))
         : bytesOfLines(repairLines(repair, others).map(visible)));
     untestedTexts(untested, opened.disc.sheet !== null).forEach(text => job.say(text));
-    const dump = known && made.hashes && sayKnown(job, known, made.name, made.size, made.hashes);
+    const dump = known && made.hashes ? sayKnown(job, known, made.name, made.size, made.hashes) : undefined;
     sayOfRuns(job, doubtful, it => `${blocksText([it])}: copied from ${others[it.other].name}, but ${name} ${NOT_CONFIRMED}`);
     if (doubtful.length > 0 && !job.options.parity) job.say(TRY_PARITY);
-    if (dump) return Number(dump.isBad);
-    return Number([repair.damaged, doubtful, repair.wrongAddress, repair.lost, repair.unlike].some(runs => runs.length > 0));
+    const verdict = verdictOfRepair(repair, dump);
+    if (verdict.findings.length > 0) job.say(`${out.name}: ${verdictText(verdict)}`);
+    return verdict.status;
 }
 
 /**

@@ -99,14 +99,15 @@ export function missingObject({ number, type, block, fileName }) {
  * @param {{ name: string }[]} others
  */
 export function mergeObject(out, known, repair, others) {
-    const { sectors, taken, corrected, doubtful, damaged, alike, disputed, wrongAddress, different, differing, lost, untested, unlike } =
-        repair;
+    const { sectors, tail, lack, taken, corrected, doubtful, damaged, alike, disputed, wrongAddress, different, differing, lost, untested,
+        unlike } = repair;
     const named = (/** @type {(BlockRun & { other: number })[]} */ runs) =>
         runs.map(({ first, last, other }) => [first, last, others[other].name]);
     const audio = (/** @type {KindRun[]} */ runs) => blocksIn(runs.filter(({ kind }) => kind === SECTOR_KIND.NOSYNC));
     const unequal = differing.flatMap((runs, other) => runs.map(run => ({ ...run, other })));
     return {
-        ...hashKeys(out, known), sectors, taken: blocksIn(taken), corrected: blocksIn(corrected), doubtful: blocksIn(doubtful),
+        ...hashKeys(out, known), sectors, tail, short: lack ? blocksIn([lack.missing]) : 0,
+        taken: blocksIn(taken), corrected: blocksIn(corrected), doubtful: blocksIn(doubtful),
         damaged: blocksIn(damaged), alike: blocksIn(alike), lost: blocksIn(lost), disputed: blocksIn(disputed),
         wrongAddress: blocksIn(wrongAddress), different: different.reduce((sum, it) => sum + it, 0),
         untested: blocksIn(untested), untestedDifferent: blocksIn(unlike), audio: audio(untested), audioDifferent: audio(unlike),

@@ -31,4 +31,4 @@ export { assertBase, validScript } from './script_for.js';
 export { NewTexts, exportTable, exportedPieces, importRows, importTable, leftTable, listTexts, newTextsOf, roomInTrack } from './table.js';
 export { textLines } from './text_ranges.js';
 export { undoScript } from './undo.js';
-export { verdictOf } from './verdict.js';
+export { verdictOf, verdictOfRepair } from './verdict.js';

@@ -185,6 +185,15 @@ export async function foundInSurvey({ image, part, isAlone, sheetTracks: tracks 
 }
 
 /**
+ * The blocks of its volume that the image of a track lacks at the end, null if none, and the number of bytes after the file's last whole
+ * sector. Throws what the reader throws.
+ * @param {import('./opened.js').OpenedTrack} opened
+ */
+export async function endOfImage({ disc, track: { file }, image, part }) {
+    return { lack: await lackOf(image, part, hasOneTrack(disc)), tail: tailOf(disc, file) };
+}
+
+/**
  * How many blocks later the sectors of a track are by their addresses, if its file counts them from block `base` on.
  * @param {SurveyedTrack} track
  * @param {number} base

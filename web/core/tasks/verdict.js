@@ -35,6 +35,30 @@ const DOUBTS = ['untested', 'unread', 'address'];
 const NEEDS_A_TEST = ['untested', 'unread'];
 
 /**
+ * How many blocks of its volume an image surely lacks at the end.
+ * @param {SurveyFound['lack']} lack
+ */
+function blocksShort(lack) {
+    return lack !== null && lack.isSure ? blocksIn([lack.missing]) : 0;
+}
+
+/**
+ * The verdict on a repaired image. Its findings are those at the end of the image, which no repair changes; its status also counts what is
+ * left or not confirmed. A DAT that has the image decides alone.
+ * @param {Pick<import('./repair.js').Repair, 'damaged' | 'doubtful' | 'wrongAddress' | 'lost' | 'unlike' | 'lack' | 'tail'>} repair
+ * @param {{ isBad: boolean } | null} [dump] that the DAT has of the image, null if it has none; undefined without a DAT
+ * @returns {Verdict}
+ */
+export function verdictOfRepair({ damaged, doubtful, wrongAddress, lost, unlike, lack, tail }, dump) {
+    const short = blocksShort(lack);
+    const counts = /** @type {[FindingCode, number][]} */ ([['short', short], ['cut', Number(tail > 0)]]);
+    const findings = counts.filter(([, count]) => count > 0).map(([code, count]) => ({ code, count, bytes: [], gaps: [] }));
+    const isLeft = [damaged, doubtful, wrongAddress, lost, unlike, findings].some(it => it.length > 0);
+    const status = dump ? dump.isBad : dump === null || isLeft;
+    return { ...judged(findings, { tested: 0, without: 0 }, findings.length), status: status ? 1 : 0 };
+}
+
+/**
  * The verdict on a file.
  * @param {{ surveys: SurveyFound[], tail: number, missing?: number, unread?: number }} found the surveys of the file, the bytes after its
  *     last sector, and how many of its tracks are missing or were not read
@@ -46,7 +70,7 @@ export function verdictOf({ surveys, tail, missing = 0, unread = 0 }) {
     const counts = {
         damaged: sum(it => it.damaged + it.mode2.damaged),
         lost: sum(it => blocksIn(it.lost)),
-        short: sum(({ lack }) => lack !== null && lack.isSure ? blocksIn([lack.missing]) : 0),
+        short: sum(({ lack }) => blocksShort(lack)),
         cut: Number(tail > 0),
         gap: sum(it => it.gaps.length),
         missing,
