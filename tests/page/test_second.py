@@ -198,14 +198,15 @@ class Second(PageTest):
     def test_another_disc_is_not_taken_for_a_dump_of_the_same(self) -> None:
         other = b''.join(sector(block, b'%d other' % block) for block in range(SECTORS - 30)) + AUDIO
         self.pair(with_faults((40, 9)), other)
-        self.browser.wait('#second-body .say.bad', 'not dumps of the same disc')
+        self.browser.wait('#second-body .say.bad', 'One of the images is patched, shifted, or of a different disc or release.')
         self.browser.wait('#second-body .say.bad', f'30 of {SECTORS} sectors are the same in both. {SECTORS - 31} sectors are sound in both and differ')
         self.assertFalse(self.browser.run(f'return Boolean({BUTTON})', 'Save repaired image'))
 
-    def test_an_image_of_which_most_is_the_same_may_be_another_release(self) -> None:
+    def test_an_image_of_which_most_is_the_same_may_be_patched_or_another_release(self) -> None:
         second = with_faults()[:-40 * SECTOR_SIZE] + b''.join(sector(block, b'%d other' % block) for block in range(SECTORS - 40, SECTORS - 30)) + AUDIO
         self.pair(with_faults((40, 9)), second)
-        said = f'{SECTORS - 11} of {SECTORS} sectors are the same in both: it may be another release. 10 sectors are sound in both and differ'
+        self.browser.wait('#second-body .say.bad', text('secondPatchedOrOther'))
+        said = f'{SECTORS - 11} of {SECTORS} sectors are the same in both. 10 sectors are sound in both and differ'
         self.browser.wait('#second-body .say.bad', said)
 
     def sees_what_differs(self, first: bytes, second: bytes, block: int) -> None:
@@ -391,6 +392,20 @@ class Second(PageTest):
         self.browser.answer('Open it instead')
         self.browser.wait('#disc-line .name', 'more.bin')
         self.assertFalse(self.browser.run("return document.querySelector('#second-title').checkVisibility()"))
+
+    def test_of_a_cut_image_it_is_said_that_the_other_dump_has_the_missing_blocks(self) -> None:
+        game, end = discs.game(), SECTORS - 30
+        cut = game[:-20 * SECTOR_SIZE - 1000]
+        self.open_two(cut, game)
+        self.browser.answer('Repair the open game.bin with this file')
+        self.browser.wait('#second-body .say.warn', 'the last sector is cut.')
+        self.browser.wait('#second-body .say.warn', f'Only other.bin has blocks {end - 21} to {end - 1}. To include them, repair it from this image.')
+        self.browser.wait('#second-body .say.plain', 'No damaged sector was found in game.bin.')
+        mains = self.browser.run('return [...document.querySelectorAll("#second-body .main")].map(it => it.innerText)')
+        self.assertEqual(mains, ['Repair other.bin from game.bin'])
+        self.browser.click('#second-body .main')
+        self.browser.wait('#second-title', 'game.bin')
+        self.browser.wait('#second-body .say.plain', f'The second image does not have blocks {end - 21} to {end - 1}.')
 
     def test_a_dump_that_begins_and_ends_elsewhere_repairs_what_it_has(self) -> None:
         end = SECTORS - 30 - 20

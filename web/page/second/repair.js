@@ -68,22 +68,25 @@ export class SecondRepair extends PairJob {
         const { repair, unrepaired } = found;
         this.marks = repair.refused ? null : repairMarks(survey.marks, repair.taken, unrepaired);
         const words = repair.refused ? [refusedWords(repair, repair.refused, image)]
-            : [...foundWords(repair, unrepaired, image, this.otherJobs(image, second, unrepaired)), this.buttons(image, found), this.place];
+            : [...foundWords(repair, unrepaired, image, second, this.otherJobs(image, second, found)), this.buttons(image, found),
+                this.place];
         fill(this.body, ...words);
         this.changed();
     }
 
     /**
-     * The buttons that compare the images, if the open one has no damage, and that repair the second image from the open one.
+     * The buttons that compare the images, if the open one has no damage, and that repair the second image from the open one. The latter is
+     * the main button if only the second image has some blocks, and nothing is repaired.
      * @param {Image} image
      * @param {Image} second
-     * @param {Run[]} unrepaired
+     * @param {Found} found
      */
-    otherJobs(image, second, unrepaired) {
+    otherJobs(image, second, { repair, unrepaired }) {
+        const isBest = repair.ranges[0].beyond.length > 0 && repair.taken.length === 0;
         const label = element('span', {}, ...say(texts.openRepairOtherFrom, { name: nameOf(second.name), other: nameOf(image.name) }));
         return [unrepaired.length === 0 && isSameRange(image, second) &&
             button('main', () => this.app.setSecond(second, 'compare'), texts.openCompareIt),
-        button('away', () => !refuseWhileSaving(this.app, [second.name]) && swapImages(this.app, second), label)];
+        button(isBest ? 'main' : 'away', () => !refuseWhileSaving(this.app, [second.name]) && swapImages(this.app, second), label)];
     }
 
     /**

@@ -9,7 +9,7 @@ import * as texts from '../texts/index.js';
 import { format, playerTexts, say } from '../texts/index.js';
 import { button, element, fill, hashParts, megabytes, messageOf, nameOf, notice } from '../ui/index.js';
 
-/** @typedef {{ words: string, tone: 'good' | 'warn' }} Done what was repaired, and a warning if sectors are damaged or copies not confirmed */
+/** @typedef {{ words: string, tone: 'good' | 'warn' }} Done what was repaired, a warning if not all sectors are sound and confirmed */
 /** @typedef {import('../app/state.js').App} App */
 /** @typedef {import('../app/state.js').Image} Image */
 /** @typedef {import('../app/hub.js').RunningJob} RunningJob */

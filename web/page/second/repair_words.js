@@ -1,10 +1,11 @@
 // The texts about a repair: how many sectors it repairs and how many stay damaged, or why it is refused.
 
 import { blocksIn } from '../../core/sectors/views.js';
-import { blocksText } from '../../sentences/index.js';
+import { verdictOfRepair } from '../../core/tasks/index.js';
+import { blocksText, verdictText } from '../../sentences/index.js';
 import * as texts from '../texts/index.js';
 import { format, say } from '../texts/index.js';
-import { countsRow, element, nameOf, notice } from '../ui/index.js';
+import { capital, countsRow, element, nameOf, notice } from '../ui/index.js';
 
 /** @typedef {import('../app/state.js').Image} Image */
 /** @typedef {import('../../core/sectors/runs.js').Run} Run */
@@ -25,10 +26,10 @@ export function refusedWords({ same: [n] }, refused, { name }) {
     if (refused.why === 'apart') return notice('bad', say(texts.openIsAnotherPart, { name: nameOf(name) }));
     if (refused.shift !== null) return shiftedWords(refused.shift, name);
     const { sound, untested, common: all } = refused;
-    const same = format(2 * n > all ? texts.secondMostAreSame : texts.secondSomeAreSame, { n, all });
+    const same = format(texts.secondSomeAreSame, { n, all });
     const sectors = [sound > 0 && format(texts.secondSoundAndDiffer, { n: sound }),
         untested > 0 && format(texts.secondUntestedAndDiffer, { n: untested })].filter(Boolean).join(', ');
-    return notice('bad', texts.secondNotTheSameDisc, `${same} `, format(texts.secondTooManyDiffer, { sectors }));
+    return notice('bad', texts.secondPatchedOrOther, `${same} `, format(texts.secondTooManyDiffer, { sectors }));
 }
 
 /**
@@ -51,12 +52,31 @@ function shiftedWords({ by, first, isOther }, name) {
  * @param {Image} image
  * @param {Child[]} otherJobs the buttons of the jobs that are offered instead
  */
-function nothingWords({ same: [same], ranges: [{ common }] }, damaged, { name }, otherJobs) {
+function nothingWords(repair, damaged, { name }, otherJobs) {
+    const { same: [same], ranges: [{ common, beyond }] } = repair;
     const row = element('div', { class: 'row' }, ...otherJobs);
     if (damaged > 0) return notice('plain', texts.secondRepairsNothing, texts.secondNoneSoundThere, row);
     const all = blocksIn(common);
-    return notice(same < all ? 'warn' : 'plain', say(texts.secondNothingToRepair, { name: nameOf(name) }),
+    const isWhole = beyond.length === 0 && verdictOfRepair(repair).findings.length === 0;
+    return notice(same < all ? 'warn' : 'plain',
+        say(isWhole ? texts.secondNothingToRepair : texts.secondNoDamagedSector, { name: nameOf(name) }),
         format(texts.secondSectorsDifferOf, { n: all - same, all }), row);
+}
+
+/**
+ * Says what the open image lacks at its end, which a repair does not change, and which blocks only the second image has.
+ * @param {Repair} repair
+ * @param {Image} second
+ * @param {Child[]} otherJobs the buttons of the jobs that are offered to include these blocks
+ */
+function endWords(repair, { name }, otherJobs) {
+    const { ranges: [{ beyond }] } = repair;
+    const verdict = verdictOfRepair(repair);
+    const lacks = verdict.findings.length > 0 && `${capital(verdictText(verdict))}.`;
+    if (beyond.length === 0) return lacks && notice('warn', lacks, texts.secondEndStays);
+    const only = element('span', {}, ...say(texts.secondOnlySecondHas, { name: nameOf(name), blocks: blocksText(beyond) }));
+    const row = element('div', { class: 'row' }, ...otherJobs);
+    return lacks ? notice('warn', lacks, only, row) : notice('plain', only, row);
 }
 
 /**
@@ -64,17 +84,20 @@ function nothingWords({ same: [same], ranges: [{ common }] }, damaged, { name },
  * @param {Repair} repair
  * @param {Run[]} unrepaired
  * @param {Image} image
- * @param {Child[]} otherJobs the buttons of the jobs that are offered if nothing is repaired
+ * @param {Image} second
+ * @param {Child[]} otherJobs the buttons of the jobs that are offered if nothing is repaired, or if the second image has more blocks
  * @returns {Child[]}
  */
-export function foundWords(repair, unrepaired, image, otherJobs) {
-    const { doubtful, unlike, different: [different], tails: [tail], ranges: [{ missing }] } = repair;
+export function foundWords(repair, unrepaired, image, second, otherJobs) {
+    const { doubtful, unlike, different: [different], tails: [tail], ranges: [{ missing, beyond }] } = repair;
+    const isLonger = beyond.length > 0;
     const [taken, damaged] = [repair.taken, unrepaired].map(blocksIn);
     const tally = countsRow([[taken, texts.secondCanBeRepaired, taken > 0 ? 'good-ink' : ''],
         [damaged, texts.secondHaveNoCopy, damaged > 0 ? 'bad-ink' : ''], [different, texts.secondSoundButDifferent, '']]);
     return [tally,
         missing.length > 0 && notice('plain', format(texts.secondDumpLacksBlocks, { blocks: blocksText(missing) }), texts.secondTheseStay),
-        taken === 0 && nothingWords(repair, damaged, image, otherJobs),
+        endWords(repair, second, isLonger ? otherJobs : []),
+        taken === 0 && nothingWords(repair, damaged, image, isLonger ? [] : otherJobs),
         doubtful.length > 0 && notice('warn', format(texts.secondOtherDataHere, { n: blocksIn(doubtful) }),
             format(texts.secondLookAtThemFirst, { blocks: blocksText(doubtful, MOST_RUNS_NAMED) })),
         different > 0 && notice('warn', format(texts.secondSoundInBoth, { n: different }), texts.secondPerhapsAnotherRelease),

@@ -1084,6 +1084,9 @@ export const secondDumpLacksBlocks = 'The second image does not have {blocks}.';
 export const secondTheseStay = 'These stay as they are here.';
 export const secondRepairsNothing = 'This dump cannot repair anything here.';
 export const secondNothingToRepair = 'No damage was found in {name}, so there is nothing to repair.';
+export const secondNoDamagedSector = 'No damaged sector was found in {name}.';
+export const secondEndStays = 'A repair does not change this.';
+export const secondOnlySecondHas = 'Only {name} has {blocks}. To include them, repair it from this image.';
 export const secondSectorsDifferOf =
     '{n} of {all} sectors differs between the two images.|{n} of {all} sectors differ between the two images.';
 export const secondNoneSoundThere = 'None of the sectors damaged here has a sound copy with the right address there.';
@@ -1109,8 +1112,7 @@ export const secondImageItself = 'The second image';
 export const secondAddressesSaySo = 'Its addresses show it: {why}. Nothing was copied.';
 export const secondMissingBefore = '{n} sector before it is missing|{n} sectors before it are missing';
 export const secondTooManyBefore = '{n} sector before it is too many|{n} sectors before it are too many';
-export const secondNotTheSameDisc = 'These are not dumps of the same disc.';
-export const secondMostAreSame = '{n} of {all} sectors are the same in both: it may be another release.';
+export const secondPatchedOrOther = 'One of the images is patched, shifted, or of a different disc or release.';
 export const secondSomeAreSame = '{n} of {all} sectors are the same in both.';
 export const secondTooManyDiffer = '{sectors}: more than one in a hundred. Nothing was copied.';
 export const secondSoundAndDiffer = '{n} sector is sound in both and differs|{n} sectors are sound in both and differ';
@@ -1138,7 +1140,8 @@ export const secondSomeOfBlocks = '{n} of these blocks';
 export const secondSectorsRepaired = '{n} sector repaired.|{n} sectors repaired.';
 export const secondStillDamaged = '{n} is still damaged: {blocks}.|{n} are still damaged: {blocks}.';
 export const secondNoneStillDamaged = 'None is damaged any more.';
-export const secondNotConfirmed = 'Nothing confirms the copy of {n} sector: {blocks}.|Nothing confirms the copies of {n} sectors: {blocks}.';
+export const secondNotConfirmed =
+    'Nothing confirms the copy of {n} sector: {blocks}.|Nothing confirms the copies of {n} sectors: {blocks}.';
 export const secondOthersAsBefore = 'All sectors that were not repaired are as before.';
 
 // comparison
