@@ -46,6 +46,7 @@ test('info and scan give the verdict of the table', () => inDirectory(async room
         assert.deepEqual(objects(scan.out).map(it => it.verdict), files.filter(it => it.kind !== 'missing').map(it => it.verdict), name);
         for (const code of Object.keys(due)) assert.match(text.out.split('\n').filter(line => line.startsWith('verdict')).join(), SAYS[code], name);
     }
+    assert.match((await run(['info', 'twice-start.bin'], { cwd: room })).out, /^verdict: 3 extra sectors are before block 3$/m);
     const withBase = async name => run(['info', '--base', '100', name], { cwd: room });
     assert.doesNotMatch((await withBase('sound.bin')).out, SAYS.gap, 'a wrong base is not a gap');
     assert.match((await withBase('hole.bin')).out, SAYS.gap, 'a gap is found with a wrong base');

@@ -127,7 +127,7 @@ test('each track of one file is judged by the addresses of its own, whichever is
         const base = track === 1 ? 0 : BASE;
         assert.deepEqual(kinds(await foundWith(sound, { track })), []);
         const surveys = await foundWith(hurt, { track });
-        const gaps = [{ first: 400 + base, last: 499 + base, by: 10 }];
+        const gaps = [{ first: 400 + base, last: 499 + base, by: 10, isAtStart: false }];
         assert.deepEqual(kinds(surveys), [['lost', 1, gaps], ['gap', 1, gaps], ['address', 101, gaps]]);
         assert.deepEqual(surveys.map(({ lost, survey: { block } }) => [block, lost.map(({ first, last }) => [first, last])]),
             [[base, []], [300 + base, [[320 + base, 320 + base]]]]);

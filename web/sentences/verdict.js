@@ -20,11 +20,12 @@ function are(count) {
 }
 
 /** @param {Finding} finding */
-function gapClause({ count, gaps: [{ first, by }] }) {
+function gapClause({ count, gaps: [{ first, last, by, isAtStart }] }) {
     if (count > 1) return `sectors are missing or extra in ${count} places`;
     const sectors = Math.abs(by);
-    if (by < 0) return `${counted(sectors, 'extra sector')} ${are(sectors)} before block ${first}`;
-    return `${counted(sectors, 'sector')} ${are(sectors)} missing before block ${first}`;
+    const block = isAtStart ? last + 1 : first;
+    if (by < 0 !== isAtStart) return `${counted(sectors, 'extra sector')} ${are(sectors)} before block ${block}`;
+    return `${counted(sectors, 'sector')} ${are(sectors)} missing before block ${block}`;
 }
 
 /** @param {Finding} finding */

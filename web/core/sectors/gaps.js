@@ -5,18 +5,24 @@ import { MODE2, isTestedMode2 } from './mode2.js';
 
 /** @typedef {import('./runs.js').Run} Run */
 /** @typedef {import('./survey.js').MovedRun} MovedRun */
+/**
+ * A run with the addresses of the blocks that are `by` later. The place of the gap is before it, or, if `isAtStart`, after it, since no
+ * sector before it has the address of its block: then the sectors are missing if `by` is below 0, or else extra.
+ * @typedef {MovedRun & { isAtStart: boolean }} Gap
+ */
 
 /**
  * The runs of at least two sectors with the addresses of the blocks that are `by` later: that many sectors are missing before the run, or,
  * if `by` is below 0, extra. Sectors without an address of their own may lie between. A single sector with a wrong address is not a gap:
  * some discs have one on purpose. If no sector has the address of its block, the base is wrong, and gaps are counted from the first run.
+ * Before a run at the start of the image nothing is missing: the gap is where it ends.
  * @param {{ block: number, records: Uint8Array, moved: MovedRun[] }} survey
  * @param {Uint8Array} mode2 the settled findings in its Mode 2 sectors
  */
 export function gapsIn({ block, records, moved }, mode2) {
     const isBaseWrong = moved.length > 0 && !isHomeIn(records, mode2, 0, records.length / RECORD_SIZE);
     const shift = isBaseWrong ? moved[0].by : 0;
-    /** @type {(MovedRun & { sectors: number })[]} */
+    /** @type {(Gap & { sectors: number })[]} */
     const gaps = [];
     for (const { first, last, by } of moved) {
         const before = gaps[gaps.length - 1];
@@ -25,10 +31,11 @@ export function gapsIn({ block, records, moved }, mode2) {
             before.last = last;
             before.sectors += sectors;
         } else {
-            gaps.push({ first, last, by: by - shift, sectors });
+            const isAtStart = gaps.length === 0 && !isBaseWrong && !isHomeIn(records, mode2, 0, first - block);
+            gaps.push({ first, last, by: by - shift, isAtStart, sectors });
         }
     }
-    return gaps.filter(it => it.sectors > 1 && it.by !== 0).map(({ first, last, by }) => ({ first, last, by }));
+    return gaps.filter(it => it.sectors > 1 && it.by !== 0).map(({ sectors: _, ...gap }) => gap);
 }
 
 /**

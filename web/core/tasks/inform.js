@@ -15,7 +15,7 @@ import { addressShift } from './common_part.js';
 /** @typedef {import('../disc/volume_end.js').Lack} Lack */
 /** @typedef {import('../sectors/runs.js').Run} Run */
 /** @typedef {import('../sectors/survey.js').FilledRun} FilledRun */
-/** @typedef {import('../sectors/survey.js').MovedRun} MovedRun */
+/** @typedef {import('../sectors/gaps.js').Gap} Gap */
 /** @typedef {import('../sectors/survey.js').RangeSurvey} RangeSurvey */
 /** @typedef {import('../sectors/survey.js').Survey} Survey */
 /** @typedef {Pick<import('./opened.js').OpenedTrack, 'disc' | 'track' | 'image' | 'part'>} Opened */
@@ -33,7 +33,7 @@ import { addressShift } from './common_part.js';
  * lost or not tested, and the bytes that fill all lost ones (`fillers`); the blocks of its volume that it lacks; and the places before
  * which sectors are missing or extra.
  * @typedef {ReturnType<typeof surveyCounts> & { survey: Survey, mode2: ReturnType<typeof mode2Counts>, mode2Found: Uint8Array,
- *     unproven: number, fillers: number[], lack: Lack | null, gaps: MovedRun[] } & Lost} Found
+ *     unproven: number, fillers: number[], lack: Lack | null, gaps: Gap[] } & Lost} Found
  */
 
 /**

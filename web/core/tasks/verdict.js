@@ -3,7 +3,7 @@
 import { SECTOR_KIND } from '../module/index.js';
 import { blocksIn } from '../sectors/index.js';
 
-/** @typedef {import('../sectors/survey.js').MovedRun} MovedRun */
+/** @typedef {import('../sectors/gaps.js').Gap} Gap */
 /**
  * @typedef {Pick<import('./inform.js').Found, 'mode1' | 'damaged' | 'elsewhere' | 'wrong' | 'mode2' | 'unproven' | 'lost' | 'fillers' |
  *     'untested' | 'lack' | 'gaps'>} SurveyFound
@@ -18,7 +18,7 @@ import { blocksIn } from '../sectors/index.js';
 /**
  * A kind of finding, and how often it occurs. `bytes` fill lost sectors, all of them; and `gaps` are the places where sectors are missing
  * or extra.
- * @typedef {{ code: FindingCode, count: number, bytes: number[], gaps: MovedRun[] }} Finding
+ * @typedef {{ code: FindingCode, count: number, bytes: number[], gaps: Gap[] }} Finding
  */
 /**
  * A verdict. `level`: something is damaged or missing; something is in doubt, since it is unusual, or was not tested although it must be;

@@ -130,9 +130,9 @@ function hashOf(app, file, size, id, signal) {
  * @returns {Done}
  */
 function doneWords(repaired, unrepaired, doubtful) {
-    const listed = (/** @type {string} */ text, /** @type {Run[]} */ runs) =>
-        runs.length === 0 ? [] : [format(text, { n: blocksIn(runs), blocks: blocksText(runs, MOST_RUNS_NAMED) })];
-    const left = [...listed(texts.secondStillDamaged, unrepaired), ...listed(texts.secondNotConfirmed, doubtful)];
+    const parts = (/** @type {Run[]} */ runs) => ({ n: blocksIn(runs), blocks: blocksText(runs, MOST_RUNS_NAMED) });
+    const left = [...unrepaired.length > 0 ? [format(texts.secondStillDamaged, parts(unrepaired))] : [],
+        ...doubtful.length > 0 ? [format(texts.secondNotConfirmed, parts(doubtful))] : []];
     const words = [format(texts.secondSectorsRepaired, { n: repaired }), ...left.length > 0 ? left : [texts.secondNoneStillDamaged]];
     return { words: words.join(' '), tone: left.length === 0 ? 'good' : 'warn' };
 }

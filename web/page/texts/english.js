@@ -1091,8 +1091,7 @@ export const secondSectorsDifferOf =
     '{n} of {all} sectors differs between the two images.|{n} of {all} sectors differ between the two images.';
 export const secondNoneSoundThere = 'None of the sectors damaged here has a sound copy with the right address there.';
 export const secondOtherDataHere =
-    'Nothing confirms the copy of {n} sector, whose data and EDC are different here.|' +
-    'Nothing confirms the copies of {n} sectors, whose data and EDC are different here.';
+    'Nothing confirms {n} copy: data and EDC here are different.|Nothing confirms {n} copies: data and EDC here are different.';
 export const secondLookAtThemFirst = 'Perhaps the second image is another release of the disc: look at {blocks} first.';
 export const secondSoundInBoth = '{n} sector is sound in both, and differs.|{n} sectors are sound in both, and differ.';
 export const secondNotTestedDiffer = '{n} sector was not tested, and differs.|{n} sectors were not tested, and differ.';
