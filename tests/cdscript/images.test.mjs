@@ -109,6 +109,19 @@ test('the user data of sectors that are not Mode 1 are named, and a tail is', ()
     }
 }));
 
+test('damage and gaps of an image are reported when its user data are extracted, since nothing in them shows it', () => inDirectory(async room => {
+    const image = imageOf(room, 300);
+    write(room, { hurt: damaged(image, 0, [100, 500]), gap: Buffer.concat([image.subarray(0, 2352 * 200), image.subarray(2352 * 205)]),
+        pause: Buffer.concat([Buffer.alloc(2352 * 150), image]) });
+    const cases = [['hurt', 1, 'cdscript: block 100: damaged, so hurt.iso may have wrong bytes there, and will not show them\n'],
+        ['gap', 1, 'cdscript: blocks 200 to 294: with the address of a different block, so gap.iso may lack blocks\n']];
+    for (const [name, ...due] of cases) {
+        const { status, errors } = await run(['user', name, `${name}.iso`], { cwd: room });
+        assert.deepEqual([status, errors, read(room, `${name}.iso`).length], [...due, name === 'gap' ? 2048 * 295 : 2048 * 300]);
+    }
+    assert.doesNotMatch((await run(['user', 'pause', 'pause.iso'], { cwd: room })).errors, /different block|damaged/);
+}));
+
 test('files of a disc are taken out', { skip }, () => inDirectory(async room => {
     await makeDisc(room);
     for (const [path, bytes] of Object.entries(files())) {
@@ -284,7 +297,8 @@ test('a repair of many places names the first of them', () => inDirectory(async 
     good.copy(other, 2352 * 11, 2352 * 12, 2352 * 13);
     write(room, { old: Buffer.concat([damaged(good, 0, ...odd), Buffer.from('a')]), other });
     const { status, out, errors } = await run(['merge', 'old', 'other', 'out'], { cwd: room });
-    assert.deepEqual([status, errors], [1, 'cdscript: the bytes after the last sector differ in other; those in old are kept\n']);
+    assert.deepEqual([status, errors], [1, 'cdscript: the bytes after the last sector differ in other; those in old are kept\n' +
+        'cdscript: out: the last sector is cut\n']);
     const lines = out.split('\n');
     const due = odd.map(([block]) => block).filter(block => block !== 11).slice(0, 1000).map(block => `${block}-${block} from other`);
     assert.deepEqual(lines, [...due, 'and so on: 1199 places in all', '11-11 sound, but only with the address of a different block',

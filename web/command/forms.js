@@ -191,7 +191,7 @@ export const FORMS = {
     'user': {
         job: userJob, takes: ['IMAGE', 'OUT'], options: ['track', 'base'], says: 'Extract the user data of an image as an ISO image',
         does: 'OUT must not exist. It has 2048 bytes per sector.',
-        ends: { 0: 'done', 1: 'some sectors are not Mode 1, or there is a tail', 2: 'failed' },
+        ends: { 0: 'done', 1: 'some sectors are damaged, misplaced, or not Mode 1, or there is a tail', 2: 'failed' },
         example: 'cdscript user game.cue game.iso',
     },
 };

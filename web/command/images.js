@@ -4,7 +4,8 @@ import { bytesOfLines } from '../core/bytes.js';
 import { kindOfFile } from '../core/disc/views.js';
 import { USER_SIZE, kindName } from '../core/module/index.js';
 import { blocksIn } from '../core/sectors/views.js';
-import { CONVERTIBLE, convertToRaw, extractFile, isConvertible, passUser, repairTrack, verdictOfRepair } from '../core/tasks/index.js';
+import { CONVERTIBLE, addressShift, convertToRaw, extractFile, isConvertible, passUser, repairTrack } from '../core/tasks/index.js';
+import { verdictOfRepair } from '../core/tasks/index.js';
 import { blocksText, ownFault, sentenceOf, verdictText } from '../sentences/index.js';
 import { ALL_HASHES, RunningHashes, sayKnown } from './hashes.js';
 import { jsonLine, mergeObject } from './json_lines.js';
@@ -199,13 +200,18 @@ function sayOthers(job, others) {
 /** @param {Job} job */
 export async function userJob(job) {
     const out = await job.files.make(job.names[1]);
-    const { part } = await openTrackOf(job, job.names[0]);
-    const how = { base: part.base };
-    const has = sayOthers(job, await passUser(job.pool, part.reader, part.sectors * USER_SIZE, how, user => out.write(user)));
+    const { part, image } = await openTrackOf(job, job.names[0]);
+    const how = { base: part.base, shift: addressShift(image) };
+    /** @type {Record<'damaged' | 'elsewhere', import('../core/sectors/runs.js').Run[]>} */
+    const wrong = { damaged: [], elsewhere: [] };
+    const others = await passUser(job.pool, part.reader, part.sectors * USER_SIZE, how, user => out.write(user), wrong);
+    sayOthers(job, others);
+    sayOfRuns(job, wrong.damaged, it => `${blocksText([it])}: damaged, so ${out.name} may have wrong bytes there, and will not show them`);
+    sayOfRuns(job, wrong.elsewhere, it => `${blocksText([it])}: with the address of a different block, so ${out.name} may lack blocks`);
     if (part.base > 0) job.say(`to convert it back: cdscript raw --base ${part.base}`);
     if (part.tail === 1) job.say('the byte after the last sector is left out');
     if (part.tail > 1) job.say(`the ${part.tail} bytes after the last sector are left out`);
-    return Number(has || part.tail > 0);
+    return Number([others, wrong.damaged, wrong.elsewhere].some(runs => runs.length > 0) || part.tail > 0);
 }
 
 /** @param {Job} job */

@@ -8,4 +8,4 @@ export { FIELDS, USER_OFFSET, addressIn, addressOf, addressText, asWords, blockA
 export { hasOtherAddress, hasZeroByte, imageTooLong, isFilled, joinedForm1, joinedUser, sameAddress, sectorOf } from './sector.js';
 export { sectorsAt, userOf, userOfRange } from './sector.js';
 export { sumsOfRange } from './sums.js';
-export { auditText, isDamaged, isSound, kindRuns, surveyCounts, surveyRange } from './survey.js';
+export { auditText, isDamaged, isSound, kindRuns, surveyCounts, surveyRange, wrongRuns } from './survey.js';

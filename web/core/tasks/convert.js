@@ -6,7 +6,7 @@ import { SUBCHANNEL_SIZE } from '../disc/index.js';
 import { Fault, cancelled, newBytes } from '../faults.js';
 import { LAST_BASE, SECTOR_KIND, SECTOR_SIZE, USER_SIZE, sectorCount } from '../module/index.js';
 import { sliceOf } from '../readers/index.js';
-import { HEADERLESS_SIZE, addToRuns, joinedUser, sectorOf, withHeaders } from '../sectors/index.js';
+import { HEADERLESS_SIZE, addToRuns, joinedUser, sectorOf, surveyRange, withHeaders, wrongRuns } from '../sectors/index.js';
 import { fileOfTrack } from './opened.js';
 
 /** @typedef {import('../bytes.js').Reader} Reader */
@@ -15,11 +15,17 @@ import { fileOfTrack } from './opened.js';
 /** @typedef {import('../iso/files.js').FileEntry} FileEntry */
 /** @typedef {import('../pool/pool.js').Sharer} Sharer */
 /** @typedef {import('../pool/pool.js').Sharing} Sharing */
-/** @typedef {import('../sectors/runs.js').Run & { kind: number }} KindRun */
+/** @typedef {import('../sectors/runs.js').Run} Run */
+/** @typedef {Run & { kind: number }} KindRun */
 /** @typedef {import('./engine.js').Engine} Engine */
 /** @typedef {import('./opened.js').OpenedTrack} OpenedTrack */
 /** @typedef {(bytes: Uint8Array) => void | Promise<void>} TakeBytes */
-/** @typedef {{ user: Uint8Array, others: KindRun[] }} UserRange the user data of a range, and the sectors that are not of Mode 1 */
+/**
+ * The user data of a range, the sectors that are not of Mode 1, those of Mode 1 whose codes do not match (`damaged`), and those with the
+ * address of a different block (`elsewhere`).
+ * @typedef {{ user: Uint8Array, others: KindRun[], damaged: Run[], elsewhere: Run[] }} UserRange
+ */
+/** @typedef {{ damaged: Run[], elsewhere: Run[] }} Wrong */
 
 /** The kinds of files that can be converted to raw images, and the bytes of a sector of each. */
 export const CONVERTIBLE = Object.freeze({ iso: USER_SIZE, subchannels: SUBCHANNEL_SIZE, headerless: HEADERLESS_SIZE });
@@ -35,16 +41,17 @@ const SECTORS_AT_ONCE = 512;
  * @param {Calls} calls
  * @param {Uint8Array} bytes of whole raw sectors
  * @param {number} block the block of the first sector
+ * @param {{ shift?: number }} args how many blocks later the sectors are by their addresses
  * @returns {UserRange}
  */
-export function userRange(calls, bytes, block) {
+export function userRange(calls, bytes, block, { shift = 0 } = {}) {
     /** @type {KindRun[]} */
     const others = [];
     for (let i = 0; i < sectorCount(bytes.length); i++) {
         const kind = calls.kind(sectorOf(bytes, i));
         if (kind !== SECTOR_KIND.MODE1) addToRuns(others, { first: block + i, last: block + i, kind });
     }
-    return { user: joinedUser(bytes), others };
+    return { user: joinedUser(bytes), others, ...wrongRuns(surveyRange(calls, bytes, block, { shift }), new Uint8Array(0)) };
 }
 
 /**
@@ -52,15 +59,18 @@ export function userRange(calls, bytes, block) {
  * @param {Sharer} pool
  * @param {Reader} reader of the sectors
  * @param {number} size how many bytes are passed at most
- * @param {Sharing} how
+ * @param {Sharing & { shift?: number }} how
  * @param {TakeBytes} take
+ * @param {Wrong} [wrong] to which the runs of damaged sectors, and of those with a wrong address, are added
  */
-export async function passUser(pool, reader, size, how, take) {
+export async function passUser(pool, reader, size, { shift = 0, ...how }, take, wrong) {
     /** @type {KindRun[]} */
     const others = [];
     let left = size;
-    await pool.share('user', [reader], {}, how, async answer => {
+    await pool.share('user', [reader], { shift }, how, async answer => {
         for (const it of answer.others) addToRuns(others, it);
+        for (const it of answer.damaged) addToRuns(wrong?.damaged || [], it);
+        for (const it of answer.elsewhere) addToRuns(wrong?.elsewhere || [], it);
         const user = answer.user.subarray(0, Math.max(left, 0));
         left -= answer.user.length;
         await take(user);

@@ -2,7 +2,7 @@
 
 export { applyInMemory, applyScript } from './apply.js';
 export { checkLists } from './check_lists.js';
-export { commonPart, isSameRange } from './common_part.js';
+export { addressShift, commonPart, isSameRange } from './common_part.js';
 export { FIELD_COUNT, SECOND_STATE, compareTrack, diffRange, differRange, findDifferences, isToMode2 } from './compare.js';
 export { CONVERTIBLE, convertToRaw, extractFile, isConvertible, passUser, userRange } from './convert.js';
 export { correctionOf } from './correct.js';

@@ -24,9 +24,9 @@ import { blocksIn } from '../sectors/index.js';
  * A verdict. `level`: something is damaged or missing; something is in doubt, since it is unusual, or was not tested although it must be;
  * all that must be tested is sound; or nothing had to be tested, as in audio. `listed` is the level for readers that see no numbers: it is
  * sound only if each sector was tested or a DAT verifies the file, and no block of the volume is missing. `tested` is how many sectors were
- * tested by their codes,
- * `without` how many data sectors have no codes, and `total` how many blocks and other things are wrong. `status` is that of a command,
- * `canRepair` tells whether another dump can help, and `canPublish` whether the file is whole, so that others can compare theirs with it.
+ * tested by their codes, `without` how many data sectors have no codes, and `total` how many blocks and other things are wrong. `status` is
+ * that of a command, `canRepair` tells whether another dump can help, and `canPublish` whether the file is whole, so that others can
+ * compare theirs with it.
  * @typedef {{ level: 'damage' | 'doubt' | 'sound' | 'nothing', listed: 'damage' | 'doubt' | 'sound' | 'nothing', findings: Finding[],
  *     tested: number, without: number, total: number, status: 0 | 1, canRepair: boolean, canPublish: boolean }} Verdict
  */
