@@ -35,7 +35,8 @@ export function gapsIn({ block, records, moved }, mode2) {
             gaps.push({ first, last, by: by - shift, isAtStart, sectors });
         }
     }
-    return gaps.filter(it => it.sectors > 1 && it.by !== 0).map(({ sectors: _, ...gap }) => gap);
+    return gaps.filter(it => it.sectors > 1 && it.by !== 0)
+        .map(({ first, last, by, isAtStart }) => ({ first, last, by, isAtStart }));
 }
 
 /**
