@@ -426,6 +426,16 @@ class Player(PageTest):
         self.assertEqual(self.browser.run('return [document.images.length, document.scripts.length]'), [0, 1])
         self.assertEqual(self.browser.attempts(), [])
 
+    def test_about_asks_a_player_to_compare_the_programs_and_not_the_sha256_of_the_file(self) -> None:
+        for language in ('en', 'de'):
+            self.open_patcher(patcher(discs.game(), result(), discs.script(), language=language))
+            self.press(common.text('playerAbout', language))
+            self.browser.wait('#about', common.text('playerHowToTrustIt', language))
+            self.assertNotIn('another program', self.browser.text('#about'))
+        self.browser.open(common.PAGE)
+        self.press('About')
+        self.browser.wait('#about', common.text('framePageSaysItself'))
+
     def test_a_cut_patcher_is_refused(self) -> None:
         self.open_patcher(patcher(discs.game(), result(), discs.script())[:-100])
         self.browser.wait('#messages .say.bad, #start-message .say.bad', 'This patcher does not work.')

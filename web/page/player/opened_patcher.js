@@ -4,8 +4,8 @@ import { kindOfFile } from '../../core/disc/views.js';
 import { isScript } from '../../core/script/views.js';
 import { fileReader } from '../open/index.js';
 import { format, knownLanguage, playerTexts as texts, say, setLanguage } from '../texts/index.js';
-import { byId, clearNotices, element, nameOf, notice, refuseWhileSaving, sentence, showNotice } from '../ui/index.js';
-import { pageSource } from './own_text.js';
+import { clearNotices, element, nameOf, notice, refuseWhileSaving, sentence, showNotice } from '../ui/index.js';
+import { ownData, pageSource } from './own_text.js';
 import { comparedWithPage, readPatcherText } from './patcher.js';
 import { showPlayer } from './show.js';
 
@@ -24,7 +24,7 @@ const IMAGES = ['raw', 'iso', 'subchannels', 'wave'];
 export async function mountPatchers(app) {
     app.addTaker(file => takePatcher(app, file));
     await wholeDocument();
-    const text = byId('data').textContent || '';
+    const text = ownData();
     if (text.trim() === '') return;
     setLanguage(knownLanguage(navigator.languages));
     try {

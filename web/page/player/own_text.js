@@ -2,10 +2,16 @@
 
 import { OWN } from '../app/index.js';
 import { playerTexts as texts } from '../texts/index.js';
+import { byId } from '../ui/index.js';
 import { checksum } from './patcher.js';
 import { ownFault } from '../../sentences/index.js';
 
 /** @typedef {import('../../core/module/calls.js').Calls} Calls */
+
+/** The text after the last tag of this file: the data of a patcher, or white space. */
+export function ownData() {
+    return byId('data').textContent || '';
+}
 
 /** The hashes of the loader and of the script, between two quotes of the policy. */
 const HASHES = /^sha256-[A-Za-z0-9+/]{43}=' 'sha256-[A-Za-z0-9+/]{43}=$/;

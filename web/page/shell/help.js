@@ -1,9 +1,9 @@
 // The notes that are opened from the bar and the footer: About, with what is proved, the keys, and the words.
 
 import { inflatedText, sha256Of } from '../app/index.js';
-import { pageSource } from '../player/index.js';
+import { ownData, pageSource } from '../player/index.js';
 import * as texts from '../texts/index.js';
-import { format, playerTexts, say } from '../texts/index.js';
+import { current, format, playerTexts, say } from '../texts/index.js';
 import { byId, element, fill, hashParts, keysIn, messageOf, setAttribute } from '../ui/index.js';
 
 /** @typedef {import('../app/state.js').App} App */
@@ -66,17 +66,24 @@ function wordRows() {
 }
 
 /**
- * The SHA-256 of this page. It is calculated when About is first opened.
+ * The SHA-256 of this page, and how to check it. It is calculated when About is first opened. The file of a patcher has a different
+ * SHA-256, so its players are asked to compare the programs.
  * @param {App} app
  */
 function ownHash(app) {
     const digits = element('span', { class: 'mono small', id: 'page-sha256' });
+    const advice = element('span');
+    byId('about').addEventListener('beforetoggle', () => {
+        const isPatcher = ownData().trim() !== '';
+        fill(advice, isPatcher ? playerTexts.playerHowToTrustIt : texts.framePageSaysItself);
+        setAttribute(advice, 'lang', isPatcher ? current.tag : null);
+    });
     byId('about').addEventListener('toggle', async () => {
         if (digits.textContent !== '') return;
         digits.textContent = '…';
         fill(digits, ...await ownDigits(app));
     });
-    return element('p', {}, ...say(texts.frameHashOfPage, { digits }), element('br'), texts.framePageSaysItself);
+    return element('p', {}, ...say(texts.frameHashOfPage, { digits }), element('br'), advice);
 }
 
 /**
