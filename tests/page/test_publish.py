@@ -361,6 +361,21 @@ class Player(PageTest):
         self.browser.wait('#player .step.now', 'Save this one next to mine.bin.')
         self.browser.wait('#player .step.now', 'Copy these files to the same folder too, because the cue sheet needs them: song 2.bin, song 3.bin, song 4.bin, song 5.bin and 3 more files.')
 
+    def test_a_renamed_image_is_to_be_chosen_without_its_cue_sheet(self) -> None:
+        self.open_patcher(patcher(discs.game(), result(), discs.script()))
+        image = discs.written(mine=discs.game())['mine']
+        sheet = image.with_suffix('.cue')
+        sheet.write_text(CUE)
+        self.browser.drop('#player', [sheet, image])
+        self.browser.wait('#player .say.bad', 'mine.cue names game.bin, not mine.bin.')
+        self.browser.wait('#player .say.bad', common.text('playerRenamedWithoutSheet'))
+        self.browser.drop('#player', [image])
+        self.browser.wait('#verdict', common.text('playerRightDisc'))
+        # A file that the sheet names was not renamed.
+        sheet.write_text(discs.sheet_of(mine='AUDIO', game=discs.DATA))
+        self.browser.drop('#player', [sheet, image])
+        self.browser.wait('#player .say.bad', 'mine.cue also needs game.bin. Open them all together.')
+
     def test_an_iso_image_is_no_full_dump(self) -> None:
         self.open_patcher(patcher(discs.game(), result(), discs.script()))
         image = discs.written(mine=b''.join(common.iso_of({'README.TXT': b'game'})))['mine'].rename(common.folder('iso') / 'mine.iso')

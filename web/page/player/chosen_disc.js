@@ -2,7 +2,9 @@
 
 import { knownFiles, openKnown } from '../../core/disc/views.js';
 import { textOfFile } from '../../core/encodings/views.js';
+import { failedBy } from '../../core/faults.js';
 import { discFileOf, fileOf } from '../open/index.js';
+import { sheetNaming } from '../save/index.js';
 import { playerTexts as texts, say } from '../texts/index.js';
 import { messageParts, nameOf, notice } from '../ui/index.js';
 
@@ -52,15 +54,30 @@ export class ChosenDisc {
         return { disc: await openKnown(this.app.calls, files), files: files.flatMap(({ file }) => fileOf(file.reader) || []) };
     }
 
+    /** The image of the last choice that its cue sheet does not name, or undefined. */
+    unnamedImage() {
+        const text = this.before.map(({ kind, sheet }) => kind === 'cue' && sheet !== null ? textOfFile(sheet) : '').join('');
+        return this.before.find(({ kind, file: { name } }) => kind === 'raw' && sheetNaming(text, [[name, name]]) === '');
+    }
+
     /**
      * Returns a function that writes the notice on why files are not an image to patch, in the current language.
      * @param {unknown} error
      * @param {File[]} files
+     * @returns {() => HTMLElement}
      */
     faultOf(error, files) {
-        const names = files.map(file => file.name);
         const iso = this.before.find(({ kind }) => kind === 'iso');
-        return () => iso === undefined ? notice('bad', texts.openNotOpenedYet, ...messageParts(error, names))
-            : notice('bad', say(texts.playerIsoOfPartSectors, { name: nameOf(iso.file.name) }), texts.playerNeedsFullDump);
+        if (iso !== undefined) {
+            return () => notice('bad', say(texts.playerIsoOfPartSectors, { name: nameOf(iso.file.name) }), texts.playerNeedsFullDump);
+        }
+        const renamed = this.unnamedImage();
+        if (renamed !== undefined && failedBy(error, 'disc/missing-files')) {
+            const { sheet, file } = error.facts;
+            const names = { sheet: nameOf(sheet), wanted: nameOf(file), name: nameOf(renamed.file.name) };
+            return () => notice('bad', say(texts.playerSheetNamesOther, names), texts.playerRenamedWithoutSheet);
+        }
+        const names = files.map(file => file.name);
+        return () => notice('bad', texts.openNotOpenedYet, ...messageParts(error, names));
     }
 }

@@ -156,6 +156,8 @@ export const DE = {
     playerIsoOfPartSectors: '{name} ist ein ISO-Image, das nur einen Teil jedes Sektors enthält.',
     playerNeedsFullDump: 'Dieser Patcher braucht einen vollständigen Dump: eine .bin-Datei mit 2352 Byte pro Sektor. Lesen Sie Ihre Disc ' +
         'noch einmal aus, als BIN und CUE.',
+    playerSheetNamesOther: '{sheet} verweist auf {wanted}, nicht auf {name}.',
+    playerRenamedWithoutSheet: 'Wenn Ihr Image umbenannt wurde, wählen Sie es ohne die CUE-Datei.',
     playerIsMusicTrack: 'Das ist Musik; wählen Sie die Datenspur: {name}',
     playerCheckingYourImage: 'Ihr Image wird geprüft',
     playerRightDisc: 'Das ist die richtige Disc.',

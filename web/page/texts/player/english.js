@@ -119,6 +119,8 @@ export const ENGLISH = /** @type {const} */ ({
     playerIsoOfPartSectors: '{name} is an ISO image, which contains only part of each sector.',
     playerNeedsFullDump:
         'This patcher needs a full dump: a .bin file of 2352 bytes per sector. Dump your disc again, as BIN and CUE.',
+    playerSheetNamesOther: '{sheet} names {wanted}, not {name}.',
+    playerRenamedWithoutSheet: 'If your image was renamed, choose it without the cue sheet.',
     playerIsMusicTrack: 'This is music; choose the data track: {name}',
     playerCheckingYourImage: 'Checking your image',
     // the verdict on the image

@@ -153,6 +153,8 @@ export const ES = {
     playerIsoOfPartSectors: '{name} es una imagen ISO, que solo tiene una parte de cada sector.',
     playerNeedsFullDump: 'Este parcheador necesita un volcado completo: un archivo .bin con 2352 bytes por sector. Vuelve a volcar tu ' +
         'disco, como BIN y CUE.',
+    playerSheetNamesOther: '{sheet} hace referencia a {wanted}, no a {name}.',
+    playerRenamedWithoutSheet: 'Si has cambiado el nombre de tu imagen, elígela sin el archivo CUE.',
     playerIsMusicTrack: 'Esto es música; elige la pista de datos: {name}',
     playerCheckingYourImage: 'Comprobando tu imagen',
     playerRightDisc: 'Este es el disco correcto.',

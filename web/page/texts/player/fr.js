@@ -154,6 +154,8 @@ export const FR = {
     playerIsoOfPartSectors: '{name} est une image ISO, qui n’a qu’une partie de chaque secteur.',
     playerNeedsFullDump: 'Ce patcheur a besoin d’un dump complet\u00a0: un fichier .bin à 2352 octets par secteur. Refaites le dump de ' +
         'votre disque, en BIN et CUE.',
+    playerSheetNamesOther: '{sheet} référence {wanted}, et non {name}.',
+    playerRenamedWithoutSheet: 'Si votre image a été renommée, choisissez-la sans le fichier CUE.',
     playerIsMusicTrack: 'C’est de la musique\u00a0; choisissez la piste de données\u00a0: {name}',
     playerCheckingYourImage: 'Vérification de votre image',
     playerRightDisc: 'C’est le bon disque.',

@@ -153,6 +153,8 @@ export const IT = {
     playerIsoOfPartSectors: '{name} è un’immagine ISO, che ha solo una parte di ogni settore.',
     playerNeedsFullDump: 'Questo patcher richiede un dump completo: un file .bin con 2352 byte per settore. Fai di nuovo il dump del tuo ' +
         'disco, come BIN e CUE.',
+    playerSheetNamesOther: '{sheet} indica {wanted}, non {name}.',
+    playerRenamedWithoutSheet: 'Se la tua immagine è stata rinominata, sceglila senza il file CUE.',
     playerIsMusicTrack: 'Questa è musica; scegli la traccia dati: {name}',
     playerCheckingYourImage: 'Controllo della tua immagine',
     playerRightDisc: 'Questo è il disco giusto.',

@@ -153,6 +153,8 @@ export const PT_BR = {
     playerIsoOfPartSectors: '{name} é uma imagem ISO, que só tem uma parte de cada setor.',
     playerNeedsFullDump: 'Este patcher precisa de um dump completo: um arquivo .bin com 2352 bytes por setor. Faça o dump do seu disco ' +
         'de novo, como BIN e CUE.',
+    playerSheetNamesOther: '{sheet} aponta para {wanted}, não para {name}.',
+    playerRenamedWithoutSheet: 'Se a sua imagem foi renomeada, escolha-a sem o arquivo CUE.',
     playerIsMusicTrack: 'Isto é música; escolha a faixa de dados: {name}',
     playerCheckingYourImage: 'Verificando sua imagem',
     playerRightDisc: 'Este é o disco certo.',
