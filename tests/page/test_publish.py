@@ -442,12 +442,17 @@ class Player(PageTest):
         self.assertEqual(self.browser.attempts(), [])
 
     def test_about_asks_a_player_to_compare_the_programs_and_not_the_sha256_of_the_file(self) -> None:
+        self.browser.size(360, 640)
         for language in ('en', 'de'):
             self.open_patcher(patcher(discs.game(), result(), discs.script(), language=language))
+            common.waited(lambda: self.browser.run('return document.querySelector("#about .shut") !== null'), 'no About')
             self.press(common.text('playerAbout', language))
             self.browser.wait('#about', common.text('playerHowToTrustIt', language))
+            self.assertEqual(self.browser.text('#about .shut'), common.text('close', language))
             self.assertNotIn('another program', self.browser.text('#about'))
+        self.browser.size(1280)
         self.browser.open(common.PAGE)
+        common.waited(lambda: self.browser.run('return document.querySelector("#about .shut") !== null'), 'no About')
         self.press('About')
         self.browser.wait('#about', common.text('framePageSaysItself'))
 

@@ -21,10 +21,23 @@ export function mountHelp(app) {
             ...madeWith(app.parts.made)), ownHash(app), whatIsProved(), notices());
     for (const note of document.querySelectorAll('[popover]')) {
         setAttribute(note, 'aria-label', note.children[0].textContent);
-        note.prepend(element('button', { type: 'button', class: 'btn slim bare shut', popovertarget: note.id, popovertargetaction: 'hide' },
-            playerTexts.close));
+        note.prepend(closing(note));
     }
     if ('popover' in HTMLElement.prototype) keepTouches();
+}
+
+/**
+ * The button that closes a note, in the current language.
+ * @param {Element} note
+ */
+function closing(note) {
+    const shut = element('button', { type: 'button', class: 'btn slim bare shut', popovertarget: note.id, popovertargetaction: 'hide' },
+        playerTexts.close);
+    note.addEventListener('beforetoggle', () => {
+        fill(shut, playerTexts.close);
+        setAttribute(shut, 'lang', current.tag);
+    });
+    return shut;
 }
 
 /** Makes a touch beside an open note close it without pressing anything there. */
