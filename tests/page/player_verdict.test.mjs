@@ -110,9 +110,9 @@ test('an image fits only if it is as long as the author’s and all that is writ
     const image = { size, sha1: '' };
     const set = 'set 0 0 4A was 68\n';
     const rows = [
-        [`${set}set 1 0 41 was 77\n`, image, 'fits', /^All 2 places match\. The rest of the disc differs from the author’s\. 1 sector of your image is damaged\.$/],
+        [`${set}set 1 0 41 was 77\n`, image, 'fits', /^All 2 places match\. The rest of the disc differs from the author’s\. 1 sector of your image is damaged\. The game may stop there: another dump is better\.$/],
         [set, image, 'fits', /^The place matches\./],
-        [`${set}set 1 0 41\n`, image, 'unknown', /^1 of 2 places to patch matches\. 1 of 2 patches has no old bytes to compare, so cdpatch cannot tell whether it matches\. 1 sector of your image is damaged\.$/],
+        [`${set}set 1 0 41\n`, image, 'unknown', /^1 of 2 places to patch matches\. 1 of 2 patches has no old bytes to compare, so cdpatch cannot tell whether it matches\. 1 sector of your image is damaged\. The game may stop there: another dump is better\.$/],
         ['set 0 0 41\nfill 1 0 100 00\n', image, 'unknown', /^2 of 2 patches have no old bytes to compare, so cdpatch cannot tell whether they match\. 1 sector/],
         [`${set}fill 1 0 1 41\n`, image, 'unknown', /^1 of 2 places to patch matches\. 1 of 2 patches/],
         [`${set}set 1 0 4A was 77\nrebuild 1\n`, image, 'unknown', /^2 of 3 places to patch match\. 1 of 3 patches has no/],
@@ -132,5 +132,5 @@ test('how much of an image that fits is damaged is counted', async () => {
     const image = { size: game.bytes.length, sha1: '' };
     const sound = imageOf([ascii('hello'), ascii('earth'), ascii('again')]);
     assert.match((await said(sound, script, { image }))[1], /differs from the author’s: perhaps its music is shifted\.$/);
-    assert.match((await said(changed(changed(sound, 2352 + 20), 2 * 2352 + 20), script, { image }))[1], / 2 sectors of your image are damaged\.$/);
+    assert.match((await said(changed(changed(sound, 2352 + 20), 2 * 2352 + 20), script, { image }))[1], / 2 sectors of your image are damaged\. The game may stop there: another dump is better\.$/);
 });

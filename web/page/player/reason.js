@@ -81,7 +81,7 @@ export function reasonForPlayer({ damaged, ...judged }, size, wanted) {
     const { verdict, patches } = judged;
     const cut = size < wanted ? ` ${texts.playerFileProbablyCut}` : '';
     const sizes = size === wanted ? '' : `${format(texts.playerSizesDiffer, { n: size, wanted })}${cut}`;
-    const hurt = damaged === 0 ? '' : format(texts.playerSectorsOfImageDamaged, { n: damaged });
+    const hurt = damaged === 0 ? '' : `${format(texts.playerSectorsOfImageDamaged, { n: damaged })} ${texts.playerGameMayStopThere}`;
     /** @type {Record<string, string[]>} */
     const reasons = {
         fits: [format(texts.playerPlacesMatch, { n: patches }), hurt === '' ? texts.playerMusicShiftedPerhaps : texts.playerRestDiffers,

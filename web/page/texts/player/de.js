@@ -191,6 +191,7 @@ Alle {n} Stellen stimmen überein, aber es lässt sich nicht prüfen, ob der Res
     playerSizesDiffer: 'Ihr Image hat {n} Byte, und das des Autors hat {wanted}.',
     playerFileProbablyCut: 'Die Datei ist wahrscheinlich unvollständig.',
     playerSectorsOfImageDamaged: '{n} Sektor Ihres Images ist beschädigt.|{n} Sektoren Ihres Images sind beschädigt.',
+    playerGameMayStopThere: 'Dort kann das Spiel stehen bleiben: Ein anderer Dump ist besser.',
     playerNotAuthorsResult: 'Es gibt nichts zu patchen. Aber das ist nicht das Image, das der Autor erstellt hat: Der SHA-1-Wert ' +
         'stimmt nicht überein.',
     playerAuthorPatchesDamaged: 'Auf Wunsch des Autors werden auch beschädigte Sektoren gepatcht. Sie bleiben beschädigt.',

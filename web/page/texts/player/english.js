@@ -156,6 +156,7 @@ All {n} places match, but cdpatch cannot tell whether the rest of the disc does.
     playerSizesDiffer: 'Your image has {n} bytes, and the author’s has {wanted}.',
     playerFileProbablyCut: 'The file is probably incomplete.',
     playerSectorsOfImageDamaged: '{n} sector of your image is damaged.|{n} sectors of your image are damaged.',
+    playerGameMayStopThere: 'The game may stop there: another dump is better.',
     playerNotAuthorsResult:
         'There is nothing to patch. But this is not the image that the author made: its SHA-1 does not match.',
     playerAuthorPatchesDamaged: 'The author chose to patch damaged sectors too. They stay damaged.',

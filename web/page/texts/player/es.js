@@ -188,6 +188,7 @@ Los {n} lugares coinciden, pero no se puede saber si el resto es del mismo disco
     playerSizesDiffer: 'Tu imagen tiene {n} bytes, y la del autor, {wanted}.',
     playerFileProbablyCut: 'Probablemente el archivo está incompleto.',
     playerSectorsOfImageDamaged: '{n} sector de tu imagen está dañado.|{n} sectores de tu imagen están dañados.',
+    playerGameMayStopThere: 'El juego puede detenerse ahí: es mejor otro volcado.',
     playerNotAuthorsResult: 'No hay nada que parchear. Pero esta no es la imagen que hizo el autor: su SHA-1 no coincide.',
     playerAuthorPatchesDamaged: 'El autor ha elegido parchear también los sectores dañados, que siguen dañados.',
     playerNothingWasSaved: 'No se ha guardado nada.',

@@ -189,6 +189,7 @@ Les {n} endroits correspondent tous, mais il est impossible de savoir si le rest
     playerSizesDiffer: 'Votre image a {n} octets, et celle de l’auteur en a {wanted}.',
     playerFileProbablyCut: 'Le fichier est probablement incomplet.',
     playerSectorsOfImageDamaged: '{n} secteur de votre image est endommagé.|{n} secteurs de votre image sont endommagés.',
+    playerGameMayStopThere: 'Le jeu peut s’y arrêter\u00a0: un autre dump est préférable.',
     playerNotAuthorsResult: 'Il n’y a rien à patcher. Mais ce n’est pas l’image que l’auteur a faite\u00a0: son SHA-1 ne correspond pas.',
     playerAuthorPatchesDamaged: 'L’auteur a choisi de patcher aussi les secteurs endommagés\u00a0: ils restent endommagés.',
     playerNothingWasSaved: 'Rien n’a été enregistré.',

@@ -188,6 +188,7 @@ Tutti i {n} punti corrispondono, ma non è possibile sapere se il resto è dello
     playerSizesDiffer: 'La tua immagine ha {n} byte, e quella dell’autore ne ha {wanted}.',
     playerFileProbablyCut: 'Il file è probabilmente incompleto.',
     playerSectorsOfImageDamaged: '{n} settore della tua immagine è danneggiato.|{n} settori della tua immagine sono danneggiati.',
+    playerGameMayStopThere: 'Il gioco può bloccarsi lì: è meglio un altro dump.',
     playerNotAuthorsResult: 'Non c’è nulla da modificare. Ma questa non è l’immagine fatta dall’autore: il suo SHA-1 non corrisponde.',
     playerAuthorPatchesDamaged: 'L’autore fa modificare anche i settori danneggiati: restano danneggiati.',
     playerNothingWasSaved: 'Non è stato salvato nulla.',

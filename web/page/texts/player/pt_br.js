@@ -188,6 +188,7 @@ Todos os {n} lugares conferem, mas não há como saber se o resto é do mesmo di
     playerSizesDiffer: 'Sua imagem tem {n} bytes, e a do autor tem {wanted}.',
     playerFileProbablyCut: 'O arquivo provavelmente está incompleto.',
     playerSectorsOfImageDamaged: '{n} setor da sua imagem está danificado.|{n} setores da sua imagem estão danificados.',
+    playerGameMayStopThere: 'O jogo pode travar ali: é melhor outro dump.',
     playerNotAuthorsResult: 'Não há nada a alterar. Mas esta não é a imagem que o autor fez: o SHA-1 dela não confere.',
     playerAuthorPatchesDamaged: 'O autor escolheu alterar também setores danificados: eles continuam danificados.',
     playerNothingWasSaved: 'Nada foi salvo.',
