@@ -138,7 +138,7 @@ export const DE = {
     playerWhatAuthorWrites: 'Was der Autor schreibt',
     playerAuthorWrites: 'Der Autor schreibt:',
     playerByAuthor: 'von {author}',
-    playerNothingLeaves: 'Nichts verlässt Ihren Computer.',
+    playerNothingLeaves: 'Nichts verlässt Ihr Gerät.',
     playerNewFileIsSaved: 'Ihr Image wird nicht verändert; eine neue Datei wird gespeichert.',
     playerReadTheScript: 'Skript lesen',
     playerTheScriptItself: 'Das Skript',

@@ -100,7 +100,7 @@ export const ENGLISH = /** @type {const} */ ({
     playerWhatAuthorWrites: 'A note from the author',
     playerAuthorWrites: 'From the author:',
     playerByAuthor: 'by {author}',
-    playerNothingLeaves: 'Nothing leaves your computer.',
+    playerNothingLeaves: 'Nothing leaves your device.',
     playerNewFileIsSaved: 'Your image is not changed; a new file is saved.',
     playerReadTheScript: 'Read the script',
     playerTheScriptItself: 'The script',

@@ -135,7 +135,7 @@ export const ES = {
     playerWhatAuthorWrites: 'Lo que escribe el autor',
     playerAuthorWrites: 'El autor escribe:',
     playerByAuthor: 'por {author}',
-    playerNothingLeaves: 'Nada sale de tu equipo.',
+    playerNothingLeaves: 'Nada sale de tu dispositivo.',
     playerNewFileIsSaved: 'Tu imagen no se modifica; se guarda un archivo nuevo.',
     playerReadTheScript: 'Leer el script',
     playerTheScriptItself: 'El script',

@@ -136,7 +136,7 @@ export const FR = {
     playerWhatAuthorWrites: 'Ce que l’auteur écrit',
     playerAuthorWrites: 'L’auteur écrit\u00a0:',
     playerByAuthor: 'par {author}',
-    playerNothingLeaves: 'Rien ne quitte votre ordinateur.',
+    playerNothingLeaves: 'Rien ne quitte votre appareil.',
     playerNewFileIsSaved: 'Votre image n’est pas modifiée\u00a0; un nouveau fichier est enregistré.',
     playerReadTheScript: 'Lire le script',
     playerTheScriptItself: 'Le script',

@@ -135,7 +135,7 @@ export const IT = {
     playerWhatAuthorWrites: 'Ciò che scrive l’autore',
     playerAuthorWrites: 'L’autore scrive:',
     playerByAuthor: 'di {author}',
-    playerNothingLeaves: 'Nulla esce dal tuo computer.',
+    playerNothingLeaves: 'Nulla esce dal tuo dispositivo.',
     playerNewFileIsSaved: 'La tua immagine non viene modificata; viene salvato un file nuovo.',
     playerReadTheScript: 'Leggi lo script',
     playerTheScriptItself: 'Lo script',

@@ -135,7 +135,7 @@ export const PT_BR = {
     playerWhatAuthorWrites: 'O que o autor escreve',
     playerAuthorWrites: 'O autor escreve:',
     playerByAuthor: 'por {author}',
-    playerNothingLeaves: 'Nada sai do seu computador.',
+    playerNothingLeaves: 'Nada sai do seu dispositivo.',
     playerNewFileIsSaved: 'Sua imagem não é alterada; um novo arquivo é salvo.',
     playerReadTheScript: 'Ler o script',
     playerTheScriptItself: 'O script',
