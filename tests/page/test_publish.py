@@ -264,6 +264,14 @@ class Player(PageTest):
         self.press('Save with the other 5 patches')
         files = discs.written(other=other, english=discs.script())
         self.assertEqual(self.browser.downloaded('Starlit (English).bin').read_bytes(), applied(files['other'], files['english'])[2])
+        self.browser.wait('#player', f'1 patch left out. {common.text("playerGameMayStop")}')
+
+    def test_the_warnings_about_an_image_stay_after_saving(self) -> None:
+        self.play(discs.game()[:-2352 * 2], discs.named())
+        self.browser.wait('#verdict', common.text('playerCannotTell'))
+        self.press('Patch anyway')
+        self.browser.wait('#saved')
+        self.assertIn(common.text('playerFileProbablyCut'), self.browser.text('#player .step.done'))
 
     def test_a_damaged_dump_is_not_called_another_release(self) -> None:
         self.play(common.damaged(discs.game(), discs.first_block() + 1))

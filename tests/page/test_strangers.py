@@ -86,7 +86,7 @@ class Fitting(Stranger):
         self.press('Patch anyway')
         self.browser.downloaded('Starlit (English).bin')
         self.browser.wait('#saved.warn-ink', 'Starlit (English).bin')
-        self.assertIn('cdpatch could not check whether the patch matches this disc.', self.browser.text('#player'))
+        self.assertIn('3 of 3 patches have no old bytes to compare, so cdpatch cannot tell whether they match.', self.browser.text('#player .step:nth-child(2)'))
 
     def test_a_dump_of_the_same_length_is_not_told_so_if_one_line_names_no_old_bytes(self) -> None:
         self.play(common.damaged(discs.game(), 150), discs.script())

@@ -9,7 +9,7 @@ import { button, clearNotices, element, fill, icon, isCancelled, jobBar, megabyt
 import { nameOf, notice, refuseWhileSaving, verdictLine } from '../ui/index.js';
 import { ChosenDisc } from './chosen_disc.js';
 import { playWords, sheetFor, wordsWithoutSheet } from './play_words.js';
-import { comparedWords, reasonForPlayer, refusalForPlayer, verdictWords } from './reason.js';
+import { reasonForPlayer, refusalForPlayer, verdictWords } from './reason.js';
 import { detailsOf, inLanguage, step } from './steps.js';
 import { authorsWords, moreOf } from './trust_note.js';
 import { imageOfSize, judgeImage } from './verdict.js';
@@ -284,13 +284,12 @@ export class Player {
         const head = say(streamed ? texts.saveSaved : texts.saveBrowserIsSaving, { name: nameOf(name) });
         const same = sha1 !== '' && texts.playerExactlyAuthorsImage;
         const wait = !streamed && format(texts.secondKeepPageOpen, { size: megabytes(size) });
-        const left = refused > 0 && format(texts.playerPatchesLeftOut, { n: refused });
-        const isCompared = judged.without < judged.patches;
-        const unknown = judged.verdict === 'unknown' && (isCompared ? comparedWords(judged) : texts.playerNothingShowedFit);
+        const left = refused > 0 && `${format(texts.playerPatchesLeftOut, { n: refused })} ${texts.playerGameMayStop}`;
+        const unknown = judged.verdict === 'unknown' && reasonForPlayer(judged, judged.work.reader.size, this.data.image.size);
         const tone = refused > 0 || unknown ? 'warn' : 'good';
         const message = verdictLine(tone, head, 'saved');
-        const rest = [same, wait, left, unknown].map(text => text && element('p', {}, text));
-        this.show(first, step('2', 'done', texts.playerStepPatched, message, ...rest), this.playStep(name));
+        const rest = [same, wait, left].map(text => text && element('p', {}, text));
+        this.show(first, step('2', 'done', texts.playerStepPatched, message, ...rest, unknown), this.playStep(name));
     }
 
     /** Shows the last step. Without a main button it gets the focus itself, which would otherwise return to the first step. */

@@ -64,7 +64,7 @@ export function refusalForPlayer({ patches, refused }, size, wanted) {
  * How many of the places that could be compared match in an unknown image: all of them, or it would be a different one.
  * @param {Pick<Judged, 'patches' | 'without'>} judged
  */
-export function comparedWords({ patches, without }) {
+function comparedWords({ patches, without }) {
     if (without === 0) return format(texts.playerPlacesMatchRestUnknown, { n: patches });
     const places = format(texts.playerPlacesOfPatch, { n: patches });
     const match = without === patches ? '' : `${format(texts.playerSomePlacesMatch, { n: patches - without, places })} `;

@@ -216,7 +216,6 @@ Alle {n} Stellen stimmen überein, aber es lässt sich nicht prüfen, ob der Res
     playerNothingLeftToDo: 'Es gibt nichts zu tun.',
     playerExactlyAuthorsImage: 'Es ist genau das Image, das der Autor erstellt hat: Der SHA-1-Wert ist derselbe.',
     playerPatchesLeftOut: '{n} Patch ausgelassen.|{n} Patches ausgelassen.',
-    playerNothingShowedFit: 'Es ließ sich nicht prüfen, ob der Patch zu dieser Disc passt.',
     playerStepPlay: 'Spielen',
     playerOpenInEmulator: 'Öffnen Sie {name} in Ihrem Emulator.',
     playerYourCueSheet: 'Ihre CUE-Datei',

@@ -182,7 +182,6 @@ All {n} places match, but cdpatch cannot tell whether the rest of the disc does.
     playerNothingLeftToDo: 'There is nothing to do.',
     playerExactlyAuthorsImage: 'It is exactly the image that the author made: the SHA-1 is the same.',
     playerPatchesLeftOut: '{n} patch left out.|{n} patches left out.',
-    playerNothingShowedFit: 'cdpatch could not check whether the patch matches this disc.',
     // the third step of that page
     playerStepPlay: 'Play',
     playerOpenInEmulator: 'Open {name} in your emulator.',

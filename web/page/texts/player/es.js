@@ -212,7 +212,6 @@ Los {n} lugares coinciden, pero no se puede saber si el resto es del mismo disco
     playerNothingLeftToDo: 'No hay nada que hacer.',
     playerExactlyAuthorsImage: 'Es exactamente la imagen que hizo el autor: el SHA-1 es el mismo.',
     playerPatchesLeftOut: '{n} parche no se ha aplicado.|{n} parches no se han aplicado.',
-    playerNothingShowedFit: 'No se ha podido comprobar si el parche es compatible con este disco.',
     playerStepPlay: 'Jugar',
     playerOpenInEmulator: 'Abre {name} en tu emulador.',
     playerYourCueSheet: 'Tu archivo CUE',

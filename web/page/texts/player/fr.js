@@ -213,7 +213,6 @@ Les {n} endroits correspondent tous, mais il est impossible de savoir si le rest
     playerNothingLeftToDo: 'Il n’y a rien à faire.',
     playerExactlyAuthorsImage: 'C’est exactement l’image que l’auteur a faite\u00a0: le SHA-1 est le même.',
     playerPatchesLeftOut: '{n} patch laissé de côté.|{n} patchs laissés de côté.',
-    playerNothingShowedFit: 'Il a été impossible de vérifier si le patch est compatible avec ce disque.',
     playerStepPlay: 'Jouer',
     playerOpenInEmulator: 'Ouvrez {name} dans votre émulateur.',
     playerYourCueSheet: 'Votre fichier CUE',

@@ -212,7 +212,6 @@ Tutti i {n} punti corrispondono, ma non è possibile sapere se il resto è dello
     playerNothingLeftToDo: 'Non c’è nulla da fare.',
     playerExactlyAuthorsImage: 'È esattamente l’immagine fatta dall’autore: lo SHA-1 è lo stesso.',
     playerPatchesLeftOut: '{n} patch tralasciata.|{n} patch tralasciate.',
-    playerNothingShowedFit: 'Non è stato possibile verificare se la patch è compatibile con questo disco.',
     playerStepPlay: 'Gioca',
     playerOpenInEmulator: 'Apri {name} nel tuo emulatore.',
     playerYourCueSheet: 'Il tuo file CUE',

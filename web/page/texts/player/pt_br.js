@@ -212,7 +212,6 @@ Todos os {n} lugares conferem, mas não há como saber se o resto é do mesmo di
     playerNothingLeftToDo: 'Não há nada a fazer.',
     playerExactlyAuthorsImage: 'É exatamente a imagem que o autor fez: o SHA-1 é o mesmo.',
     playerPatchesLeftOut: '{n} patch ficou de fora.|{n} patches ficaram de fora.',
-    playerNothingShowedFit: 'Não foi possível verificar se o patch é compatível com este disco.',
     playerStepPlay: 'Jogar',
     playerOpenInEmulator: 'Abra {name} no seu emulador.',
     playerYourCueSheet: 'Seu arquivo CUE',
