@@ -66,7 +66,7 @@ class Publish(PageTest):
         self.browser.wait('#player h1', HOSTILE)
         self.browser.give('#player-files', [discs.written(game=discs.game())['game']])
         self.browser.wait('#verdict', common.text('playerRightDisc'))
-        self.assertIn('6 patches. The new file needs 0.4 MB of space.', self.browser.text('#player'))
+        self.assertIn('6 patches. The new file needs 0.4\u00a0MB of space.', self.browser.text('#player'))
         self.press('Patch and save')
         self.assertEqual(self.browser.downloaded('Starlit.bin').read_bytes(), result())
         self.browser.wait('#player', 'It is exactly the image that the author made: the SHA-1 is the same.')
@@ -237,7 +237,7 @@ class Player(PageTest):
         self.press('Patch and save')
         self.assertEqual(self.browser.downloaded('Starlit (English).bin').read_bytes(), result())
         self.browser.wait('#player', 'the SHA-1 is the same')
-        self.browser.wait('#player', '0.4 MB. Keep this page open until the download is complete.')
+        self.browser.wait('#player', '0.4\u00a0MB. Keep this page open until the download is complete.')
 
     def test_another_dump_that_the_patch_fits(self) -> None:
         other = common.damaged(discs.game(), 150)

@@ -88,7 +88,7 @@ class Second(PageTest):
         self.assertEqual([self.legend('can be repaired'), self.legend('without a sound copy')], [3, 1])
         self.press('Save repaired image')
         saved = self.browser.downloaded('game (repaired).bin')
-        self.browser.wait('#second-body .say', '0.5 MB. Keep this page open')
+        self.browser.wait('#second-body .say', '0.5\u00a0MB. Keep this page open')
         self.browser.wait('#second-body .say.warn', '3 sectors repaired. 1 is still damaged: block 60.')
         self.assertTrue(self.browser.asks_before_leaving())
         due = bytearray(first)

@@ -54,8 +54,8 @@ export const DE = {
     inPercent: '{n}\u00a0%',
     inSeconds: '{seconds}\u00a0s',
     timeLeft: 'noch {time}',
-    megabytesOf: '{done} von {all} MB',
-    megabytesASecond: '{rate} MB/s',
+    megabytesOf: '{done} von {all}\u00a0MB',
+    megabytesASecond: '{rate}\u00a0MB/s',
     endTheSaving: 'Speichern beenden?',
     noImageIsKept: 'Das unfertige Image wird verworfen.',
     goOnSaving: 'Weiter speichern',
@@ -79,7 +79,7 @@ export const DE = {
     saveSavingFile: '{name} wird gespeichert',
     saveSaved: 'Gespeichert: {name}',
     saveBrowserIsSaving: 'Ihr Browser speichert {name}',
-    secondKeepPageOpen: '{size} MB. Lassen Sie diese Seite offen, bis der Download abgeschlossen ist.',
+    secondKeepPageOpen: '{size}\u00a0MB. Lassen Sie diese Seite offen, bis der Download abgeschlossen ist.',
     saveCueSheet: 'CUE-Datei speichern…',
     saveTheScript: 'Skript speichern…',
 
@@ -207,8 +207,8 @@ Alle {n} Stellen stimmen überein, aber es lässt sich nicht prüfen, ob der Res
     playerFirstPlace: 'erste Stelle',
     playerProgramReports: 'cdpatch meldet auf Englisch: „{line}“',
     playerPatchIt: 'Patchen',
-    playerPatchesNeedSpace: '{n} Patch. Die neue Datei braucht {space} MB Platz.|\
-{n} Patches. Die neue Datei braucht {space} MB Platz.',
+    playerPatchesNeedSpace: '{n} Patch. Die neue Datei braucht {space}\u00a0MB Platz.|\
+{n} Patches. Die neue Datei braucht {space}\u00a0MB Platz.',
     playerPatchAndSave: 'Patchen und speichern…',
     playerPatchAllTheSame: 'Trotzdem patchen…',
     playerNoFileChosen: 'Es wurde keine Datei gewählt.',

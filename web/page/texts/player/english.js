@@ -11,8 +11,8 @@ export const ENGLISH = /** @type {const} */ ({
     inPercent: '{n} %',
     inSeconds: '{seconds} s',
     timeLeft: '{time} left',
-    megabytesOf: '{done} of {all} MB',
-    megabytesASecond: '{rate} MB/s',
+    megabytesOf: '{done} of {all}\u00a0MB',
+    megabytesASecond: '{rate}\u00a0MB/s',
     endTheSaving: 'Stop saving?',
     noImageIsKept: 'The unfinished image will be discarded.',
     goOnSaving: 'Keep saving',
@@ -37,7 +37,7 @@ export const ENGLISH = /** @type {const} */ ({
     saveSavingFile: 'Saving {name}',
     saveSaved: 'Saved: {name}',
     saveBrowserIsSaving: 'Your browser is saving {name}',
-    secondKeepPageOpen: '{size} MB. Keep this page open until the download is complete.',
+    secondKeepPageOpen: '{size}\u00a0MB. Keep this page open until the download is complete.',
     saveCueSheet: 'Save a cue sheet…',
     saveTheScript: 'Save the script…',
 
@@ -174,7 +174,7 @@ All {n} places match, but cdpatch cannot tell whether the rest of the disc does.
     // the second step of that page
     playerPatchIt: 'Patch it',
     playerPatchesNeedSpace:
-        '{n} patch. The new file needs {space} MB of space.|{n} patches. The new file needs {space} MB of space.',
+        '{n} patch. The new file needs {space}\u00a0MB of space.|{n} patches. The new file needs {space}\u00a0MB of space.',
     playerPatchAndSave: 'Patch and save…',
     playerPatchAllTheSame: 'Patch anyway…',
     playerNoFileChosen: 'No file was chosen.',

@@ -53,8 +53,8 @@ export const ES = {
     inPercent: '{n} %',
     inSeconds: '{seconds} s',
     timeLeft: 'Tiempo restante: {time}',
-    megabytesOf: '{done} de {all} MB',
-    megabytesASecond: '{rate} MB/s',
+    megabytesOf: '{done} de {all}\u00a0MB',
+    megabytesASecond: '{rate}\u00a0MB/s',
     endTheSaving: '¿Dejar de guardar?',
     noImageIsKept: 'La imagen sin terminar se descartará.',
     goOnSaving: 'Seguir guardando',
@@ -77,7 +77,7 @@ export const ES = {
     saveSavingFile: 'Guardando {name}',
     saveSaved: 'Guardado: {name}',
     saveBrowserIsSaving: 'Tu navegador está guardando {name}',
-    secondKeepPageOpen: '{size} MB. No cierres esta página hasta que termine la descarga.',
+    secondKeepPageOpen: '{size}\u00a0MB. No cierres esta página hasta que termine la descarga.',
     saveCueSheet: 'Guardar un archivo CUE…',
     saveTheScript: 'Guardar el script…',
 
@@ -203,8 +203,8 @@ Los {n} lugares coinciden, pero no se puede saber si el resto es del mismo disco
     playerFirstPlace: 'primer lugar',
     playerProgramReports: 'cdpatch informa en inglés: «{line}»',
     playerPatchIt: 'Parchear',
-    playerPatchesNeedSpace: '{n} parche. El archivo nuevo necesita {space} MB de espacio.|\
-{n} parches. El archivo nuevo necesita {space} MB de espacio.',
+    playerPatchesNeedSpace: '{n} parche. El archivo nuevo necesita {space}\u00a0MB de espacio.|\
+{n} parches. El archivo nuevo necesita {space}\u00a0MB de espacio.',
     playerPatchAndSave: 'Parchear y guardar…',
     playerPatchAllTheSame: 'Parchear de todos modos…',
     playerNoFileChosen: 'No se ha elegido ningún archivo.',

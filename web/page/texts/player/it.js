@@ -53,8 +53,8 @@ export const IT = {
     inPercent: '{n}%',
     inSeconds: '{seconds} s',
     timeLeft: 'Tempo rimanente: {time}',
-    megabytesOf: '{done} di {all} MB',
-    megabytesASecond: '{rate} MB/s',
+    megabytesOf: '{done} di {all}\u00a0MB',
+    megabytesASecond: '{rate}\u00a0MB/s',
     endTheSaving: 'Interrompere il salvataggio?',
     noImageIsKept: 'L’immagine incompleta sarà scartata.',
     goOnSaving: 'Continua a salvare',
@@ -77,7 +77,7 @@ export const IT = {
     saveSavingFile: 'Salvataggio di {name}',
     saveSaved: 'Salvato: {name}',
     saveBrowserIsSaving: 'Il tuo browser sta salvando {name}',
-    secondKeepPageOpen: '{size} MB. Tieni aperta questa pagina fino alla fine del download.',
+    secondKeepPageOpen: '{size}\u00a0MB. Tieni aperta questa pagina fino alla fine del download.',
     saveCueSheet: 'Salva un file CUE…',
     saveTheScript: 'Salva lo script…',
 
@@ -203,8 +203,8 @@ Tutti i {n} punti corrispondono, ma non è possibile sapere se il resto è dello
     playerFirstPlace: 'primo punto',
     playerProgramReports: 'cdpatch segnala in inglese: «{line}»',
     playerPatchIt: 'Applica la patch',
-    playerPatchesNeedSpace: '{n} patch. Il file nuovo richiede {space} MB di spazio.|\
-{n} patch. Il file nuovo richiede {space} MB di spazio.',
+    playerPatchesNeedSpace: '{n} patch. Il file nuovo richiede {space}\u00a0MB di spazio.|\
+{n} patch. Il file nuovo richiede {space}\u00a0MB di spazio.',
     playerPatchAndSave: 'Applica la patch e salva…',
     playerPatchAllTheSame: 'Applica comunque…',
     playerNoFileChosen: 'Non è stato scelto nessun file.',

@@ -53,8 +53,8 @@ export const PT_BR = {
     inPercent: '{n}%',
     inSeconds: '{seconds} s',
     timeLeft: 'Tempo restante: {time}',
-    megabytesOf: '{done} de {all} MB',
-    megabytesASecond: '{rate} MB/s',
+    megabytesOf: '{done} de {all}\u00a0MB',
+    megabytesASecond: '{rate}\u00a0MB/s',
     endTheSaving: 'Parar de salvar?',
     noImageIsKept: 'A imagem incompleta será descartada.',
     goOnSaving: 'Continuar salvando',
@@ -77,7 +77,7 @@ export const PT_BR = {
     saveSavingFile: 'Salvando {name}',
     saveSaved: 'Salvo: {name}',
     saveBrowserIsSaving: 'Seu navegador está salvando {name}',
-    secondKeepPageOpen: '{size} MB. Deixe esta página aberta até o download terminar.',
+    secondKeepPageOpen: '{size}\u00a0MB. Deixe esta página aberta até o download terminar.',
     saveCueSheet: 'Salvar um arquivo CUE…',
     saveTheScript: 'Salvar o script…',
 
@@ -203,8 +203,8 @@ Todos os {n} lugares conferem, mas não há como saber se o resto é do mesmo di
     playerFirstPlace: 'primeiro lugar',
     playerProgramReports: 'o cdpatch informa em inglês: “{line}”',
     playerPatchIt: 'Aplicar o patch',
-    playerPatchesNeedSpace: '{n} patch. O novo arquivo precisa de {space} MB de espaço.|\
-{n} patches. O novo arquivo precisa de {space} MB de espaço.',
+    playerPatchesNeedSpace: '{n} patch. O novo arquivo precisa de {space}\u00a0MB de espaço.|\
+{n} patches. O novo arquivo precisa de {space}\u00a0MB de espaço.',
     playerPatchAndSave: 'Aplicar o patch e salvar…',
     playerPatchAllTheSame: 'Aplicar mesmo assim…',
     playerNoFileChosen: 'Nenhum arquivo foi escolhido.',
