@@ -74,8 +74,8 @@ export class ChosenDisc {
         const renamed = this.unnamedImage();
         if (renamed !== undefined && failedBy(error, 'disc/missing-files')) {
             const { sheet, file } = error.facts;
-            const names = { sheet: nameOf(sheet), wanted: nameOf(file), name: nameOf(renamed.file.name) };
-            return () => notice('bad', say(texts.playerSheetNamesOther, names), texts.playerRenamedWithoutSheet);
+            const parts = { sheet: nameOf(sheet), wanted: nameOf(file), name: nameOf(renamed.file.name) };
+            return () => notice('bad', say(texts.playerSheetNamesOther, parts), texts.playerRenamedWithoutSheet);
         }
         const names = files.map(file => file.name);
         return () => notice('bad', texts.openNotOpenedYet, ...messageParts(error, names));
