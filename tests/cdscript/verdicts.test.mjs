@@ -39,9 +39,7 @@ test('info and scan give the verdict of the table', () => inDirectory(async room
         const files = objects(json.out);
         const wanted = Object.fromEntries(Object.entries(due).filter(([code]) => code in KEYS || code === 'missing'));
         assert.deepEqual(findings(files), wanted, name);
-        // No reader of JSON is told that a file is sound of which something was not tested or is missing.
-        const listed = level === 'sound' && files.some(it => it.untested > 0 || it.short > 0) ? 'doubt' : level;
-        assert.ok(files.some(it => it.verdict === listed), `${name}: ${files.map(it => it.verdict)}`);
+        assert.ok(files.some(it => it.verdict === level), `${name}: ${files.map(it => it.verdict)}`);
         assert.deepEqual([text.status, json.status], [IS_WRONG[level], IS_WRONG[level]], name);
         // A track in a missing file is an error of scan, which cannot examine it.
         assert.equal(scan.status, 'missing' in due ? 2 : IS_WRONG[level], name);

@@ -50,7 +50,7 @@ export function fileObject(file, known) {
     return {
         ...hashKeys(file, known), changed: changed || null, kind, sectors: isSurveyed ? Object.fromEntries(sectors) : null, tail, short,
         damaged: tested > 0 ? damaged : null, wrongAddress: addressed > 0 ? elsewhere : null, lost: isSurveyed ? lost : null,
-        untested: isSurveyed ? untested : null, findings: tested + verdict.total > 0 ? verdict.total : null, verdict: verdict.listed,
+        untested: isSurveyed ? untested : null, findings: tested + verdict.total > 0 ? verdict.total : null, verdict: verdict.level,
     };
 }
 

@@ -22,13 +22,11 @@ import { blocksIn } from '../sectors/index.js';
  */
 /**
  * A verdict. `level`: something is damaged or missing; something is in doubt, since it is unusual, or was not tested although it must be;
- * all that must be tested is sound; or nothing had to be tested, as in audio. `listed` is the level for readers that see no numbers: it is
- * sound only if each sector was tested or a DAT verifies the file, and no block of the volume is missing. `tested` is how many sectors were
- * tested by their codes, `without` how many data sectors have no codes, and `total` how many blocks and other things are wrong. `status` is
- * that of a command, `canRepair` tells whether another dump can help, and `canPublish` whether the file is whole, so that others can
- * compare theirs with it.
- * @typedef {{ level: 'damage' | 'doubt' | 'sound' | 'nothing', listed: 'damage' | 'doubt' | 'sound' | 'nothing', findings: Finding[],
- *     tested: number, without: number, total: number, status: 0 | 1, canRepair: boolean, canPublish: boolean }} Verdict
+ * all that must be tested is sound; or nothing had to be tested, as in audio. `tested` is how many sectors were tested by their codes,
+ * `without` how many data sectors have no codes, and `total` how many blocks and other things are wrong. `status` is that of a command,
+ * `canRepair` tells whether another dump can help, and `canPublish` whether the file is whole, so that others can compare theirs with it.
+ * @typedef {{ level: 'damage' | 'doubt' | 'sound' | 'nothing', findings: Finding[], tested: number, without: number, total: number,
+ *     status: 0 | 1, canRepair: boolean, canPublish: boolean }} Verdict
  */
 
 /** @type {FindingCode[]} those that put a file in doubt, and do not show damage */
@@ -57,7 +55,7 @@ export function verdictOfRepair({ damaged, doubtful, wrongAddress, lost, unlike,
     const findings = counts.filter(([, count]) => count > 0).map(([code, count]) => ({ code, count, bytes: [], gaps: [] }));
     const isLeft = [damaged, doubtful, wrongAddress, lost, unlike, findings].some(it => it.length > 0);
     const status = dump ? dump.isBad : dump === null || isLeft;
-    return { ...judged(findings, { tested: 0, without: 0, unseen: 0 }, findings.length), status: status ? 1 : 0 };
+    return { ...judged(findings, { tested: 0, without: 0 }, findings.length), status: status ? 1 : 0 };
 }
 
 /**
@@ -85,8 +83,7 @@ export function verdictOf({ surveys, tail, missing = 0, unread = 0 }) {
     const findings = /** @type {FindingCode[]} */ (Object.keys(counts)).filter(code => counts[code] > 0)
         .map(code => ({ code, count: counts[code], ...more }));
     const single = counts.cut + missing + unread + sum(it => Number(it.lack !== null && it.lack.isSure) + Number(it.unproven > 0));
-    const unseen = sum(({ untested: some, lack }) => blocksIn(some) + (lack === null ? 0 : blocksIn([lack.missing])));
-    const sectors = { tested: sum(it => it.mode1 + it.mode2.tested), without: sum(withoutCodes), unseen };
+    const sectors = { tested: sum(it => it.mode1 + it.mode2.tested), without: sum(withoutCodes) };
     return judged(findings, sectors, sum(it => it.wrong + blocksIn(it.lost)) + single);
 }
 
@@ -100,7 +97,7 @@ function withoutCodes({ untested, unproven }) {
 
 /** The verdict on a file without sectors that could be tested. */
 export function noVerdict() {
-    return judged([], { tested: 0, without: 0, unseen: 0 }, 0);
+    return judged([], { tested: 0, without: 0 }, 0);
 }
 
 /**
@@ -109,7 +106,7 @@ export function noVerdict() {
  */
 export function ifVerified({ findings, tested, total }) {
     const left = findings.filter(({ code }) => !NEEDS_A_TEST.includes(code));
-    return judged(left, { tested: Math.max(tested, 1), without: 0, unseen: 0 }, left.length > 0 ? total : 0);
+    return judged(left, { tested: Math.max(tested, 1), without: 0 }, left.length > 0 ? total : 0);
 }
 
 /** @type {(findings: Finding[], tested: number) => Verdict['level']} */
@@ -121,16 +118,14 @@ function levelOf(findings, tested) {
 
 /**
  * @param {Finding[]} findings
- * @param {Pick<Verdict, 'tested' | 'without'> & { unseen: number }} sectors `unseen` were not tested, or are not in the image
+ * @param {Pick<Verdict, 'tested' | 'without'>} sectors
  * @param {number} total
  * @returns {Verdict}
  */
-function judged(findings, { tested, without, unseen }, total) {
-    const level = levelOf(findings, tested);
+function judged(findings, { tested, without }, total) {
     const has = (/** @type {FindingCode[]} */ ...codes) => findings.some(({ code }) => codes.includes(code));
     return {
-        level, listed: level === 'sound' && unseen > 0 ? 'doubt' : level, findings, tested, without, total,
-        status: findings.length > 0 ? 1 : 0,
+        level: levelOf(findings, tested), findings, tested, without, total, status: findings.length > 0 ? 1 : 0,
         canRepair: has('damaged', 'lost'), canPublish: !has('short', 'cut', 'gap'),
     };
 }
