@@ -192,10 +192,13 @@ export function fillsOf(encoding) {
     return fills;
 }
 
-/** Bytes that may fill up the room after a text, besides the wide space. */
+/**
+ * Bytes that may fill up the room after a text, besides the wide space. FF also ends texts in many games, even if it is a character of their
+ * encoding, such as ÿ.
+ */
 const NUL = 0x00;
 const BLANK = 0x20;
-const FULL = 0xFF;
+export const FULL = 0xFF;
 
 /**
  * How many bytes after a text only fill up its room. The last 00 and the last byte that ends texts do not belong to it. In a field of fixed

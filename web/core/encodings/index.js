@@ -2,7 +2,7 @@
 
 export { lacks, numbersOf } from './characters.js';
 export { CP932 } from './cp932.js';
-export { TableEncoding, encodeText, endOf, fillerOf, fillingAfter, usualBytes, withEnd } from './encoding.js';
+export { FULL, TableEncoding, encodeText, endOf, fillerOf, fillingAfter, usualBytes, withEnd } from './encoding.js';
 export { ENCODINGS, SEARCHED, encodingOf, markOf, tableTextOf, textOfFile, textsOfFile } from './encodings.js';
 export { endOfFilling, fillerSizeAt, sizeBeforeFilling } from './filling.js';
 export { tableEncoding } from './table.js';

@@ -1,6 +1,6 @@
 // All texts of a track.
 
-import { encodingOf } from '../encodings/index.js';
+import { FULL, encodingOf } from '../encodings/index.js';
 import { cancelled } from '../faults.js';
 import { hexText } from '../hex_digits.js';
 import { SECTOR_SIZE, USER_SIZE } from '../module/index.js';
@@ -52,10 +52,7 @@ const ENDED = 6;
 const MORE_ZEROS = 5;
 
 /** What a text begins with, other than a small letter, after a byte that ends texts. */
-const BEGINS = '[\\p{Lu}\\p{N}\\p{Ps}\\p{Pi}"\'¿¡]';
-
-/** The byte that ends texts in many games, although the encodings of Europe have a character for it, such as ÿ. */
-const FULL = 0xFF;
+const BEGINS_ENDED = '[\\p{Lu}\\p{N}\\p{Ps}\\p{Pi}"\'¿¡]';
 
 /** How many sectors are searched in a worker at a time, so that those full of texts give a short answer; and how many texts are listed. */
 const SEARCHED_SECTORS = 256;
@@ -116,7 +113,7 @@ function countsAfter(texts) {
 function countJoined(texts, { encoding: name, table }) {
     const encoding = name === undefined || table !== undefined ? null : encodingOf(name);
     if (encoding === null || !encoding.isSingle) return 0;
-    const joint = new RegExp(`${encoding.text(Uint8Array.of(FULL))}(?=${BEGINS})`, 'u');
+    const joint = new RegExp(`${encoding.text(Uint8Array.of(FULL))}(?=${BEGINS_ENDED})`, 'u');
     return texts.reduce((count, { text }) => count + text.split(joint).length - 1, 0);
 }
 

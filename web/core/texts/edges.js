@@ -1,5 +1,6 @@
 // Finds where texts begin and end exactly: by the byte that ends the texts of a file, or by the letters and marks beside their scored part.
 
+import { FULL } from '../encodings/index.js';
 import { MOST_EXTENSION, isZero, readTo } from './candidates.js';
 import { ASCII, BAD, CONTROL, HALF_WIDTH } from './scores.js';
 
@@ -56,9 +57,6 @@ function endsOf(bytes, texts) {
 function isLead({ size, pair }, byte) {
     return size === 3 ? byte < 0xF8 : pair.subarray(byte << 8, (byte + 1) << 8).some(score => score !== BAD);
 }
-
-/** The byte that ends texts in many games, even if it is a character of their encoding. */
-const FULL = 0xFF;
 
 /**
  * The byte after a text if it may be the one that ends texts: 00, FF, a control code other than tabs and line ends, or a byte that is not
