@@ -193,8 +193,8 @@ export function fillsOf(encoding) {
 }
 
 /**
- * Bytes that may fill up the room after a text, besides the wide space. FF also ends texts in many games, even if it is a character of their
- * encoding, such as ÿ.
+ * Bytes that may fill up the room after a text, besides the wide space. FF also ends texts in many games, even if it is a character of
+ * their encoding, such as ÿ.
  */
 const NUL = 0x00;
 const BLANK = 0x20;
