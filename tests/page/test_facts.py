@@ -100,9 +100,10 @@ class Facts(PageTest):
         self.browser.run(LATE_FILES)
         self.open_files(files['first'], files['second'])
         self.browser.answer('Repair the open first.bin with this file')
-        self.browser.wait('[aria-label="Without a sound copy: 1"] td', str(discs.first_block()))
-        self.assertNotIn('in no file', self.browser.text('[aria-label="Without a sound copy: 1"]'))
+        # The end of the volume, which the result names, is not known without its files.
+        self.browser.wait('#second-body .progress')
         self.browser.run('openFiles()')
+        self.browser.wait('[aria-label="Without a sound copy: 1"] td', str(discs.first_block()))
         self.browser.wait('[aria-label="Without a sound copy: 1"]', '/DATA/MSG00.DAT')
 
     # ---- texts

@@ -358,7 +358,8 @@ class Player(PageTest):
         self.play(discs.game())
         self.press('Patch and save')
         self.browser.wait('#saved')
-        common.waited(lambda: self.browser.run(UNSEEN, '#player .step:last-child') <= 0, 'the last step is out of the window')
+        # The page scrolls by whole pixels.
+        common.waited(lambda: self.browser.run(UNSEEN, '#player .step:last-child') < 1, 'the last step is out of the window')
 
     def test_what_else_the_cue_sheet_names_is_to_be_copied(self) -> None:
         self.open_patcher(patcher(discs.game(), result(), discs.script()))
