@@ -49,7 +49,7 @@ CORE = {
     'kind/what of sentences/kinds.js': '^(not recognised|an ISO image, 2048 bytes per sector)$',
     'list/new-characters of sentences/english.js': r'\d+ characters are in no old text: .* Does the font of the game have them\?',
     'pointers/moved of sentences/english.js': r'Row \d+: moved in /EVENT\d\.DAT from \d+ to \d+; pointers \d+\.',
-    'replace/no-room of sentences/english.js': r'[Tt]he new text has \d+ bytes in CP932, and there is room for \d+: \d+ too many',
+    'replace/no-room of sentences/english.js': r'the new text has \d+ bytes in CP932, and there is room for \d+: \d+ too many',
 }
 
 # Removes the marks from displayed text, and adds them to selectors, so that the tests can look for English.

@@ -75,7 +75,7 @@ class TypedTexts(PageTest):
         self.assertEqual(self.row(2)[3:], ['18 bytes too many.', '56 of 38'])
         self.browser.press(Keys.ENTER)
         self.browser.wait('#panel-text [aria-pressed]:nth-child(3)', 'Do not fit 1')
-        self.becomes(2, 3, f"18 too many. {common.text('textScriptKeeps')}")
+        self.becomes(2, 3, f"18 bytes too many. {common.text('textScriptKeeps')}")
         self.browser.wait('#count-script', '6')
         self.press('Do not fit')
         self.assertEqual([cells[1] for cells in self.cells()], [SENTENCES[1]])

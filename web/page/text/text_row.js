@@ -147,7 +147,8 @@ export class TextRow {
     remark(fault, more) {
         const { known: { places, why, written, waits, mayMove } } = this;
         if (fault !== '') return fault;
-        if (more > 0 && !mayMove) return this.isKept() && why !== '' ? why : format(texts.textTooMany, { n: more });
+        const keeps = this.isKept() && why.endsWith(texts.textScriptKeeps) ? ` ${texts.textScriptKeeps}` : '';
+        if (more > 0 && !mayMove) return `${format(texts.textTooMany, { n: more })}${keeps}`;
         const later = waits && this.isKept() ? texts.textNotInScript : '';
         if (more > 0 && (why === '' || !this.isKept())) return `${format(texts.textHasToMove, { n: more })} ${later}`;
         if (later !== '') return later;
