@@ -29,7 +29,7 @@ calls() { sed -n '/^\.Sh SYNOPSIS/,/^\.Sh DESCRIPTION/s/^\.Fn \([a-z0-9_]*\) .*/
 # The Debian packages of dist.list.
 packages() { sed -n 's/^[^#].* \(.*[a-z0-9]\)$/\1/p' dist.list | sort -u; }
 assert_known() {
-    packages | grep -qxF -e "$PACKAGE" || { echo "There is no package $PACKAGE: PACKAGE is one of $(packages | paste -sd ' ')." >&2; exit 1; }
+    packages | grep -qxF -e "$PACKAGE" || { echo "unknown PACKAGE $PACKAGE: the packages are $(packages | paste -sd ' ')" >&2; exit 1; }
 }
 
 assert_made() { [ "$3" = link ] || [ -e "$1" ] || { echo "There is no $1: run make first." >&2; exit 1; }; }

@@ -118,11 +118,9 @@ def patch(reader: Reader, script: ReadableBuffer, writer: Writer, base: int = 0,
     change of it during the call has no effect. A read may return fewer bytes than requested, and a write may write fewer; `write` returns
     the number of bytes written, as Python's files do. Nothing is read after the end of the image, and nothing is flushed or closed.
 
-    `writer` must not be the file of `reader`, because the image could be overwritten before it is read. Raises ValueError, before anything
-    is read or written, if both are the same object with a position, or if two of `reader`, `writer`, and the file of which `log` is a
-    method are the same regular file.
-
-    A line `# base N` in the script is a comment, and has no effect: pass N as `base`.
+    `writer` must not be the file of `reader`, because the image would be overwritten before it is read. Raises ValueError, before anything
+    is read or written, if both are the same object with a position or the same regular file, or if `log` is a method of one of these
+    files.
 
     Raises Failed, before anything is read or written, if the base is not 0 to 449849, or if the script is invalid or too long. To avoid an
     empty file if the script is invalid, call `check(b'', script)` before you open `writer`.

@@ -123,7 +123,7 @@ installed_elsewhere() {
     judge 'and away from there' test -z "$(files "$odd")$(files zsh)"
     built install PACKAGE=nosuch DESTDIR="$PWD/none" 2> log
     judge 'an unknown package is refused, and the known ones are listed' test $? != 0 -a ! -e none -a -n \
-        "$(grep '^There is no package nosuch: PACKAGE is one of cdpatch cdscript libcdpatch-dev libcdpatch2 python3-cdpatch\.$' log)"
+        "$(grep '^unknown PACKAGE nosuch: the packages are cdpatch cdscript libcdpatch-dev libcdpatch2 python3-cdpatch$' log)"
     built install DESTDIR="$PWD/none/" PREFIX=inst 2> log
     judge 'a PREFIX that does not begin with / is refused' test $? != 0 -a ! -e none -a -n "$(grep 'PREFIX must begin with /' log)"
     for file in cdpatch library completions; do

@@ -72,8 +72,8 @@ for (const job of ['list', 'audit']) {
 
 // Settings of a wrong type or name; those that a call does not use are accepted.
 const wrongSettings = [[null, 'settings must be an object, not null'], [150, 'settings must be an object, not 150'],
-    [{ bsae: 150 }, 'there is no setting bsae; the settings are base, carry, progress, signal'],
-    [{ toString: 1 }, /^there is no setting toString;/], [{ signal: 5 }, 'the setting signal must be an AbortSignal, not Number'],
+    [{ bsae: 150 }, 'unknown setting bsae; the settings are base, carry, progress, signal'],
+    [{ toString: 1 }, /^unknown setting toString;/], [{ signal: 5 }, 'the setting signal must be an AbortSignal, not Number'],
     [{ carry: 'no' }, 'the setting carry must be true or false, not String'], [{ progress: {} }, 'the setting progress must be a function, not Object']];
 for (const [settings, message] of wrongSettings) {
     for (const job of ['survey', 'list', 'audit']) await assert.rejects(cdpatch[job](sound, settings), { name: 'TypeError', message });

@@ -87,7 +87,7 @@ export function settingsOf(settings) {
     for (const [name, value] of Object.entries(settings)) {
         if (name === 'base' || value === undefined) continue;
         const [isRight, type] = Object.hasOwn(SETTINGS, name) ? SETTINGS[name] : [];
-        if (!isRight) throw new TypeError(`there is no setting ${name}; the settings are base, ${Object.keys(SETTINGS).join(', ')}`);
+        if (!isRight) throw new TypeError(`unknown setting ${name}; the settings are base, ${Object.keys(SETTINGS).join(', ')}`);
         if (!isRight(value)) throw new TypeError(`the setting ${name} must be ${type}, not ${value?.constructor?.name ?? value}`);
     }
     const { base = 0, carry = false, progress = () => {}, signal } = settings;

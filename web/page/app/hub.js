@@ -6,7 +6,7 @@
 /**
  * A job that runs: its name; the place of its bar, null without one; whether it saves an image, so that no image may be opened or closed;
  * whether leaving the page would lose what it saves; when it began, in milliseconds; how much is done, in percent; what ends it; and
- * whether its result is no longer needed.
+ * whether its result is not needed any more.
  * @typedef {{ name: string, place: Element | null, saves: boolean, isLost: boolean, began: number, percent: number, signal: AbortSignal,
  *     cancel: () => void, isReplaced: boolean }} RunningJob
  */

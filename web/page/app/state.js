@@ -131,7 +131,7 @@ export class App extends Store {
     }
 
     /**
-     * Ends a job whose result is no longer needed.
+     * Ends a job whose result is not needed any more.
      * @param {Element} place of its bar
      */
     endJobAt(place) {

@@ -32,7 +32,7 @@ function assertFree({ script }, incoming, lines) {
  * @param {Image} image
  * @param {Script | null} script null if there are no lines
  * @param {AbortSignal} [signal]
- * @param {TextLines} [lines] those of the open script, of which some may be removed
+ * @param {TextLines} [lines] those of the open script, some of which may be removed
  */
 export async function rowsMerged(app, image, script, signal, lines) {
     if (script !== null && script.long) throw ownFault(texts.textScriptLongerThanTaken);

@@ -90,7 +90,7 @@ function itemButton(item) {
 }
 
 /**
- * Puts the list below its button, or above it if there is no room below.
+ * Puts the list below its button, or above it if the space below is too small.
  * @param {HTMLElement} list
  */
 function place(list) {
