@@ -1,13 +1,12 @@
-// The script of the page: its lines, the edits that can be undone, whether it is saved, and the outcomes of Check.
+// The script of the page: its lines, the edits that can be undone, and whether it is saved.
 
-import { RESULT, isFault } from '../../core/module/index.js';
-import { ScriptModel, afterColon, baseComment, countOld, headLine, linesOfText, oldBytesOf, wordsOn } from '../../core/script/views.js';
-import { format, lineDoesNotFit, lineFits, lineNotCompared } from '../texts/index.js';
+import { baseComment, countOld, headLine, linesOfText, oldBytesOf } from '../../core/script/views.js';
+import { CheckedLines } from './checked_lines.js';
 import { MOST_LINES, MOST_SHOWN, hasTooMany, isLong } from './script_long.js';
 
 /** @typedef {import('../../core/module/calls.js').Calls} Calls */
 /** @typedef {import('../../core/script/model.js').ScriptState} ScriptState */
-/** @typedef {import('../../core/script/patches.js').Outcome} Outcome */
+/** @typedef {import('../../core/script/model.js').ScriptModel} ScriptModel */
 /**
  * An edit: from line `at` on, the `removed` and the `inserted` lines, and the script's names before and after it. A typed
  * edit is joined to the previous one if that was typed in the same line. `saved` says that the text after the edit is in a file.
@@ -25,17 +24,13 @@ import { MOST_LINES, MOST_SHOWN, hasTooMany, isLong } from './script_long.js';
 const HEAD = headLine();
 
 /** The script. If it is too long to be shown, only its text is kept, and no lines. */
-export class ScriptLines extends ScriptModel {
+export class ScriptLines extends CheckedLines {
     /**
      * @param {Calls} calls
      * @param {string} [text]
      */
     constructor(calls, text = `${HEAD}\n`) {
         super(calls, text);
-        /** @type {Map<number, Outcome>} by the number of the line, from 1 */
-        this.outcomes = new Map();
-        /** For each refused line, the last line before it that wrote the byte which differs; null until first needed. */
-        this.writers = /** @type {Map<number, number> | null} */ (null);
         /** @type {Edit[]} */
         this.done = [];
         /** @type {Edit[]} */
@@ -47,8 +42,6 @@ export class ScriptLines extends ScriptModel {
         /** The base of the open image. */
         this.base = 0;
         this.long = /** @type {LongScript | null} */ (null);
-        /** @type {Map<number, string>} the program's words for each fault met so far */
-        this.faultWords = new Map();
     }
 
     text() {
@@ -245,74 +238,5 @@ export class ScriptLines extends ScriptModel {
     /** How many patches name no old bytes, and how many old bytes the others name. */
     oldBytes() {
         return this.long ? oldBytesOf(this.calls, this.long.text) : countOld(this.lines.flatMap(({ patch }) => patch || []));
-    }
-
-    /** @param {Outcome[]} outcomes of Check */
-    setOutcomes(outcomes) {
-        this.outcomes = new Map(outcomes.map(outcome => [outcome.number, outcome]));
-        this.writers = null;
-    }
-
-    /**
-     * The number of the last line before a refused one that wrote the byte which differs there, or 0.
-     * @param {Outcome} outcome
-     */
-    writerBefore({ number }) {
-        if (this.writers === null) {
-            const isApplied = (/** @type {number} */ line) => this.outcomes.get(line)?.result === RESULT.OK;
-            this.writers = this.writersBefore([...this.outcomes.values()].filter(({ result }) => result === RESULT.DIFFERS), isApplied);
-        }
-        return this.writers.get(number) || 0;
-    }
-
-    /**
-     * Whether a line has a fault or a patch that is refused.
-     * @param {number} i
-     */
-    isWrong(i) {
-        const outcome = this.outcomes.get(i + 1);
-        return isFault(this.lines[i].content) || (outcome !== undefined && outcome.result !== RESULT.OK);
-    }
-
-    /**
-     * Whether the patch of a line names old bytes, and the image has them there.
-     * @param {number} i
-     */
-    isMatched(i) {
-        const { patch } = this.lines[i];
-        const outcome = this.outcomes.get(i + 1);
-        return outcome !== undefined && outcome.result === RESULT.OK && patch !== null && patch.old !== null;
-    }
-
-    /**
-     * The message for a line, in the program's words: its fault, or whether its patch matches; '' if there is neither.
-     * @param {number} i
-     */
-    wordsAt(i) {
-        const { content, number } = this.lines[i];
-        const outcome = this.outcomes.get(i + 1);
-        if (isFault(content)) {
-            const words = this.faultWords.get(content) ?? wordsOn(this.calls.faultLine(1, content), 1);
-            this.faultWords.set(content, words);
-            return words;
-        }
-        if (!outcome) return '';
-        if (outcome.result === RESULT.OK) return this.isMatched(i) ? lineFits : lineNotCompared;
-        const words = wordsOn(this.calls.outcomeLine(number, outcome.result, outcome.block, outcome.offset), number);
-        return format(lineDoesNotFit, { why: afterColon(words) });
-    }
-
-    /**
-     * The next wrong line, wrapping round at the end, or -1.
-     * @param {number} from
-     * @param {number} step 1 or -1
-     */
-    nextWrong(from, step) {
-        const count = this.lines.length;
-        for (let k = 1; k <= count; k++) {
-            const i = (from + k * step + k * count) % count;
-            if (this.isWrong(i)) return i;
-        }
-        return -1;
     }
 }
