@@ -1,5 +1,5 @@
 #!/usr/bin/env python3
-"""Checks that the prover refuses wrong bodies: `bodies.py [--lanes N] [--strict] [CRATE..]` tries those of these crates, or of all,
+"""Checks that the prover refuses wrong bodies: `bodies.py [--lanes N] [CRATE..]` tries those of these crates, or of all,
 over the libraries that `rt ci` or `make` has built. It prints the goal that refused each; the last line is 'N passed, M failed'.
 
 A crate's wrong bodies are its edits in `must-fail`, which rt tries too, and the tables `wrong-bodies/FILE.edits`, one for each source file.
@@ -10,8 +10,8 @@ of each function of the crate: functions are separated by contracts, so each edi
 counts if a goal of that function itself is left. Every other edit (of a table or of several functions, one that only a caller refuses) is
 tried alone, and counts if a goal of any function is left.
 
-A goal is left if the written proof does not fit it, or if there is none and `search` does not prove it. With --strict, a proof that names
-what the edit took away says nothing, since the edit may be right, and nor does a limit of the prover. Without it, these count too."""
+A goal is left if the written proof does not fit it, or if there is none and `search` does not prove it. A proof that names what the edit
+took away says nothing, since the edit may be right, and nor does a limit of the prover."""
 
 from __future__ import annotations
 
@@ -36,8 +36,6 @@ RT = Path(shutil.which('rt') or sys.exit('There is no rt on the path.')).resolve
 # The logic of the toolchain that proves.
 LOGIC = subprocess.run([RT, 'version'], stdout=subprocess.PIPE, text=True, check=True).stdout.partition('logic ')[2]
 FLAGS = ['--jobs', '1']
-# The verdicts of rt on a wrong body that count without --strict: True in release 13b, and words in 13f.
-REFUSED = (True, 'refused', 'limit')
 # A failure says nothing about the contract if a proof names something that the edit removed, or waits for a different proof.
 SAYS_LITTLE = re.compile(r'has no field|is not in scope|has no `|was not admitted|that depends? on')
 # The files of the written proof of a function. The other files in `proofs` are of lemmas.
@@ -151,10 +149,9 @@ def rounds_of(edits: list[Edit], folder: str) -> list[tuple[list[Edit], dict[str
     return rounds
 
 
-def goals_left(done: subprocess.CompletedProcess[str], strict: bool) -> dict[str, str]:
-    """By function name, the first goal that a check has left. If it is strict, what `search` did not prove does not count in a function whose
-    written proof names something that is gone: such a goal may have that proof under a different name. A false constant can also refute a
-    lemma."""
+def goals_left(done: subprocess.CompletedProcess[str]) -> dict[str, str]:
+    """By function name, the first goal that a check has left. What `search` did not prove does not count in a function whose written proof
+    names something that is gone: such a goal may have that proof under a different name. A false constant can also refute a lemma."""
     if done.returncode != 1 or not done.stdout.rstrip('\n').split('\n')[-1].startswith('logic=not-proved'):
         return {}
     unfit: dict[str, str] = {}
@@ -168,47 +165,42 @@ def goals_left(done: subprocess.CompletedProcess[str], strict: bool) -> dict[str
             lost.add(name)
         elif at:
             unfit.setdefault(name, at[3])
-        said = re.match(r'fn \w+::(\S+): (?:no proof|not proved)(.*)', line)
-        if said and ('`search` did not prove' in said[2] or (said[2] == '' and not strict)):
+        said = re.match(r'fn \w+::(\S+): (?:no proof|not proved)(.*`search` did not prove.*)', line)
+        if said:
             path = [it for it in said[1].split('+')[0].split('::') if it != 'fn']
             # The goals of a closure belong to its function: fn::FUNCTION::CALL.
             name = said[1].split('fn::')[1].split('::')[0] if 'fn::' in said[1] else path[-1]
-            unproved.setdefault(name, said[2].lstrip(': ') or 'not proved')
-    return {name: goal for name, goal in unproved.items() if not strict or name not in lost} | unfit
+            unproved.setdefault(name, said[2].lstrip(': '))
+    return {name: goal for name, goal in unproved.items() if name not in lost} | unfit
 
 
-def tried_at_once(crate: Any, edits: list[Edit], kept: str, strict: bool) -> dict[str, str]:
+def tried_at_once(crate: Any, edits: list[Edit], kept: str) -> dict[str, str]:
     """By edit name, the goal that refused it in a check of many edits."""
     refused: dict[str, str] = {}
     for members, texts in rounds_of([it for it in edits if it.function], crate.folder):
-        goals = goals_left(rt.checked(crate, texts, FLAGS, kept), strict)
+        goals = goals_left(rt.checked(crate, texts, FLAGS, kept))
         refused |= {it.name: goals[it.function] for it in members if it.function in goals}
     return refused
 
 
-def tried_alone(crate: Any, edit: Edit, kept: str | None, strict: bool) -> tuple[bool, str]:
+def tried_alone(crate: Any, edit: Edit, kept: str | None) -> tuple[bool, str]:
     """Whether a wrong body is refused alone, and the text to print. One that is proved over kept results is tried again without them."""
-    if not strict:
-        verdict, text = rt.must_fail(crate, edit.path, FLAGS, kept)
-        if verdict not in REFUSED and kept:
-            verdict, text = rt.must_fail(crate, edit.path, FLAGS)
-        return verdict in REFUSED, f'{"alone" if verdict in REFUSED else "FAILED:"} {text}'
     done = rt.checked(crate, edit.texts, FLAGS, kept)
     if done.returncode == 0 and kept:
         done = rt.checked(crate, edit.texts, FLAGS, None)
-    for function, goal in goals_left(done, strict).items():
+    for function, goal in goals_left(done).items():
         return True, f'alone {crate.name}: {edit.name}: {function}: {goal[:120]}'
     said = done.stdout.rstrip('\n').split('\n')
     return False, f'FAILED: {crate.name}: {edit.name}: {next((it for it in said if ": error" in it), said[-1])[:200]}'
 
 
-def try_crate(crate: Any, wrong: list[Block], strict: bool) -> tuple[int, int]:
+def try_crate(crate: Any, wrong: list[Block]) -> tuple[int, int]:
     """How many of some wrong bodies of a crate were refused, and how many were not."""
     with tempfile.TemporaryDirectory(prefix='wrong-bodies-') as room:
-        return try_edits(crate, edits_of(crate, laid_out(crate, wrong, Path(room))), strict)
+        return try_edits(crate, edits_of(crate, laid_out(crate, wrong, Path(room))))
 
 
-def try_edits(crate: Any, edits: list[Edit], strict: bool) -> tuple[int, int]:
+def try_edits(crate: Any, edits: list[Edit]) -> tuple[int, int]:
     began = time.monotonic()
     lines, refused = [f'FAILED: {crate.name}: {it.name}: {it.why}' for it in edits if it.why], 0
     fit = [it for it in edits if not it.why]
@@ -220,7 +212,7 @@ def try_edits(crate: Any, edits: list[Edit], strict: bool) -> tuple[int, int]:
             rt.linked(begun, kept)
         else:
             os.mkdir(kept)
-        goals = tried_at_once(crate, fit, kept, strict)
+        goals = tried_at_once(crate, fit, kept)
         over: str | None = kept
         # The unchanged crate must be proved over the results that these checks have kept; otherwise they show nothing.
         if fit and rt.checked(crate, {}, FLAGS, kept).returncode:
@@ -230,7 +222,7 @@ def try_edits(crate: Any, edits: list[Edit], strict: bool) -> tuple[int, int]:
             if edit.name in goals:
                 is_refused, text = True, f'refused {crate.name}: {edit.name}: {goals[edit.name][:120]}'
             else:
-                is_refused, text = tried_alone(crate, edit, over, strict)
+                is_refused, text = tried_alone(crate, edit, over)
             refused += is_refused
             lines.append(text)
     lines.append(f'{crate.name}: {len(goals)} in common checks, {len(fit) - len(goals)} alone, in {time.monotonic() - began:.0f} s')
@@ -238,10 +230,10 @@ def try_edits(crate: Any, edits: list[Edit], strict: bool) -> tuple[int, int]:
     return refused, len(edits) - refused
 
 
-def try_and_record(crate: Any, seed: str | None, strict: bool) -> tuple[int, int]:
+def try_and_record(crate: Any, seed: str | None) -> tuple[int, int]:
     """With a seed, tries what refused.txt lacks and a fifth of the others; without one, all, and records them if all are refused."""
     found = totals(crate)
-    counts = try_crate(crate, [block for block, _ in found] if seed is None else needed(found, seed), strict)
+    counts = try_crate(crate, [block for block, _ in found] if seed is None else needed(found, seed))
     if seed is None:
         record(found if counts[1] == 0 else [], {block.table for block, _ in found})
     return counts
@@ -251,7 +243,6 @@ def main() -> int:
     reader = argparse.ArgumentParser()
     reader.add_argument('--lanes', type=int, default=len(os.sched_getaffinity(0)))
     reader.add_argument('--fifth', metavar='SEED', help='try what refused.txt lacks, and only a fifth of the others')
-    reader.add_argument('--strict', action='store_true', help='count only a goal that is left because of the body')
     reader.add_argument('crates', nargs='*')
     given = reader.parse_args()
     crates = [it for it in rt.rtlib.crates_below(str(TOP)) if (any(rt.edits_of(it)) or totals(it)) and it.name in (given.crates or [it.name])]
@@ -261,7 +252,7 @@ def main() -> int:
     rt.rtlib.guarded()
     with ThreadPoolExecutor(given.lanes) as pool:
         crates.sort(key=lambda crate: -len(totals(crate)))
-        counts = [*pool.map(lambda crate: try_and_record(crate, given.fifth, given.strict), crates)]
+        counts = [*pool.map(lambda crate: try_and_record(crate, given.fifth), crates)]
     passed, failed = map(sum, zip(*counts))
     print(f'{passed} passed, {failed} failed')
     return 1 if failed else 0
