@@ -47,16 +47,18 @@ test('info and scan give the verdict of the table', () => inDirectory(async room
         for (const code of Object.keys(due)) assert.match(text.out.split('\n').filter(line => line.startsWith('verdict')).join(), SAYS[code], name);
     }
     assert.match((await run(['info', 'twice-start.bin'], { cwd: room })).out, /^verdict: 3 extra sectors are before block 3$/m);
+    assert.match((await run(['info', 'late-start.bin'], { cwd: room })).out, /^verdict: 3 sectors are missing before block 3$/m);
     const withBase = async name => run(['info', '--base', '100', name], { cwd: room });
     assert.doesNotMatch((await withBase('sound.bin')).out, SAYS.gap, 'a wrong base is not a gap');
     assert.match((await withBase('hole.bin')).out, SAYS.gap, 'a gap is found with a wrong base');
     for (const name of others) assert.equal((await run(['info', name], { cwd: room })).status, 1, name);
 }));
 
-test('merge gives the verdict of info on an image that ends too early', () => inDirectory(async room => {
+test('merge gives the verdict of info on an image that begins too late or ends too early', () => inDirectory(async room => {
     spawnSync('python3', ['-B', join(top, 'tests/lib/verdict_images.py'), room]);
     for (const [name, due, short, tail] of [['short.bin', '40 blocks of the volume are missing at the end', 40, 0], ['short.cue', '40 blocks of the volume are missing at the end', 40, 0],
-        ['cut.bin', '1 block of the volume is missing at the end; the last sector is cut', 1, 1352], ['sound.bin', '', 0, 0]]) {
+        ['cut.bin', '1 block of the volume is missing at the end; the last sector is cut', 1, 1352],
+        ['late-start.bin', '3 sectors are missing before block 3', 0, 0], ['sound.bin', '', 0, 0]]) {
         for (const words of [[name, '--parity'], [name, 'sound.bin']]) {
             const { status, out, errors } = await run(['merge', ...words, `${words.join()}.out`, '--json'], { cwd: room });
             const said = errors.split('\n').filter(line => line.startsWith(`cdscript: ${words.join()}.out: `));

@@ -3,4 +3,4 @@
 export { dataTrack, imageAround, openChosen, openDisc } from './disc.js';
 export { SUBCHANNEL_SIZE } from './file_type.js';
 export { lostSectors, otherSectors, sheetTracks } from './lost.js';
-export { lackOf } from './volume_end.js';
+export { lackOf, missingBefore } from './volume_end.js';

@@ -1,4 +1,4 @@
-// Determines which blocks a volume uses, and whether an image ends before its volume does.
+// Determines which blocks a volume uses, and whether an image lacks blocks of its volume at the start or at the end.
 
 import { failedBy } from '../faults.js';
 import { VolumeReader, descriptorsOf, endOfExtent, filesOf, numberInBoth } from '../iso/index.js';
@@ -52,11 +52,13 @@ async function ifVolume(reading) {
  * The volume of a Mode 1 or Mode 2 track, which may be longer than the track, and its descriptors; null if there is none.
  * @param {DiscImage} image
  * @param {DiscImage} part the track in it
+ * @param {number} [first] the number that the volume gives the track's first sector
  */
-async function volumeIn(image, part) {
+async function volumeIn(image, part, first = 0) {
     const reader = sliceOf(image.reader, (part.base - image.base) * SECTOR_SIZE, image.reader.size);
     for (const userIn of [joinedUser, joinedForm1]) {
         const volume = new VolumeReader(reader, part.base, userIn);
+        volume.first = first;
         const descriptors = await ifVolume(descriptorsOf(volume));
         if (descriptors !== null) return { volume, descriptors };
     }
@@ -93,7 +95,18 @@ export async function blocksOfVolume({ image, part, later }) {
 }
 
 /**
- * Determines which blocks of a track's volume an image lacks; null if it has all of them, or if the track has no volume.
+ * How many sectors are missing before a track that begins after block 0, although the descriptors in block 16 show that its volume begins
+ * there (ECMA-119, 6.2.1); 0 if they do not.
+ * @param {DiscImage} image
+ * @param {DiscImage} part the track in it
+ */
+export async function missingBefore(image, part) {
+    if (part.base === 0 || part.base > SYSTEM_AREA || await volumeIn(image, part) !== null) return 0;
+    return await volumeIn(image, part, part.base) === null ? 0 : part.base;
+}
+
+/**
+ * Determines which blocks of a track's volume an image lacks at the end; null if it has all of them, or if the track has no volume.
  * @param {DiscImage} image
  * @param {DiscImage} part the track in it
  * @param {boolean} isAlone whether a cue sheet says that the disc has no other track

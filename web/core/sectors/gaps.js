@@ -7,7 +7,8 @@ import { MODE2, isTestedMode2 } from './mode2.js';
 /** @typedef {import('./survey.js').MovedRun} MovedRun */
 /**
  * A run with the addresses of the blocks that are `by` later. The place of the gap is before it, or, if `isAtStart`, after it, since no
- * sector before it has the address of its block: then the sectors are missing if `by` is below 0, or else extra.
+ * sector before it has the address of its block: then the sectors are missing if `by` is below 0, or else extra. Before an image that lacks
+ * the first sectors of its volume, the run is empty.
  * @typedef {MovedRun & { isAtStart: boolean }} Gap
  */
 

@@ -1,7 +1,7 @@
 // Determines which tracks of a disc are surveyed, and the findings of each survey.
 
 import { joinedBytes } from '../bytes.js';
-import { imageAround, lackOf, lostSectors, otherSectors, sheetTracks } from '../disc/index.js';
+import { imageAround, lackOf, lostSectors, missingBefore, otherSectors, sheetTracks } from '../disc/index.js';
 import { LAST_BASE, RECORD_SIZE, SECTOR_SIZE, sectorCount } from '../module/index.js';
 import { sliceOf } from '../readers/index.js';
 import { addToRuns, blocksIn, commonRuns, gapsIn, isTestedMode2, joinedRuns, laterRuns, mode2Counts } from '../sectors/index.js';
@@ -181,16 +181,28 @@ export async function foundInSurvey({ image, part, isAlone, sheetTracks: tracks 
     const ofMode2 = mode2Counts(survey.records, mode2Found);
     const unproven = ofMode2.tested > 0 ? [] : commonRuns(lost.untested, mode2Runs(mode2, survey.block, isTestedMode2));
     return { survey, ...counts, wrong: counts.wrong + ofMode2.wrong, mode2: ofMode2, mode2Found, unproven: blocksIn(unproven), ...lost,
-        fillers: bytesOfLost(lost.lost, filled), lack, gaps: gapsIn({ ...survey, moved }, mode2Found) };
+        fillers: bytesOfLost(lost.lost, filled), lack,
+        gaps: [...await gapBefore(image, part), ...gapsIn({ ...survey, moved }, mode2Found)] };
 }
 
 /**
- * The blocks of its volume that the image of a track lacks at the end, null if none, and the number of bytes after the file's last whole
- * sector. Throws what the reader throws.
+ * The gap before a track that lacks the first sectors of its volume, an empty run; or none.
+ * @param {DiscImage} image
+ * @param {DiscImage} part
+ * @returns {Promise<Gap[]>}
+ */
+async function gapBefore(image, part) {
+    const by = await missingBefore(image, part);
+    return by === 0 ? [] : [{ first: part.base, last: part.base - 1, by, isAtStart: false }];
+}
+
+/**
+ * The blocks of its volume that the image of a track lacks: before its first sector (`before`), and at the end, null if none; and the
+ * number of bytes after the file's last whole sector. Throws what the reader throws.
  * @param {import('./opened.js').OpenedTrack} opened
  */
-export async function endOfImage({ disc, track: { file }, image, part }) {
-    return { lack: await lackOf(image, part, hasOneTrack(disc)), tail: tailOf(disc, file) };
+export async function endsOfImage({ disc, track: { file }, image, part }) {
+    return { before: await gapBefore(image, part), lack: await lackOf(image, part, hasOneTrack(disc)), tail: tailOf(disc, file) };
 }
 
 /**

@@ -7,7 +7,7 @@ import { sliceOf } from '../readers/index.js';
 import { addToRuns, blocksIn, commonRuns, joinedRuns, runsWithout } from '../sectors/index.js';
 import { addressShift, commonPart, firstBlock, rangesOf, shiftOf } from './common_part.js';
 import { tailsDiffer } from './compare.js';
-import { endOfImage } from './inform.js';
+import { endsOfImage } from './inform.js';
 import { nothingFound } from './merge.js';
 import { trackBeside } from './opened.js';
 
@@ -39,10 +39,11 @@ import { trackBeside } from './opened.js';
  * The findings of a repair. If it is `refused`, the repaired image must be discarded. Sectors that are neither Mode 1 nor tested Mode 2 in
  * any dump are `lost` or `untested`, and the `unlike` ones among the latter are different in some dump. For each other dump, `different` is
  * the number of the sectors in `differing`, `ranges` lists its blocks, and `tails` tells whether the bytes after the last sector differ, if
- * that is the same sector. A repair changes neither the blocks of the volume that the image lacks at its end (`lack`) nor its `tail`.
+ * that is the same sector. A repair does not change which blocks of the volume the image lacks at the start (`before`) and at the end
+ * (`lack`), nor its `tail`.
  * @typedef {Omit<Found, 'others' | 'filled' | 'unsound' | 'unclear' | 'sound' | 'unlike'> & { refused: Refusal | null, sectors: number,
  *     different: number[], lost: LostRun[], untested: KindRun[], unlike: KindRun[], ranges: Ranges[], tails: boolean[],
- *     lack: import('../disc/volume_end.js').Lack | null, tail: number }} Repair
+ *     before: import('../sectors/gaps.js').Gap[], lack: import('../disc/volume_end.js').Lack | null, tail: number }} Repair
  */
 
 /** A dump is refused if more than one in this many sectors is sound or untested in the image, and different in the dump. */
@@ -74,7 +75,7 @@ export async function repairTrack({ calls, pool }, opened, dumps, take, options 
     const { others: notTested, filled, ...found } = settled(all);
     const refused = await refusalOf(calls, image, others, parts, all);
     const ranges = others.map(other => rangesOf(image, other));
-    const shared = { ...found, ...await endOfImage(opened), refused, sectors: sectorCount(image.reader.size),
+    const shared = { ...found, ...await endsOfImage(opened), refused, sectors: sectorCount(image.reader.size),
         different: found.differing.map(blocksIn), ranges };
     if (refused !== null) return { ...shared, unlike: [], lost: [], untested: [], tails: others.map(() => false) };
     const dumpsOfAll = [{ ...opened, later: 0 }, ...tracks.map((track, i) =>

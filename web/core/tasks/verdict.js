@@ -43,16 +43,17 @@ function blocksShort(lack) {
 }
 
 /**
- * The verdict on a repaired image. Its findings are those at the end of the image, which no repair changes; its status also counts what is
- * left or not confirmed. A DAT that has the image decides alone.
- * @param {Pick<import('./repair.js').Repair, 'damaged' | 'doubtful' | 'wrongAddress' | 'lost' | 'unlike' | 'lack' | 'tail'>} repair
+ * The verdict on a repaired image. Its findings are those at the start and the end of the image, which no repair changes; its status also
+ * counts what is left or not confirmed. A DAT that has the image decides alone.
+ * @param {Pick<import('./repair.js').Repair,
+ *     'damaged' | 'doubtful' | 'wrongAddress' | 'lost' | 'unlike' | 'before' | 'lack' | 'tail'>} repair
  * @param {{ isBad: boolean } | null} [dump] that the DAT has of the image, null if it has none; undefined without a DAT
  * @returns {Verdict}
  */
-export function verdictOfRepair({ damaged, doubtful, wrongAddress, lost, unlike, lack, tail }, dump) {
+export function verdictOfRepair({ damaged, doubtful, wrongAddress, lost, unlike, before, lack, tail }, dump) {
     const short = blocksShort(lack);
-    const counts = /** @type {[FindingCode, number][]} */ ([['short', short], ['cut', Number(tail > 0)]]);
-    const findings = counts.filter(([, count]) => count > 0).map(([code, count]) => ({ code, count, bytes: [], gaps: [] }));
+    const counts = /** @type {[FindingCode, number][]} */ ([['short', short], ['cut', Number(tail > 0)], ['gap', before.length]]);
+    const findings = counts.filter(([, count]) => count > 0).map(([code, count]) => ({ code, count, bytes: [], gaps: before }));
     const isLeft = [damaged, doubtful, wrongAddress, lost, unlike, findings].some(it => it.length > 0);
     const status = dump ? dump.isBad : dump === null || isLeft;
     return { ...judged(findings, { tested: 0, without: 0 }, findings.length), status: status ? 1 : 0 };
@@ -82,7 +83,10 @@ export function verdictOf({ surveys, tail, missing = 0, unread = 0 }) {
     const more = { bytes: known.every(it => it.length > 0) ? [...new Set(known.flat())] : [], gaps: surveys.flatMap(it => it.gaps) };
     const findings = /** @type {FindingCode[]} */ (Object.keys(counts)).filter(code => counts[code] > 0)
         .map(code => ({ code, count: counts[code], ...more }));
-    const single = counts.cut + missing + unread + sum(it => Number(it.lack !== null && it.lack.isSure) + Number(it.unproven > 0));
+    // After any other gap, addresses are wrong, and count.
+    const atStart = sum(it => it.gaps.filter(({ first, last }) => last < first).length);
+    const single = counts.cut + missing + unread + atStart
+        + sum(it => Number(it.lack !== null && it.lack.isSure) + Number(it.unproven > 0));
     const sectors = { tested: sum(it => it.mode1 + it.mode2.tested), without: sum(withoutCodes) };
     return judged(findings, sectors, sum(it => it.wrong + blocksIn(it.lost)) + single);
 }
