@@ -246,6 +246,16 @@ test('final marks belong to a text, whatever ends it', () => {
 
 test('letters, marks, and half-width kana at the beginning belong to a text', () => {
     const texts = ['HPが足りません', '「だれだ！」', 'ﾒﾓﾘｰが足りません', '『古い本』を読みますか？', 'A城の地下に宝がある', 'OK、旅に出ましょう。', '(小さな声で)ここです'];
+test('wide letters and digits are texts, but not in UTF-16, in which they look like quiet sound', () => {
+    const texts = ['ＳＴＡＲＴ', 'ＬＯＡＤ　ＧＡＭＥ', 'ＨＰ１２３４', 'ＯＰＴＩＯＮ'];
+    for (const name of ['CP932', 'EUC-JP']) {
+        assert.deepEqual(foundIn(name, endedBy(name, texts, 0)), texts.map(text => bytesOf(name, text).toString('hex')), name);
+    }
+    const dice = diceOf(5);
+    const quiet = Int16Array.from({ length: 1 << 18 }, () => -205 + dice(60) - 30);
+    assert.deepEqual(found(Buffer.from(quiet.buffer)), []);
+});
+
     for (const end of [0x00, 0xFF]) {
         const bytes = Buffer.concat([Buffer.of(end), endedBy('CP932', texts, end)]);
         assert.deepEqual(foundIn('CP932', bytes), texts.map(text => bytesOf('CP932', text).toString('hex')), `${end}`);

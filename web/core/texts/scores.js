@@ -23,6 +23,7 @@ export const ASCII = 6;
 export const LINE_END = 7;
 export const CONTROL = 8;
 export const HALF_WIDTH = 9;
+const WIDE_LETTER = 5;
 
 /** The scores of one-byte characters, by their kinds. */
 const ONES = { [ASCII]: -1, [LINE_END]: -16, [CONTROL]: -32, [HALF_WIDTH]: -1 };
@@ -33,6 +34,9 @@ const RARE = [[0x8900, -24], [0x9873, USUAL_KANJI], [0xED00, -20], [0xF000, -27]
 
 /** The scores of signs that are rare in man pages and frequent in games: those that end a sentence, and others. */
 const SIGNS = /** @type {[number, string][]} */ ([[24, '！？…'], [16, '『』♪～']]);
+
+/** The score of wide letters and digits, which menus have, except in UTF-16: there they are small negative numbers, as in quiet sound. */
+const WIDE_LETTERS = 12;
 
 /** The least score of each of two neighbours in a text, and of both together. */
 const STRONG = 8;
@@ -51,13 +55,15 @@ const SECOND_CONTROL = 20;
 const AFTER_JAPANESE = AFTER_KINDS.map(after => after.slice());
 AFTER_JAPANESE[CONTROL][CONTROL] = SECOND_CONTROL;
 AFTER_JAPANESE[CONTROL][ASCII] = 0;
+AFTER_JAPANESE[0][WIDE_LETTER] = 0;
+AFTER_JAPANESE[WIDE_LETTER][WIDE_LETTER] = 8;
 
 /** @param {number} code of a wide character */
 function kindOf(code) {
     if (code >= 0x3041 && code <= 0x309F) return 1;
     if (code >= 0x30A0 && code <= 0x30FF) return 2;
     if ((code >= 0x4E00 && code < 0xA000) || code === 0x3005) return KANJI;
-    return /[０-９Ａ-Ｚａ-ｚ]/.test(String.fromCharCode(code)) ? 5 : 4;
+    return /[０-９Ａ-Ｚａ-ｚ]/.test(String.fromCharCode(code)) ? WIDE_LETTER : 4;
 }
 
 /** @param {number} byte the only one of a character */
@@ -134,10 +140,12 @@ export function endedScores(scores, byte) {
  * The known characters that an encoding has.
  * @param {Encoding} encoding
  * @param {ReturnType<typeof knownCharacters>} known
+ * @param {boolean} wide
  * @returns {Generator<Scored>}
  */
-function* scoredIn(encoding, known) {
-    for (const [text, { score, kind }] of known) {
+function* scoredIn(encoding, known, wide) {
+    for (const [text, { score: usual, kind }] of known) {
+        const score = kind === WIDE_LETTER && !wide ? WIDE_LETTERS : usual;
         const spellings = encoding instanceof TableEncoding ? encoding.table.spellings.get(text) : encoding.units(text)[0];
         for (const bytes of spellings || []) {
             if (bytes.length === 1 || kind !== HALF_WIDTH) yield { bytes, score: bytes.length === 3 ? score + THREE : score, kind };
@@ -153,7 +161,8 @@ export function* usualScores() {
     const known = knownCharacters();
     for (const encoding of SEARCHED) {
         const size = encodeText(encoding, 'あ').length;
-        yield scoresOf(encoding, scoredIn(encoding, known), { size, wide: encodeText(encoding, 'a').length === 2 });
+        const wide = encodeText(encoding, 'a').length === 2;
+        yield scoresOf(encoding, scoredIn(encoding, known, wide), { size, wide });
     }
 }
 
