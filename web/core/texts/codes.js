@@ -1,6 +1,7 @@
 // Texts in the cells of a table, in which bytes that are not a plain character are written as codes, such as {00}.
 
-import { usualBytes } from '../encodings/index.js';
+import { sameBytes } from '../bytes.js';
+import { encodeText, usualBytes } from '../encodings/index.js';
 import { Fault, failedBy } from '../faults.js';
 import { bytesOfHex, hexText } from '../hex_digits.js';
 import { collectedInTurns, isTurnDue, letOthersIn } from '../turns.js';
@@ -275,7 +276,8 @@ export async function controlsTyped(rows, encodingsFor, signal) {
 }
 
 /**
- * Formats bytes as a cell. A brace is written as a code too, and so is a first character that a spreadsheet would remove or run.
+ * Formats bytes as a cell. A brace is written as a code too, and so is a first character that a spreadsheet would remove or run, and a
+ * character after a code that would come back with other bytes, which could form a different character with it.
  * @param {Encoding} encoding
  * @param {Uint8Array} bytes
  * @param {string} [known] their text, if it is known
@@ -284,9 +286,12 @@ export function cellOf(encoding, bytes, known) {
     const whole = known || encoding.text(bytes);
     if (PLAIN.test(whole) || (!CODED.test(whole) && !CODED_FIRST.test(whole))) return whole;
     const parts = [];
+    let isAfterCode = /** @type {boolean} */ (false);
     for (const { at, size, text, isCell } of charactersFrom(encoding, bytes)) {
-        const plain = (isCell || !CODED.test(text)) && !(at === 0 && CODED_FIRST.test(text));
-        parts.push(plain ? text : `{${hexText(bytes.subarray(at, at + size))}}`);
+        const own = bytes.subarray(at, at + size);
+        const isSpecial = (!isCell && CODED.test(text)) || (at === 0 && CODED_FIRST.test(text));
+        isAfterCode = isSpecial || (isAfterCode && !isCell && !sameBytes(encodeText(encoding, text), own));
+        parts.push(isAfterCode ? `{${hexText(own)}}` : text);
     }
     return parts.join('');
 }
