@@ -104,6 +104,8 @@ test('a sheet tells files of one name in different directories apart', async () 
     const cue = sheet('FILE "a/t.bin" BINARY', 'TRACK 1 MODE1/2352', 'INDEX 1 0:0:0', 'FILE "b\\T.BIN" BINARY', 'TRACK 2 MODE1/2352', 'INDEX 1 0:0:0');
     const disc = await opened(cue, file('set/b/t.bin', two), file('set/a/t.bin', one));
     assert.deepEqual(disc.tracks.map(it => [it.sectors, disc.files[it.file].name]), [[20, 'set/a/t.bin'], [30, 'set/b/t.bin']]);
+    const again = await opened(cue, file('b/t.bin', soundImage(diceOf(33), 30, 0)), file('a/t.bin', one));
+    assert.deepEqual(again.tracks.map(it => it.image.base), [0, 0], 'addresses that begin at block 0 again decide');
 });
 
 test('a track after a gap in its file begins at its INDEX 01', async () => {

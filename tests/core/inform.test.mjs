@@ -12,13 +12,15 @@ const { surveyRange } = await core('sectors/survey.js');
 const [RAW, USER, SECTORS, BIG] = [2352, 2048, 700, 100];
 const BASE = 150;
 
-/** A disc whose file /BIG fills all sectors from block 100 on, and whose volume states its number of sectors. */
-function image() {
-    const user = volumeOf(SECTORS, sector => sector === 18 ? [recordOf('BIG', BIG, USER * (SECTORS - BIG), { flags: 0 })] : []);
-    const size = new DataView(user.buffer, 16 * USER + 80);
-    size.setUint32(0, SECTORS, true);
-    size.setUint32(4, SECTORS);
-    return calls.encodeBlocks(0, user);
+/** A track from a block on, whose file /BIG fills all sectors from the 100th on, and whose volume states its own number of sectors. */
+function image(first = 0) {
+    const user = volumeOf(SECTORS, sector => sector === 18 ? [recordOf('BIG', first + BIG, USER * (SECTORS - BIG), { flags: 0 })] : []);
+    const view = new DataView(user.buffer);
+    for (const [at, number] of [[16 * USER + 80, SECTORS], [16 * USER + 158, first + 18], [18 * USER + 2, first + 18]]) {
+        view.setUint32(at, number, true);
+        view.setUint32(at + 4, number);
+    }
+    return calls.encodeBlocks(first, user);
 }
 
 const sheetOf = (...tracks) => encoded(tracks.map(([file, ...points], i) => `FILE "${file}" BINARY\n${points.map(([type, at], k) =>
@@ -51,6 +53,11 @@ test('a cut image lacks the rest of its volume, which is a finding if a file or 
     const audio = new Uint8Array(RAW * 300);
     assert.deepEqual(await lackOf({ 'two.cue': two, 'game.bin': cut(BIG), 'audio.bin': audio }),
         [{ ...missing(BIG), file: '', isSure: false }, 0]);
+    // The volume of a later session counts its blocks from the start of the disc, but states only how many there are.
+    for (const [sectors, file, isSure] of [[400, '/BIG', true], [BIG, '', false]]) {
+        assert.deepEqual(await lackOf({ 'game.bin': image(5000).subarray(0, RAW * sectors) }),
+            [{ missing: { first: 5000 + sectors, last: 5000 + SECTORS - 1 }, blocks: SECTORS, file, isSure }, Number(isSure)]);
+    }
 });
 
 test('a long hole is lost by the cue sheet or by a file, and each block of it is a finding', async () => {

@@ -5,7 +5,7 @@ import { test } from 'node:test';
 import { core, diceOf, encoded, tableOf } from './common.mjs';
 
 const { TextRecogniser } = await core('texts/recognising.js');
-const { allScores, tableScores } = await core('texts/scores.js');
+const { BAD, allScores, endedScores, tableScores } = await core('texts/scores.js');
 const { cellOf } = await core('texts/codes.js');
 const { keptOf } = await core('texts/overlap.js');
 const { encodingOf } = await core('encodings/encodings.js');
@@ -197,9 +197,13 @@ test('texts in UTF-16 with one 00 00 after each are not read with the other byte
 });
 
 test('a chain of texts after their lengths is cut into them', () => {
-    const texts = ['旅の商人から剣を買った', '剣', '港町へようこそ。', '宿屋で待っている'].map(text => bytesOf('CP932', text));
-    const bytes = Buffer.concat([Buffer.alloc(4), ...texts.flatMap(text => [Buffer.of(text.length), text]), Buffer.alloc(4)]);
-    assert.deepEqual(found(bytes).map(([start, end]) => end - start), texts.map(text => text.length));
+    const short = ['旅の商人から剣を買った', '剣', '港町へようこそ。', '宿屋で待っている'];
+    // Each of these lengths is the code of a letter or a sign.
+    const long = ['旅の商人から剣を買ったのに、宿屋で盗まれた。', '港町へようこそ。ここでは船に乗ることができます。', '宿屋で待っているから、あとで来てほしい。'];
+    for (const texts of [short, long].map(some => some.map(text => bytesOf('CP932', text)))) {
+        const bytes = Buffer.concat([Buffer.alloc(4), ...texts.flatMap(text => [Buffer.of(text.length), text]), Buffer.alloc(4)]);
+        assert.deepEqual(found(bytes).map(([start, end]) => end - start), texts.map(text => text.length));
+    }
     // A single text is not a chain, although the code of its first letter is the number of bytes that follow.
     const one = bytesOf('CP932', 'A城の地下に宝があるらしい。旅の商人からそう聞いた。港町へようこそb');
     assert.equal(one[0], one.length - 1);
@@ -210,6 +214,12 @@ test('the characters of a game\'s own table score as they do elsewhere, Latin le
     const { oneKind, pair } = tableScores(tableOf(encoded('80=a\n81=あ\n82=ab\n8340=の\n8341=☂\n')));
     assert.deepEqual([...oneKind.subarray(0x80, 0x83), pair[0x8340]], [0, 1, 0, allScores()[0].pair[0x82CC]]);
     assert.ok(pair[0x8341] > 0, 'what no table has');
+});
+
+test('no character begins with the byte that ends texts', () => {
+    const gbk = tableScores(encodingOf('GBK'));
+    const { pair } = endedScores(gbk, 0xB0);
+    assert.deepEqual([gbk.pair[0xB0A1] === BAD, pair[0xB0A1] === BAD, pair[0xB1A1]], [false, true, gbk.pair[0xB1A1]]);
 });
 
 test('of a file in one encoding others are kept only if they are surer', () => {
@@ -236,16 +246,6 @@ const SENTENCES = {
     'EUC-KR': ['숨김 파일을 표시합니다.', '이 프로그램은 무엇을 합니까?', '모두 지우시겠습니까?', '노르웨이어로 쓴 글입니다!'],
 };
 
-test('final marks belong to a text, whatever ends it', () => {
-    for (const [name, texts] of Object.entries(SENTENCES)) for (const end of [0x00, 0xFF]) for (const count of [1, 3]) {
-        const some = Array.from({ length: count }, () => texts).flat();
-        const bytes = endedBy(name, some, end);
-        assert.deepEqual(foundIn(name, bytes), some.map(text => bytesOf(name, text).toString('hex')), `${name} ${end}`);
-    }
-});
-
-test('letters, marks, and half-width kana at the beginning belong to a text', () => {
-    const texts = ['HPが足りません', '「だれだ！」', 'ﾒﾓﾘｰが足りません', '『古い本』を読みますか？', 'A城の地下に宝がある', 'OK、旅に出ましょう。', '(小さな声で)ここです'];
 test('wide letters and digits are texts, but not in UTF-16, in which they look like quiet sound', () => {
     const texts = ['ＳＴＡＲＴ', 'ＬＯＡＤ　ＧＡＭＥ', 'ＨＰ１２３４', 'ＯＰＴＩＯＮ'];
     for (const name of ['CP932', 'EUC-JP']) {
@@ -256,6 +256,16 @@ test('wide letters and digits are texts, but not in UTF-16, in which they look l
     assert.deepEqual(found(Buffer.from(quiet.buffer)), []);
 });
 
+test('final marks belong to a text, whatever ends it', () => {
+    for (const [name, texts] of Object.entries(SENTENCES)) for (const end of [0x00, 0xFF]) for (const count of [1, 3]) {
+        const some = Array.from({ length: count }, () => texts).flat();
+        const bytes = endedBy(name, some, end);
+        assert.deepEqual(foundIn(name, bytes), some.map(text => bytesOf(name, text).toString('hex')), `${name} ${end}`);
+    }
+});
+
+test('letters, marks, and half-width kana at the beginning belong to a text', () => {
+    const texts = ['HPが足りません', '「だれだ！」', 'ﾒﾓﾘｰが足りません', '『古い本』を読みますか？', 'A城の地下に宝がある', 'OK、旅に出ましょう。', '(小さな声で)ここです'];
     for (const end of [0x00, 0xFF]) {
         const bytes = Buffer.concat([Buffer.of(end), endedBy('CP932', texts, end)]);
         assert.deepEqual(foundIn('CP932', bytes), texts.map(text => bytesOf('CP932', text).toString('hex')), `${end}`);

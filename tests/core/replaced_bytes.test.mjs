@@ -51,9 +51,11 @@ test('bytes at any place, over borders of blocks too, and of any size', async ()
 
 test('old bytes that differ are refused with the place of the first', async () => {
     const image = soundImage(diceOf(1), 3, BASE);
-    const old = Uint8Array.from(userOf(image).subarray(2040, 2060));
-    old[12] ^= 1;
-    await assert.rejects(replaceBytes(calls, imageOf(image), { block: BASE, offset: 2040 }, old, old), { code: 'replace/other-bytes', facts: { block: BASE + 1, offset: 4 } });
+    for (const [at, facts] of [[12, { block: BASE + 1, offset: 4 }], [0, { block: BASE, offset: 2040 }]]) {
+        const old = Uint8Array.from(userOf(image).subarray(2040, 2060));
+        old[at] ^= 1;
+        await assert.rejects(replaceBytes(calls, imageOf(image), { block: BASE, offset: 2040 }, old, old), { code: 'replace/other-bytes', facts });
+    }
 });
 
 test('bytes that a run would not replace so are not given out, unless they are tried with others later', async () => {
