@@ -101,6 +101,25 @@ class TypedTexts(PageTest):
         self.browser.press('z', held=Keys.CONTROL)
         self.becomes(2, 4, '0 of 38')
         self.browser.wait('#panel-text .meter', '0 of 4 done')
+        self.browser.press('y', held=Keys.CONTROL)
+        self.becomes(2, 4, '5 of 38')
+        self.browser.wait('#panel-text .meter', '1 of 4 done')
+
+    def test_undo_takes_an_import_back(self) -> None:
+        image = self.begin(spoken_texts())
+        self.browser.click(self.field(1))
+        self.browser.press('Go.', Keys.ENTER)
+        self.becomes(1, 4, '3 of ')
+        self.browser.wait('#count-script', '6')
+        rows = common.cdscript_prints('texts', image)
+        table = common.folder('table') / 'other.tsv'
+        table.write_text(with_new(rows, {number + 1: 'Away.' for number, row in enumerate(rows.splitlines()) if SENTENCES[0] in row}))
+        self.browser.give('#panel-text input[accept^=".tsv"]', [table])
+        self.becomes(1, 2, 'Away.')
+        for text in ('Go.', ''):
+            self.press('Undo')
+            self.becomes(1, 2, text)
+        self.browser.wait('#panel-text .meter', '0 of 4 done')
 
     def test_typed_texts_that_do_not_fit_stay_if_the_texts_are_listed_again_and_are_not_lost_without_a_question(self) -> None:
         text = b'\0'.join(it.encode('cp932') for it in SENTENCES) + b'\0'

@@ -9,7 +9,7 @@ import { ownFault } from '../../sentences/index.js';
 import { chosenEncoding, signOf } from '../text/index.js';
 import * as texts from '../texts/index.js';
 import { format } from '../texts/index.js';
-import { announce, byId, hexOf, messageOf } from '../ui/index.js';
+import { announce, byId, hexOf, messageOf, turnBackKey } from '../ui/index.js';
 import { USER_END } from './hex_lines.js';
 import { Typing } from './typing.js';
 
@@ -92,12 +92,11 @@ export class SectorEdit {
      */
     pressed(view, at, event) {
         const key = event.key.length === 1 && !event.isComposing ? event.key : '';
-        if (event.ctrlKey || event.metaKey) {
-            const way = `${event.shiftKey ? 'shift ' : ''}${key.toLowerCase()}`;
-            if (way === 'a') view.selectAll();
-            else if (way === 'z') this.turnBack(view, 'undo');
-            else if (way === 'y' || way === 'shift z') this.turnBack(view, 'redo');
-            else return;
+        const way = turnBackKey(event);
+        if (way !== '') this.turnBack(view, way);
+        else if (event.ctrlKey || event.metaKey) {
+            if (key.toLowerCase() !== 'a' || event.shiftKey) return;
+            view.selectAll();
         } else if (event.key === 'Escape') this.escape(view);
         else if (event.key === 'PageDown' || event.key === 'PageUp') this.page(view, at, event.key === 'PageDown' ? 1 : -1);
         else if (view.column === 'text' && key !== '') this.write(() => this.encoded(key));

@@ -1,6 +1,7 @@
 // Handles keys, the pointer, and the clipboard in the editor. Edits across lines are done here, and those within a line by the browser.
 
 import { linesOfText } from '../../core/script/views.js';
+import { turnBackKey } from '../ui/index.js';
 import { ROW_HEIGHT } from './editor.js';
 
 /** @typedef {import('./editor.js').ScriptEditor} ScriptEditor */
@@ -53,7 +54,8 @@ function pressedIn(editor, event) {
  * @param {KeyboardEvent} event
  * @returns {boolean} whether the key was handled
  */
-function pressedWithControl(editor, { key, shiftKey }) {
+function pressedWithControl(editor, event) {
+    const { key, shiftKey } = event;
     const last = editor.lines.lines.length - 1;
     /** @type {Record<string, () => void>} */
     const keys = {
@@ -64,10 +66,10 @@ function pressedWithControl(editor, { key, shiftKey }) {
             editor.anchor = 0;
             editor.goTo(last, Infinity);
         },
-        z: () => turnBack(editor, shiftKey ? editor.lines.redo() : editor.lines.undo()),
-        y: () => turnBack(editor, editor.lines.redo()),
+        undo: () => turnBack(editor, editor.lines.undo()),
+        redo: () => turnBack(editor, editor.lines.redo()),
     };
-    const press = keys[key.length === 1 ? key.toLowerCase() : key];
+    const press = keys[turnBackKey(event) || (key.length === 1 ? key.toLowerCase() : key)];
     if (press) press();
     return press !== undefined;
 }

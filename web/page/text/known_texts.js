@@ -13,6 +13,7 @@ import { isTurnDue, letOthersIn } from '../../core/turns.js';
  * @typedef {{ written: number, why: string, waits?: boolean }} Outcome
  */
 /** @typedef {'all' | 'empty' | 'left' | 'signs' | 'done'} Kind */
+/** @typedef {{ known: KnownText, fresh: string }} Change a text with a different new text */
 
 /** The kinds of texts that a filter shows. */
 export const KINDS = /** @type {Kind[]} */ (['all', 'empty', 'left', 'signs', 'done']);
@@ -117,6 +118,7 @@ export class KnownTexts {
 
     /**
      * Reads the new texts that the script writes. A new text that does not fit or waits is kept, unless the script has a different one now.
+     * Returns the earlier new texts of those that have changed.
      * @param {import('../../core/tasks/table.js').FreshOf} newTextOf
      * @param {Signal} signal
      * @param {boolean} [areKept] whether it is kept in any case
@@ -129,10 +131,15 @@ export class KnownTexts {
             const fresh = await newTextOf(listed);
             if (fresh !== '') found.set(listed, fresh);
         }
+        /** @type {Change[]} */
+        const earlier = [];
         for (const known of this.all) {
+            const { fresh } = known;
             this.setNews(known, found, areKept);
+            if (known.fresh !== fresh) earlier.push({ known, fresh });
             if (isTurnDue()) await letOthersIn(signal);
         }
+        return earlier;
     }
 
     /**

@@ -1,4 +1,5 @@
-// The new texts that are typed in the table of texts: puts them into the script, undoes them, and knows which of them a saved list lacks.
+// The new texts that are typed in the table of texts: puts them into the script, undoes and redoes them, and knows which of them a saved
+// list lacks.
 
 import { sentence } from '../ui/index.js';
 
@@ -7,13 +8,22 @@ import { sentence } from '../ui/index.js';
 /** @typedef {import('../../core/texts/all_texts.js').ListedText} ListedText */
 /** @typedef {import('./known_texts.js').KnownText} KnownText */
 /** @typedef {import('./texts_card.js').List} List */
-/** @typedef {{ known: KnownText, fresh: string }} Change */
+/** @typedef {import('./known_texts.js').Change} Change */
 /**
  * The callbacks to the table: the function that finds the new texts of the script, as TextsTable returns it; the new texts that are still
  * being typed in their fields; drawing after changes; and the display of an error.
  * @typedef {{ newTextOf: (image: List['image'], listed: ListedText[]) => Promise<FreshOf | null>, inFields: () => Change[],
  *     redraw: () => void, failed: (error: unknown) => void }} ChangesOwner
  */
+
+/**
+ * The current new texts of some that change.
+ * @param {Change[]} changes
+ * @returns {Change[]}
+ */
+function currentOf(changes) {
+    return changes.map(({ known }) => ({ known, fresh: known.fresh }));
+}
 
 /** The typed texts of a list. */
 export class TextChanges {
@@ -25,8 +35,10 @@ export class TextChanges {
         this.app = app;
         this.owner = owner;
         this.list = /** @type {List | null} */ (null);
-        /** @type {Change[][]} the earlier new texts of those that were typed, or replaced together */
+        /** @type {Change[][]} the earlier new texts of those that were typed, or changed together */
         this.done = [];
+        /** @type {Change[][]} the later new texts of those that were undone */
+        this.undone = [];
         /** Ends when all typed texts are in the script. */
         this.queue = Promise.resolve();
         this.waiting = 0;
@@ -47,6 +59,7 @@ export class TextChanges {
     take(list) {
         this.list = list;
         this.done = [];
+        this.undone = [];
         this.saved = this.typings;
         this.isOld = false;
     }
@@ -85,14 +98,29 @@ export class TextChanges {
         const { list } = this;
         const others = changes.filter(({ known, fresh }) => fresh !== known.fresh);
         if (others.length === 0 || list === null) return;
-        this.done.push(others.map(({ known }) => ({ known, fresh: known.fresh })));
+        this.noteChanges(currentOf(others));
         this.put(list, others);
     }
 
-    /** Brings the new texts back that were typed over last, and returns the first of them. */
-    undo() {
-        const last = this.done.pop();
+    /**
+     * Notes changes that can be undone together: those that were typed, or that an import or the panel Script has made.
+     * @param {Change[]} earlier the texts before them
+     */
+    noteChanges(earlier) {
+        if (earlier.length === 0) return;
+        this.done.push(earlier);
+        this.undone = [];
+    }
+
+    /**
+     * Undoes the last change, or redoes what was undone last, and returns the first of these texts.
+     * @param {'undo' | 'redo'} way
+     */
+    turnBack(way) {
+        const [from, to] = way === 'undo' ? [this.done, this.undone] : [this.undone, this.done];
+        const last = from.pop();
         if (last === undefined || this.list === null) return null;
+        to.push(currentOf(last));
         this.put(this.list, last);
         return last[0].known;
     }
@@ -170,8 +198,10 @@ export class TextChanges {
         try {
             const newTextOf = await this.owner.newTextOf(list.image, list.texts.listed);
             if (newTextOf === null || this.list !== list) return;
-            await list.texts.readNews(newTextOf, this.app.closing.signal, areKept);
-            if (this.list === list) this.owner.redraw();
+            const earlier = await list.texts.readNews(newTextOf, this.app.closing.signal, areKept);
+            if (this.list !== list) return;
+            this.noteChanges(earlier);
+            this.owner.redraw();
         } catch (error) {
             if (this.list === list) this.owner.failed(error);
         }

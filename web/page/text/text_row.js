@@ -3,14 +3,14 @@
 import { partsWithCodes } from '../../core/texts/views.js';
 import * as texts from '../texts/index.js';
 import { format } from '../texts/index.js';
-import { element, fill, seen, sentence, setAttribute, shownText } from '../ui/index.js';
+import { element, fill, seen, sentence, setAttribute, shownText, turnBackKey } from '../ui/index.js';
 
 /** @typedef {import('../ui/fill.js').Child} Child */
 /** @typedef {import('./known_texts.js').KnownText} KnownText */
 /**
  * The callbacks to the table: the field got the focus; a new text was typed, and the field was left; a key moves to a different row, or
- * undoes what was typed last; the room is to be read; and the comparison with it was drawn.
- * @typedef {{ focused: () => void, typed: (fresh: string) => void, move: (step: number) => void, undo: () => void,
+ * undoes or redoes a change; the room is to be read; and the comparison with it was drawn.
+ * @typedef {{ focused: () => void, typed: (fresh: string) => void, move: (step: number) => void, turnBack: (way: 'undo' | 'redo') => void,
  *     readFit: () => Promise<void>, drawn: () => void }} RowOwner
  */
 
@@ -160,9 +160,9 @@ export class TextRow {
     /** @param {KeyboardEvent} event */
     pressed(event) {
         const { key } = event;
-        const isUndo = (event.ctrlKey || event.metaKey) && !event.shiftKey && key.toLowerCase() === 'z';
-        if (event.isComposing || event.altKey || (event.ctrlKey || event.metaKey) && !isUndo) return;
-        if (isUndo && this.isKept()) this.owner.undo();
+        const way = turnBackKey(event);
+        if (event.isComposing || event.altKey || (event.ctrlKey || event.metaKey) && way === '') return;
+        if (way !== '' && this.isKept()) this.owner.turnBack(way);
         else if (key === 'Escape' && !this.isKept()) {
             this.input.value = this.known.fresh;
             this.drawSize();

@@ -72,7 +72,8 @@ export class TextsCard {
         this.title = element('h2', { id: 'all-texts-title', tabindex: -1 }, texts.textAllTexts);
         this.filters = element('div', { class: 'seg', role: 'group', 'aria-label': texts.textWhichShown });
         this.meter = element('span', { class: 'meter small quiet' });
-        this.back = button('slim bare', () => this.undo(), texts.undo, element('span', { class: 'hide' }, ` ${texts.textLastTyped}`));
+        this.back = button('slim bare', () => this.turnBack('undo'), texts.undo,
+            element('span', { class: 'hide' }, ` ${texts.textLastTyped}`));
         this.body = element('tbody', {});
         this.table = element('table', { class: 'all-texts', 'aria-labelledby': 'all-texts-title' }, columns(), this.body);
         this.box = element('div', { class: 'scroll texts' }, this.table);
@@ -183,7 +184,7 @@ export class TextsCard {
             focused: () => this.choose(this.shown.indexOf(known)),
             typed: fresh => this.changes.typed([{ known, fresh }]),
             move: step => this.move(step),
-            undo: () => this.undo(),
+            turnBack: way => this.turnBack(way),
             readFit: () => this.readFit(known),
             drawn: () => {
                 if (this.shown[this.chosen] === known) this.drawStrip();
@@ -230,9 +231,12 @@ export class TextsCard {
         this.drawn.get(known)?.drawSize();
     }
 
-    /** Brings the new texts back that were typed over last, and shows them. */
-    undo() {
-        const known = this.changes.undo();
+    /**
+     * Undoes the last change, or redoes what was undone last, and shows it.
+     * @param {'undo' | 'redo'} way
+     */
+    turnBack(way) {
+        const known = this.changes.turnBack(way);
         fill(this.message);
         const row = known && this.drawn.get(known);
         if (row) row.input.value = row.known.fresh;

@@ -136,6 +136,7 @@ export const KEYS = [
     ['`F8`, `Shift`+`F8`', 'next, previous error or refusal'],
     ['`Ctrl`+`Z`, `Ctrl`+`Y`', 'undo, redo'],
     ['', 'Text'], ['`Ctrl`+`F`', 'go to Find'], ['`Enter`', 'find; in “New text”: replace and continue'],
+    ['`Ctrl`+`Z`, `Ctrl`+`Y`', 'undo, redo in the table of texts'],
 ];
 
 // the notes of the footer, and About
@@ -774,7 +775,7 @@ export const textPutsInAll = 'Enter puts it in all {n} places.';
 export const textInSomePlaces = 'In {written} of {n} places.';
 export const textScriptKeeps = 'The script keeps the earlier text.';
 export const textNoneShown = 'No text is shown. Choose All, or find other words.';
-export const textLastTyped = 'the text that was typed last';
+export const textLastTyped = 'the last change';
 export const textTypedAreLost = 'Some typed texts are not in the script.';
 export const textShowOtherTexts = 'Show the other texts?';
 export const textTypedHaveNoRow = '{n} typed text is not in the script, and the other list has no row for it.|\

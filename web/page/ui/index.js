@@ -15,4 +15,5 @@ export { askUser } from './sheet.js';
 export { spokenLine } from './spoken_line.js';
 export { countsRow, tableCard } from './stat_row.js';
 export { oneTabStop } from './tab_groups.js';
+export { turnBackKey } from './turn_back_key.js';
 export { nextTurn } from './turns.js';
