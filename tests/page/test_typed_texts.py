@@ -105,6 +105,15 @@ class TypedTexts(PageTest):
         self.becomes(2, 4, '5 of 38')
         self.browser.wait('#panel-text .meter', '1 of 4 done')
 
+    def test_the_field_with_the_focus_is_in_the_window_with_its_remark(self) -> None:
+        self.begin(spoken_texts())
+        self.browser.size(1280, 620)
+        self.browser.click(self.field(1))
+        for _ in range(3):
+            self.browser.press('much too long ' * 4, Keys.ENTER)
+            place = self.browser.run("const { bottom, top } = document.activeElement.closest('tr').getBoundingClientRect(); return [top, bottom, innerHeight]")
+            self.assertTrue(0 <= place[0] and place[1] < place[2] + 1, place)
+
     def test_undo_takes_an_import_back(self) -> None:
         image = self.begin(spoken_texts())
         self.browser.click(self.field(1))

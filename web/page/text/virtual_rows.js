@@ -106,6 +106,7 @@ export class VirtualRows {
         if (top < above) box.scrollTop = top / scale;
         else if (top + height > above + view) box.scrollTop = (top + height - view) / scale;
         this.draw();
+        this.rowAt(index).scrollIntoView({ block: 'nearest' });
     }
 
     /**
