@@ -107,7 +107,7 @@ class NamesTable(PageTest):
             self.same_script(image, mine)
             # The script gives the new texts again, to the exported list and to the table.
             self.assertEqual(self.saved('Export a table', 'game (names).csv'), common.cdscript_prints('texts', '--csv', *self.options(), '--list', mine, image))
-            self.browser.wait('#panel-text .say.good', 'It has 4 translations from the script.')
+            self.browser.wait('#panel-text .say.good', 'It has 4 translations.')
             self.press('Show all texts')
             self.browser.wait('#panel-text .meter', '4 of 5 done')
             self.setUp()

@@ -37,7 +37,7 @@ class TextsTable(PageTest):
         self.browser.wait('#panel-text .say.good', 'Saved: game (texts).csv')
         saved = common.waited(self.browser.downloaded('game (texts).csv').read_bytes, 'the table is empty').decode()
         self.assertEqual(saved, common.cdscript_prints('texts', '--csv', image))
-        self.assertIn(f"It has {len(saved.splitlines()) - 1} strings.", self.browser.text('#panel-text .say.good'))
+        self.assertIn(f"It has {len(saved.splitlines()) - 1} rows, one for each place of a text.", self.browser.text('#panel-text .say.good'))
         self.assertGreater(len(saved.splitlines()), len(SENTENCES))
         self.assertEqual(self.browser.attempts(), [])
 
@@ -93,7 +93,7 @@ class TextsTable(PageTest):
         self.browser.click('#tab-text')
         self.press_in('export', 'Export PO')
         self.browser.wait('#panel-text .say.good', 'Saved: game (texts).po')
-        self.assertIn('It has 2 translations from the script.', self.browser.text('#panel-text .say.good'))
+        self.assertIn('It has 2 translations.', self.browser.text('#panel-text .say.good'))
         saved = common.waited(self.browser.downloaded('game (texts).po').read_bytes, 'the PO file is empty').decode()
         self.assertEqual(saved, common.cdscript_prints('texts', '--po', '--list', table, image))
         self.setUp()

@@ -130,6 +130,18 @@ class TypedTexts(PageTest):
             self.becomes(1, 2, text)
         self.browser.wait('#panel-text .meter', '0 of 4 done')
 
+    def test_a_text_that_does_not_fit_is_in_each_list_and_publish_says_so(self) -> None:
+        self.begin(spoken_texts())
+        self.browser.click(self.field(1))
+        self.browser.press('much too long ' * 4, Keys.ENTER)
+        self.becomes(1, 3, 'too many.')
+        self.press_in('export', 'Export a table')
+        path = self.browser.downloaded('game (texts).csv')
+        table = common.waited(path.read_text, 'the table is empty')
+        self.assertEqual(sum('much too long' in row for row in table.splitlines()), 6)
+        self.browser.click('#tab-publish')
+        self.browser.wait('#panel-publish', '1 translation in the table of texts is not in the script.')
+
     def test_typed_texts_that_do_not_fit_stay_if_the_texts_are_listed_again_and_are_not_lost_without_a_question(self) -> None:
         text = b'\0'.join(it.encode('cp932') for it in SENTENCES) + b'\0'
         self.begin(common.image_of(common.iso_of({'A.DAT': text, 'B.DAT': text.replace(SENTENCES[1].encode('cp932'), SENTENCES[3].encode('cp932'))})))

@@ -48,6 +48,8 @@ export class Store extends Hub {
         /** The block and the offset of the user byte that the sector view shows; -1 for none. */
         this.place = { block: -1, offset: -1 };
         this.script = new ScriptLines(calls);
+        /** How many translations in the table of texts are not in the script. */
+        this.textsLeft = 0;
         this.encoding = USUAL_ENCODING.name;
         /** @type {Map<string, Encoding>} the tables that were loaded, by their files' names */
         this.tables = new Map();
@@ -189,6 +191,11 @@ export class Store extends Hub {
      */
     noteSaved(image, name) {
         image.renamed.set(image.name, name);
+    }
+
+    /** @param {number} count of the translations in the table of texts that are not in the script */
+    noteTextsLeft(count) {
+        this.textsLeft = count;
     }
 
     /** @param {string} name of an encoding or of a table */

@@ -206,6 +206,7 @@ class PublishPanel {
             [!isImageName(this.name.value.trim()), 'bad', format(texts.publishPatchedNameRule, { signs: SIGNS_OF_PATHS })],
             [image.sheet !== '' && this.cueOf(image) === '', 'warn', texts.publishCueSheetNotOffered],
             [this.carry.checked, 'warn', texts.publishDamagedPatchedToo],
+            [this.app.textsLeft > 0, 'warn', format(texts.publishTextsLeft, { n: this.app.textsLeft })],
             [tried.old > 0, 'warn', format(texts.publishOldBytesFromGame, { n: tried.old })],
         ];
         return all.flatMap(([is, tone, words]) => is ? [[tone, words]] : []);

@@ -84,6 +84,7 @@ export class TextsTable {
     changed() {
         this.moving.draw();
         const own = this.known.list?.texts;
+        this.app.noteTextsLeft(own === undefined ? 0 : own.counts.left + own.waiting);
         if (this.left.leaveWritten(row => own?.at(row)?.isWritten === true)) fill(this.message);
     }
 
@@ -174,8 +175,10 @@ export class TextsTable {
             const { pieces: some, areRecords, best, ends } = await this.what.listing(image.opened, this.endByte(), bar, signal);
             const listed = [];
             for await (const part of some) listed.push(...part);
+            await this.known.settled();
             const newTextOf = await this.newTextOf(image, listed);
-            const { pieces, ...counts } = await exportedList(inParts(listed), { form, areRecords, newTextOf, signal });
+            const freshOf = newTextOf && this.withTyped(image, newTextOf);
+            const { pieces, ...counts } = await exportedList(inParts(listed), { form, areRecords, newTextOf: freshOf, signal });
             if (counts.all === 0) return notice('plain', texts.textNoTextFound, texts.textAnotherEncoding);
             const name = listName(image.name, areRecords, form);
             downloadBytes(pieces, name);
@@ -183,6 +186,20 @@ export class TextsTable {
             const lacking = newTextOf === null ? texts.textTableLacksScript : '';
             return notice(lacking === '' ? 'good' : 'warn', say(texts.discFileSaved, { name: nameOf(name) }), words, lacking);
         });
+    }
+
+    /**
+     * The function that finds the new texts of the script, and those that were typed in the table and are not in it.
+     * @param {Image | PlainFile} image
+     * @param {import('../../core/tasks/table.js').FreshOf} newTextOf
+     * @returns {import('../../core/tasks/table.js').FreshOf}
+     */
+    withTyped(image, newTextOf) {
+        const { list } = this.known;
+        return listed => {
+            const known = list?.image === image ? list.texts.of(listed) : undefined;
+            return known && (known.why !== '' || known.waits) ? known.fresh : newTextOf(listed);
+        };
     }
 
     /**

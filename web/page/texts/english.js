@@ -702,16 +702,16 @@ export const textNamesReadBest = 'The names read best in {encoding}. If they are
 export const textEndByte = 'Byte that ends each text (such as FF; leave empty to find it):';
 export const textEndsFound = 'In some files, texts end with {bytes}.';
 export const textExport = 'Export';
-export const textExportTexts = 'Export a table…';
+export const textExportTexts = 'Export a table (CSV)…';
 export const textExportPo = 'Export PO…';
 export const textLookingForTexts = 'Looking for text';
 export const textNoTableSaved = 'No list was saved.';
 export const textTableLacksScript = 'The script has a faulty line, so the list has no translations. Correct the line, then export again.';
 export const textNoTextFound = 'No text was found.';
-export const textTableHasTexts = 'It has {n} string.|It has {n} strings.';
+export const textTableHasTexts = 'It has {n} row, one for each place of a text.|It has {n} rows, one for each place of a text.';
 export const textWriteNewTexts = 'Put your translations in the column “new”, then import it here.';
 export const textTranslatePo = 'Translate it with a PO editor, then import it.';
-export const textHasNewTexts = 'It has {n} translation from the script.|It has {n} translations from the script.';
+export const textHasNewTexts = 'It has {n} translation.|It has {n} translations.';
 export const textImportTable = 'Import a list…';
 export const textTableToImport = 'A table or PO file to import';
 export const textMakingOfRows = 'rows';
@@ -1239,6 +1239,8 @@ export const publishPatchedNameRule = 'The name of the patched image has to end 
 that, none of them invisible, and none of {signs}.';
 export const publishCueSheetNotOffered = 'The cue sheet is not offered because it names files in other folders.';
 export const publishDamagedPatchedToo = 'Damaged sectors are patched too, and the patcher says so to players.';
+export const publishTextsLeft = '{n} translation in the table of texts is not in the script.|\
+{n} translations in the table of texts are not in the script.';
 export const publishOldBytesFromGame = 'The old bytes come from the game ({n} byte). Check whether you may publish them.|\
 The old bytes come from the game ({n} bytes). Check whether you may publish them.';
 // saving the patcher
