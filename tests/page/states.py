@@ -165,7 +165,7 @@ class States(PageTest):
         """The damaged sectors that their own parity corrects have been counted, and a corrected image has been saved."""
         self.begin(common.damaged(discs.changed(discs.game(), (20, 2065)), discs.first_block() + 1))
         self.go_to(discs.first_block() + 1)
-        self.press('Correct all sectors of this kind')
+        self.press('Correct all from parity')
         self.browser.wait('#correct-body .tally', 'cannot be corrected')
         self.press('Save repaired image')
         self.browser.wait('#correct-body .say.warn', 'Saved: ')

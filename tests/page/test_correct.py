@@ -17,7 +17,7 @@ OFFERED = '''return [...document.querySelectorAll('#panel-disc .say.thin .btn')]
     .map(it => it.innerText.trim() + (it.getAttribute('aria-disabled') === 'true' ? ' (off)' : ''))'''
 
 REPAIR, REBUILD = 'Repair from another dump…', 'Add rebuild to the script'
-CORRECT, ALL = 'Correct it', 'Correct all sectors of this kind…'
+CORRECT, ALL = 'Correct it', 'Correct all from parity…'
 DONE, OPEN = 'The correction is in the script (off)', 'Open Script'
 
 
@@ -157,6 +157,24 @@ class Correct(PageTest):
         self.waits_for(f'{CORRECT} (off)', ALL, REBUILD)
         self.press(CORRECT)
         self.assertTrue(self.browser.text('#count-script').startswith('1'))
+
+    def test_a_line_that_expects_the_corrected_byte_does_not_hinder_a_correction(self) -> None:
+        image = damaged(discs.game(), 60, 1000)
+        at = 60 * SECTOR_SIZE + 16
+        right = discs.game()[at + 999:at + 1002].hex().upper()
+        line = f'set 60 999 010203 was {right}\n'
+        self.sector_of(60, image)
+        self.open_script(discs.written(script=f'cdpatch 1\n{line}')['script'])
+        self.browser.click('#tab-disc')
+        self.waits_for(CORRECT, ALL, REBUILD)
+        self.press(CORRECT)
+        self.browser.wait('#panel-disc .say.bad', 'Lines 2 to 3 of the script correct this sector from its own parity.')
+        self.browser.click('#tab-script')
+        script = self.script_text()
+        self.assertEqual(script, f'cdpatch 1\nrebuild 60\nset 60 1000 {right[2:4]} was {int(right[2:4], 16) ^ 0x55:02X}\n{line}')
+        made = applied(discs.written(game=image)['game'], discs.written(script=script)['script'])
+        due = applied(discs.written(whole=discs.game())['whole'], discs.written(alone=f'cdpatch 1\n{line}')['alone'])
+        self.assertEqual((made[0], made[2]), (0, due[2]))
 
     # ---- all sectors
 

@@ -88,20 +88,22 @@ function firstLineOf(script, block, lines) {
 }
 
 /**
- * The number of a line whose old bytes are among those that a correction changes, or 0. It would be refused after the correction.
+ * The number of a line that would be refused after a correction, which changes its old bytes, or 0. A line that expects the corrected bytes
+ * matches only then.
  * @param {ScriptLines} script
  * @param {number} block
  * @param {Correction} correction
  */
 function conflictingLine(script, block, correction) {
     const start = userPlace({ block, offset: 0 });
-    const conflicts = script.linesWriting({ block, offset: 0, size: USER_SIZE }).filter(({ patch }) => {
+    const conflicts = script.linesWriting({ block, offset: 0, size: USER_SIZE }).filter(({ number }) => {
+        const patch = script.patchAt(number - 1);
         if (patch === null || patch.old === null) return false;
         const from = userPlace(patch) - start;
-        const [before, after] = [correction.old, correction.fresh].map(it =>
-            it.subarray(USER_OFFSET + Math.max(from, 0), USER_OFFSET + Math.min(from + patch.size, USER_SIZE)));
-        return !sameBytes(before, after);
+        const [first, end] = [Math.max(from, 0), Math.min(from + patch.size, USER_SIZE)];
+        const [before, after] = [correction.old, correction.fresh].map(it => it.subarray(USER_OFFSET + first, USER_OFFSET + end));
+        return !sameBytes(before, after) && !sameBytes(patch.old.subarray(first - from, end - from), after);
     });
-    const [first = 0] = conflicts.map(({ number }) => number).sort((a, b) => a - b);
-    return first;
+    const [lowest = 0] = conflicts.map(({ number }) => number).sort((a, b) => a - b);
+    return lowest;
 }

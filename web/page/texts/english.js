@@ -513,7 +513,7 @@ export const sectorCorrectedInScript = 'Corrected in the script, but not in this
 export const sectorWhyRebuildFirst =
     'Only after a rebuild can a damaged sector be patched. The lines after it write the bytes that its EDC confirmed, so no damage ' +
     'is hidden.';
-export const sectorCorrectAll = 'Correct all sectors of this kind…';
+export const sectorCorrectAll = 'Correct all from parity…';
 export const sectorLineCorrects = 'Line {line} of the script corrects this sector from its own parity.';
 export const sectorLinesCorrect = 'Lines {first} to {last} of the script correct this sector from its own parity.';
 export const sectorCorrectionConflicts =
