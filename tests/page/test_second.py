@@ -156,6 +156,12 @@ class Second(PageTest):
                 self.assertEqual(saved.read_text(), discs.sheet_of(**due))
                 self.browser.wait('#second-body', f'Saved. Now open {name} in your emulator.')
                 saved.unlink()
+                self.press('Mark as saved')
+                self.press('Open the new image')
+                self.browser.wait('#disc-line .name', 'game (repaired).bin')
+                self.wait_for_hash()
+                # A cue sheet with other files is not opened: the page does not have them any more.
+                self.assertEqual(f'from {name}' in self.browser.text('#disc-line'), len(tracks) == 1)
 
     def test_a_sector_whose_data_and_edc_are_others_is_named(self) -> None:
         empty = bytearray(with_faults((40, 9), (40, 2048), (60, 9)))

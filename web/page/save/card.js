@@ -3,10 +3,11 @@
 import { failedBy } from '../../core/faults.js';
 import { RESULT } from '../../core/module/index.js';
 import { jobAt, sha1Of, sumsOf } from '../app/index.js';
-import { fileReader, readImage } from '../open/index.js';
+import { fileReader } from '../open/index.js';
 import * as texts from '../texts/index.js';
 import { counted, format, playerTexts, say } from '../texts/index.js';
 import { button, element, fill, hashParts, isCancelled, messageOf, nameOf, notice } from '../ui/index.js';
+import { openSaved } from './open_saved.js';
 import { saveWork } from './patch_job.js';
 import { adviceOf } from './refused.js';
 import { patchedName } from './save.js';
@@ -145,18 +146,18 @@ export class SaveCard {
             this.checked, ...sheet.words,
             element('div', { class: 'row' },
                 sheet.save && button('main next', sheet.save, playerTexts.saveCueSheet),
-                file && button('away', () => this.openNew(file), texts.saveOpenNewImage),
+                file && button('away', () => this.openNew(image, file), texts.saveOpenNewImage),
                 button(sheet.save ? '' : 'next', () => this.close(), texts.saveBackToCheck)), sheet.saved);
     }
 
     /**
      * Opens the saved file in place of the open image.
+     * @param {Image} image
      * @param {File} file
      */
-    openNew(file) {
+    openNew(image, file) {
         this.close();
-        readImage(this.app, null);
-        this.app.open([file], 'look');
+        openSaved(this.app, image, file);
     }
 
     /**

@@ -4,6 +4,7 @@ export { SaveCard, failureOfSaving } from './card.js';
 export { mountConversion } from './conversion.js';
 export { otherFiles, sheetNaming } from './cue_rewrite.js';
 export { canStream, download, downloadBytes, downloadText } from './files_out.js';
+export { openSaved } from './open_saved.js';
 export { checkWork, isPatched, patchedWork, saveWork, tryWork } from './patch_job.js';
 export { givingAll, saveImage } from './pieces.js';
 export { adviceOf } from './refused.js';

@@ -3,8 +3,8 @@
 import { blocksIn } from '../../core/sectors/views.js';
 import { blocksText } from '../../sentences/index.js';
 import { jobAt, sha1Of } from '../app/index.js';
-import { fileReader, readImage } from '../open/index.js';
-import { failureOfSaving, givingAll, isDiscOfOneTrack, patchedName, saveImage, sheetParts } from '../save/index.js';
+import { fileReader } from '../open/index.js';
+import { failureOfSaving, givingAll, isDiscOfOneTrack, openSaved, patchedName, saveImage, sheetParts } from '../save/index.js';
 import * as texts from '../texts/index.js';
 import { format, playerTexts, say } from '../texts/index.js';
 import { button, element, fill, hashParts, megabytes, messageOf, nameOf, notice } from '../ui/index.js';
@@ -94,10 +94,7 @@ export class RepairSaver {
             format(playerTexts.secondKeepPageOpen, { size: megabytes(size) }),
             element('div', { class: 'row' }, button('slim', isComplete, texts.saveIsComplete))));
         const sheet = sheetParts(image, name, oneTrack, REPAIRED);
-        const open = file && button('away', () => {
-            readImage(app, null);
-            app.open([file], 'look');
-        }, texts.saveOpenNewImage);
+        const open = file && button('away', () => openSaved(app, image, file), texts.saveOpenNewImage);
         return [message, file && element('dl', { class: 'hashes' }, element('dt', {}, 'SHA-1'), hash), ...sheet.words,
             (sheet.save || open) && element('div', { class: 'row' }, sheet.save && button('', sheet.save, playerTexts.saveCueSheet), open),
             sheet.saved];
