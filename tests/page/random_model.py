@@ -28,9 +28,14 @@ def images() -> dict[str, bytes]:
 
 
 def new_texts(image: bytes, patched: bytes) -> dict[str, str]:
-    """The new text of each sentence in a patched image, '' for those that are as in the image. It is the same at both places."""
+    """
+    The new text of each sentence in a patched image, and of the first text of the other file, '' for those that are as in the image. A
+    sentence has the same one at both places.
+    """
     start = image.find(TALK)
-    found: dict[str, str] = {}
+    first = image.find(discs.messages()[:200])
+    new = patched[first:first + len(discs.START)]
+    found = {discs.START.decode('cp932'): '' if new == discs.START else new.rstrip(b' \0').decode()}
     for text in SENTENCES:
         old = text.encode('cp932')
         for at in (start + TALK.index(old), start + TALK.rindex(old)):
@@ -79,6 +84,9 @@ class Model:
         self.edited = False
         # The earlier new texts of those that were typed in the table of texts; None if it is not shown.
         self.typed_texts: list[dict[str, str]] | None = None
+        self.undone_texts: list[dict[str, str]] = []
+        # The new texts of the table when it was last seen.
+        self.news: dict[str, str] = {}
         self.saving: Saving | None = None
         self.waits = False
         self.done: list[Edit] = []
@@ -115,6 +123,12 @@ class Model:
         if self.done:
             self.done[-1].saved = True
 
+    def note_typed(self, earlier: dict[str, str]) -> None:
+        """Notes the earlier new texts of those that were typed in the table, or changed while it was not seen."""
+        assert self.typed_texts is not None
+        self.typed_texts.append(earlier)
+        self.undone_texts = []
+
     def add_line(self, added: str) -> None:
         before = self.text() if self.text().strip() else NEW
         self.edit(f"{before}{'' if before.endswith(chr(10)) else chr(10)}{added}\n")
@@ -132,8 +146,8 @@ class Model:
         self.undo()
 
     def next_block(self) -> int:
-        """The next block in which no byte was typed yet."""
-        self.typed += 1
+        """The next block in which no byte was typed yet, and whose first byte is not in a text."""
+        self.typed += 2 if self.typed + 1 == discs.first_block() else 1
         return self.typed
 
     # ---- images

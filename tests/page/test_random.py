@@ -13,7 +13,7 @@ import common
 import discs
 import random_model
 from keys import Keys
-from pages import PICKER, PageTest, applied
+from pages import PICKER, SAVE, PageTest, applied
 from random_model import Model
 from states import SENTENCES
 from test_publish import data_of
@@ -34,8 +34,9 @@ STATE = '''const text = css => document.querySelector(css)?.textContent ?? '';
         second: second && !second.closest('[hidden]:not(.panel)') ? second.textContent.replace('Second image: ', '') : '', unsaved: tag,
         asks: asked.defaultPrevented, bars: document.querySelectorAll('.progress').length, errors: caught.length,
         name: text('#panel-script header h2') }'''
-# Whether the page offers to save with a script of which only some lines fit.
-SAVES = "[...document.querySelectorAll('#panel-script .side button')].some(it => it.checkVisibility() && it.innerText.startsWith('Save with'))"
+# The old and the new texts of the rows that are drawn.
+ROWS = """return [...document.querySelectorAll('.all-texts tbody tr:not(.gap)')].map(({ cells: [, old, fresh] }) =>
+    [old.innerText.trim(), fresh.querySelector('input').value])"""
 SPOTS = {'disc': ['#map', '.hex', '#findings button'], 'text': ['#find-text'], 'script': ['.editor textarea'],
          'publish': ['#patcher-title', '#patcher-note']}
 
@@ -81,7 +82,8 @@ class Random(PageTest):
         if model.panel == 'script':
             some += [self.type_line, self.type_line, self.undo, self.redo, self.save_script]
         if model.image:
-            table = [self.show_texts] if model.typed_texts is None else [self.type_text, self.type_text, self.filter_texts, self.undo_text, self.replace_texts]
+            table = [self.show_texts] if model.typed_texts is None else [self.type_text, self.type_text, self.filter_texts, self.undo_text,
+                                                                         self.redo_text, self.replace_texts]
             some += {'disc': [self.type_byte, self.type_byte], 'text': [self.add_text, self.export_texts, *table],
                      'script': [self.check, self.apply, self.undo_script] if model.patches() else [],
                      'publish': [self.type_title, self.see, self.publish]}[model.panel]
@@ -109,6 +111,8 @@ class Random(PageTest):
         except AssertionError as error:
             differing = {key: (found[key], value) for key, value in due.items() if found[key] != value}
             raise AssertionError(f'the page has, and the model: {differing}') from error
+        if self.model.panel == 'text' and self.model.typed_texts is not None:
+            self.see_texts(self.news(self.model.text()))
         if self.model.panel == 'script':
             # Opening a script again under the name of the last one needs a moment.
             common.waited(lambda: self.lines() == self.model.text(), 'the lines of the script differ')
@@ -135,6 +139,11 @@ class Random(PageTest):
     def give_table(self) -> None:
         if discs.START.hex().upper() in self.model.text():
             return
+        if self.model.typed_texts is not None and self.model.panel != 'text':
+            # The table may or may not read the script before the import.
+            self.model.panel = 'text'
+            self.browser.click('#tab-text')
+            self.judge()
         path = common.folder('table') / 'new.tsv'
         path.write_text(f'block\toffset\troom\ttext\tnew\n{discs.first_block()}\t0\t8\tスタート\tStart\n')
         self.open_files(path)
@@ -182,7 +191,9 @@ class Random(PageTest):
             self.browser.wait('#second-body .tally, #second-body .say.good')
 
     def give_script(self) -> None:
-        name, text = self.dice.choice(sorted(random_model.SCRIPTS.items()))
+        # A script that is open already would have no visible effect.
+        own = (self.model.name(), self.model.text())
+        name, text = self.dice.choice([it for it in sorted(random_model.SCRIPTS.items()) if it != own])
         path = discs.written(**{name[:-4]: text})[name[:-4]]
         self.open_files(path)
         lost = self.model.open_script(name, text)
@@ -258,7 +269,7 @@ class Random(PageTest):
     def show_texts(self) -> None:
         self.press('Show all texts')
         self.browser.wait('.all-texts tbody input')
-        self.model.typed_texts = []
+        self.model.typed_texts, self.model.undone_texts, self.model.news = [], [], self.news(self.model.text())
 
     def patched(self, text: str) -> bytes:
         """The open image with the patches of a script."""
@@ -268,6 +279,16 @@ class Random(PageTest):
         """The new texts of the sentences in a script."""
         image = self.images[self.model.image]
         return random_model.new_texts(image, self.patched(text))
+
+    def see_texts(self, news: dict[str, str]) -> None:
+        """Waits until the table has the new texts that the script got elsewhere, which is a step of its undo."""
+        earlier = {old: fresh for old, fresh in self.model.news.items() if news[old] != fresh}
+        if earlier:
+            self.find_in_texts('')
+            common.waited(lambda: {**news, **{old: fresh for old, fresh in self.browser.run(ROWS) if old in news}} == news,
+                          f'the table does not have {news}')
+            self.model.note_typed(earlier)
+            self.model.news = news
 
     def find_in_texts(self, words: str) -> None:
         """Shows the texts that contain these words."""
@@ -282,6 +303,7 @@ class Random(PageTest):
         common.waited(lambda: self.news(self.lines()) == due, f'the script does not have {due}')
         if self.lines() != self.model.text():
             self.model.edit(self.lines())
+        self.model.news = due
 
     def lines(self) -> str:
         """The script as the editor shows it."""
@@ -297,7 +319,7 @@ class Random(PageTest):
         self.browser.type('.all-texts tbody tr[aria-rowindex="2"] input', new)
         self.browser.press(Keys.ENTER)
         if new != before:
-            self.model.typed_texts.append({old: before})
+            self.model.note_typed({old: before})
         self.becomes({old: new})
 
     def filter_texts(self) -> None:
@@ -310,7 +332,21 @@ class Random(PageTest):
             self.assertTrue(self.is_off('Undo'))
             return
         self.press('Undo')
-        self.becomes(self.model.typed_texts.pop())
+        self.turned_back(self.model.typed_texts, self.model.undone_texts)
+
+    def redo_text(self) -> None:
+        if not self.model.undone_texts or self.model.typed_texts is None:
+            return
+        self.find_in_texts('')
+        self.browser.click('.all-texts tbody tr[aria-rowindex="2"] input')
+        self.browser.press('y', held=Keys.CONTROL)
+        self.turned_back(self.model.undone_texts, self.model.typed_texts)
+
+    def turned_back(self, some: list[dict[str, str]], others: list[dict[str, str]]) -> None:
+        """Waits until the script has the last of some new texts, and adds those that it had before to the others."""
+        last, before = some.pop(), self.news(self.model.text())
+        others.append({old: before[old] for old in last})
+        self.becomes(last)
 
     def replace_texts(self) -> None:
         if self.model.typed_texts is None:
@@ -323,7 +359,7 @@ class Random(PageTest):
         self.press('Replace in all shown')
         self.browser.wait('#panel-text .said .say', 'Replaced in ')
         if changed and words != others:
-            self.model.typed_texts.append(changed)
+            self.model.note_typed(changed)
         self.becomes({old: fresh.replace(words, others) for old, fresh in changed.items()})
 
     def export_texts(self) -> None:
@@ -331,7 +367,8 @@ class Random(PageTest):
         self.press_in('export', 'Export a table')
         path = self.browser.downloaded(f'{self.model.image[:-4]} (texts).csv')
         table = common.waited(path.read_text, 'the table is empty')
-        for old, fresh in self.news(self.model.text()).items():
+        news = self.news(self.model.text())
+        for old, fresh in ((old, news[old]) for old in SENTENCES):
             self.assertEqual([row.rsplit(',', 1)[1] for row in table.splitlines() if f',{old},' in row], [fresh] * 2, old)
         self.browser.give('#panel-text input[accept^=".tsv"]', [path])
         outcomes = ('unchanged', 'Nothing was added')
@@ -374,10 +411,16 @@ class Random(PageTest):
     def apply(self) -> None:
         if self.model.saving:
             return
-        self.hold()
-        due = applied(self.paths[self.model.image], self.script_file())[2]
+        _, log, due = applied(self.paths[self.model.image], self.script_file())
         self.back_to_check()
-        self.press('Save with' if self.browser.run(f'return {SAVES}') else 'Apply and save')
+        # After a Check that has found nothing to change, the page does not offer to save.
+        if due == self.images[self.model.image] and not self.browser.run(SAVE):
+            return
+        self.hold()
+        self.press_save()
+        if log.splitlines()[-1].startswith('applied 0 '):
+            self.browser.wait('#panel-script .side .verdict')
+            return
         self.begun()
         self.model.begin('script', due)
 

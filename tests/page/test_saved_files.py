@@ -135,7 +135,7 @@ class Conversions(PrivateFilesTest):
         self.offered('cut.iso', cut(discs.game(), 16, 2064) + b'x', 'an ISO image, 2048 bytes per sector')
         self.press(CONVERT)
         self.browser.wait('#start-message', 'which is not a multiple of 2048')
-        self.assertEqual(self.kept(), [])
+        common.waited(lambda: self.kept() == [], 'a file is left')
 
 
 class Downloads(PageTest):

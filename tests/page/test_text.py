@@ -74,6 +74,7 @@ class Text(PageTest):
         for text in ('スタート', 'つづき', 'スタート'):
             self.browser.type('#find-text', f'{text}\n')
             self.browser.wait('#panel-text .hits tbody mark', text)
+            self.wait_for_focus('#new-text')
         self.assertEqual(self.browser.run("return [...document.querySelector('#find-text').list.options].map(it => it.value)"), ['スタート', 'つづき'])
 
     def test_each_hit_is_found_with_its_file_and_what_stands_round_it(self) -> None:
