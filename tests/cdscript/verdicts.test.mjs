@@ -11,8 +11,6 @@ import { inDirectory, read, run, top, write } from './common.mjs';
 const SAYS = { damaged: /damaged/, lost: /lost/, short: /missing at the end/, cut: /the last sector is cut/, gap: /before block \d|in \d+ places/,
     untested: /could not be tested/, missing: /in a missing file/, address: /wrong address|before block|in \d+ places/ };
 
-/** The keys of `info --json` with the number of a kind of finding. */
-const KEYS = { damaged: 'damaged', lost: 'lost', address: 'wrongAddress' };
 const IS_WRONG = { damage: 1, doubt: 1, sound: 0, nothing: 0 };
 
 const objects = out => out.split('\n').filter(Boolean).map(line => JSON.parse(line));
@@ -20,11 +18,7 @@ const objects = out => out.split('\n').filter(Boolean).map(line => JSON.parse(li
 /** The findings of the files of a disc, summed up. */
 function findings(files) {
     const counts = {};
-    const add = (code, count) => { if (count > 0) counts[code] = (counts[code] || 0) + count; };
-    for (const it of files) {
-        if (it.kind === 'missing') add('missing', Number(it.name === 'gone.bin'));
-        for (const [code, key] of Object.entries(KEYS)) add(code, it[key]);
-    }
+    for (const [code, count] of files.flatMap(it => Object.entries(it.reasons))) counts[code] = (counts[code] || 0) + count;
     return counts;
 }
 
@@ -37,8 +31,7 @@ test('info and scan give the verdict of the table', () => inDirectory(async room
         const json = await run(['info', '--json', name], { cwd: room });
         const scan = await run(['scan', '--json', name], { cwd: room });
         const files = objects(json.out);
-        const wanted = Object.fromEntries(Object.entries(due).filter(([code]) => code in KEYS || code === 'missing'));
-        assert.deepEqual(findings(files), wanted, name);
+        assert.deepEqual(findings(files), due, name);
         assert.ok(files.some(it => it.verdict === level), `${name}: ${files.map(it => it.verdict)}`);
         assert.deepEqual([text.status, json.status], [IS_WRONG[level], IS_WRONG[level]], name);
         // A track in a missing file is an error of scan, which cannot examine it.
@@ -56,15 +49,16 @@ test('info and scan give the verdict of the table', () => inDirectory(async room
 
 test('merge gives the verdict of info on an image that begins too late or ends too early', () => inDirectory(async room => {
     spawnSync('python3', ['-B', join(top, 'tests/lib/verdict_images.py'), room]);
-    for (const [name, due, short, tail] of [['short.bin', '40 blocks of the volume are missing at the end', 40, 0], ['short.cue', '40 blocks of the volume are missing at the end', 40, 0],
-        ['cut.bin', '1 block of the volume is missing at the end; the last sector is cut', 1, 1352],
-        ['late-start.bin', '3 sectors are missing before block 3', 0, 0], ['sound.bin', '', 0, 0]]) {
+    const SHORT = '40 blocks of the volume are missing at the end';
+    for (const [name, due, reasons, tail] of [['short.bin', SHORT, { short: 40 }, 0], ['short.cue', SHORT, { short: 40 }, 0],
+        ['cut.bin', '1 block of the volume is missing at the end; the last sector is cut', { short: 1, cut: 1 }, 1352],
+        ['late-start.bin', '3 sectors are missing before block 3', { gap: 1 }, 0], ['sound.bin', '', {}, 0]]) {
         for (const words of [[name, '--parity'], [name, 'sound.bin']]) {
             const { status, out, errors } = await run(['merge', ...words, `${words.join()}.out`, '--json'], { cwd: room });
             const said = errors.split('\n').filter(line => line.startsWith(`cdscript: ${words.join()}.out: `));
             assert.deepEqual([status, said], [due === '' ? 0 : 1, due === '' ? [] : [`cdscript: ${words.join()}.out: ${due}`]], words.join());
             const object = JSON.parse(out);
-            assert.deepEqual([object.short, object.tail], [short, tail], words.join());
+            assert.deepEqual([object.reasons, object.short, object.tail], [reasons, reasons.short || 0, tail], words.join());
         }
     }
 }));

@@ -4,6 +4,7 @@ import { basename } from 'node:path';
 import { bytesOfLines } from '../core/bytes.js';
 import { SECTOR_KIND } from '../core/module/index.js';
 import { blocksIn, wrongRuns } from '../core/sectors/views.js';
+import { verdictOfRepair } from '../core/tasks/index.js';
 import { nameOfUntested } from './printed.js';
 
 /** @typedef {import('../core/disc/dat.js').Hashes} Hashes */
@@ -40,6 +41,14 @@ function hashKeys({ name, size, hashes: { crc32, md5, sha1 } }, known) {
 }
 
 /**
+ * The number of each kind of finding in a verdict.
+ * @param {import('../core/tasks/verdict.js').Verdict} verdict
+ */
+function reasonsOf({ findings }) {
+    return Object.fromEntries(findings.map(({ code, count }) => [code, count]));
+}
+
+/**
  * The object of a file, for `scan` and `info`. What was not tested is null.
  * @param {FileSummary} file
  * @param {KnownDumps | null} known
@@ -51,6 +60,7 @@ export function fileObject(file, known) {
         ...hashKeys(file, known), changed: changed || null, kind, sectors: isSurveyed ? Object.fromEntries(sectors) : null, tail, short,
         damaged: tested > 0 ? damaged : null, wrongAddress: addressed > 0 ? elsewhere : null, lost: isSurveyed ? lost : null,
         untested: isSurveyed ? untested : null, findings: tested + verdict.total > 0 ? verdict.total : null, verdict: verdict.level,
+        reasons: reasonsOf(verdict),
     };
 }
 
@@ -88,7 +98,7 @@ export function infoObject(file, surveys, tracks, known) {
  */
 export function missingObject({ number, type, block, fileName }) {
     const tracks = [{ number, type: type || null, block, sectors: null }];
-    return { name: fileName, kind: 'missing', tracks, findings: 1, verdict: 'damage' };
+    return { name: fileName, kind: 'missing', tracks, findings: 1, verdict: 'damage', reasons: { missing: 1 } };
 }
 
 /**
@@ -107,7 +117,7 @@ export function mergeObject(out, known, repair, others) {
     const unequal = differing.flatMap((runs, other) => runs.map(run => ({ ...run, other })));
     return {
         ...hashKeys(out, known), sectors, tail, short: lack ? blocksIn([lack.missing]) : 0,
-        taken: blocksIn(taken), corrected: blocksIn(corrected), doubtful: blocksIn(doubtful),
+        reasons: reasonsOf(verdictOfRepair(repair)), taken: blocksIn(taken), corrected: blocksIn(corrected), doubtful: blocksIn(doubtful),
         damaged: blocksIn(damaged), alike: blocksIn(alike), lost: blocksIn(lost), disputed: blocksIn(disputed),
         wrongAddress: blocksIn(wrongAddress), different: different.reduce((sum, it) => sum + it, 0),
         untested: blocksIn(untested), untestedDifferent: blocksIn(unlike), audio: audio(untested), audioDifferent: audio(unlike),
