@@ -36,7 +36,8 @@ export function sectorFault(app, block, sector, found) {
         edc && say(texts.sectorEdcDoesNotFit, { edc: term('edc', texts.sectorEdcField) }),
         zeros && [texts.sectorZerosDoNotFit],
         parity && crossingWords(found, edc, correction === null),
-        correction === null && edc && hintWords(app, sector, found),
+        correction === null && edc && (hintWords(app, sector, found) ||
+            [parity ? texts.sectorParityCannotCorrect : texts.sectorParityShowsNothing]),
         record[RECORD.ADDRESS] > 0 && say(texts.sectorHeaderHasOtherAddress, { address: addressText(addressIn(sector, 0)) }),
     ].flatMap(it => it ? [...it, ' '] : []);
     return keyed(`damage of ${block}`, element('div', { class: `say ${edc ? 'bad' : 'warn'} thin` },

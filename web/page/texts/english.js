@@ -486,6 +486,8 @@ export const sectorBytesOfCodes = 'P and Q give {n} other bytes, {place}. The ED
 export const sectorOwnEdcConfirms = 'It is the EDC that was read, {edc}, and all of P and Q match too.';
 export const sectorNeverCorrected =
     'A correction never changes this byte, because the header and the EDC that were read have to confirm it.';
+export const sectorParityCannotCorrect = 'Its own parity cannot correct that: a column or diagonal corrects only one byte.';
+export const sectorParityShowsNothing = 'P and Q match, so they show no wrong byte.';
 export const sectorBytesFromTo = '{first} to {last}';
 export const sectorSoundElsewhere = 'This sector is sound, but it has a wrong address. {line}';
 export const sectorHeaderSays = 'Its header says {has}, and block {block} has {wants}.';
