@@ -147,6 +147,6 @@ class Downloads(PageTest):
         self.assertEqual(self.browser.downloaded('game (raw).bin').read_bytes(), discs.game())
         self.browser.wait('#start-message .say.good', 'Your browser is saving game (raw).bin')
         self.assertTrue(self.browser.asks_before_leaving())
-        self.press('Mark as saved')
+        self.press('The download is complete')
         self.browser.wait('#start-message .say.good', 'Saved: game (raw).bin')
         self.assertFalse(self.browser.asks_before_leaving())

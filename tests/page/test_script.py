@@ -163,7 +163,7 @@ class Script(PageTest):
         self.browser.downloaded('game (patched).bin').unlink()
         self.browser.wait('#panel-script .side h2', 'Saving by your browser')
         self.assertTrue(self.browser.asks_before_leaving())
-        self.press('Mark as saved')
+        self.press('The download is complete')
         self.browser.wait('#panel-script .say.good', 'Saved: game (patched).bin')
         self.assertFalse(self.browser.asks_before_leaving())
 
