@@ -42,6 +42,8 @@ class PointersPage(PageTest):
         self.browser.wait(f'{CARD} .btn.main', 'Make the script')
 
     def make(self, says: str = 'good') -> None:
+        # It cannot be pressed while the pointers of a new list are read.
+        self.browser.wait(f'{CARD} .btn.main:not([aria-disabled=true])')
         self.press('Make the script')
         self.browser.wait(f'{CARD} .say.{says}')
 
@@ -251,8 +253,9 @@ class Pointers(PointersPage):
         self.type_text(1, LONG)
         self.browser.wait(f'{CARD} [role=status]', '1 text is not in the script yet. Press Make the script.')
         self.press('Show all texts')
-        self.browser.wait(f'{CARD} [role=status]', '1 text is not in the script yet. Press Make the script.')
+        self.wait_for_focus('#all-texts-title')
         self.becomes(1, 0, LONG)
+        self.browser.wait(f'{CARD} [role=status]', '1 text is not in the script yet. Press Make the script.')
         self.assertIn(common.text('textTypedAreLost'), self.asked_at_close())
         self.make()
         common.waited(lambda: common.text('textTypedAreLost') not in self.asked_at_close(), 'the typed text stays lost')

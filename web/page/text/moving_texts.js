@@ -55,6 +55,8 @@ export class MovingTexts {
         this.isOwn = false;
         /** @type {PointedTexts | null} the texts of the chosen tables; null if there are none, or if they are not those of the disc */
         this.pointed = null;
+        /** Ends when the pointers of the chosen tables have been read. */
+        this.judging = Promise.resolve();
         /** @type {ListedTable[] | null} the tables with which the script was generated, null if none was with any */
         this.used = null;
         this.card = new PointersCard({
@@ -157,8 +159,13 @@ export class MovingTexts {
         await this.judge();
     }
 
+    judge() {
+        this.judging = this.readPointers();
+        return this.judging;
+    }
+
     /** Reads the pointers of the chosen tables. The table of texts then has the new texts to which the script leads them. */
-    async judge() {
+    async readPointers() {
         const { card, list } = this;
         const { chosen } = card;
         const isCurrent = () => this.list === list && card.areChosen(chosen);
@@ -213,9 +220,11 @@ export class MovingTexts {
     /** Generates the script of all new texts of the table. */
     async make() {
         const { list, isOn } = this;
-        if (list === null || (isOn && this.pointed === null)) return;
+        if (list === null) return;
         const words = { name: texts.discMakingLines, noun: texts.textMakingOfRows, failure: texts.discNothingAdded };
         await this.work(words, async (bar, signal) => {
+            await this.judging;
+            if (this.isOn && this.pointed === null) return null;
             await this.owner.known.settled();
             const isAny = list.texts.all.some(({ fresh }) => fresh !== '');
             const lists = isAny ? [await listFile(list.texts.listed, list.texts)] : [];
