@@ -114,6 +114,20 @@ class TypedTexts(PageTest):
             place = self.browser.run("const { bottom, top } = document.activeElement.closest('tr').getBoundingClientRect(); return [top, bottom, innerHeight]")
             self.assertTrue(0 <= place[0] and place[1] < place[2] + 1, place)
 
+    def test_a_text_that_is_typed_while_the_script_is_read_again_stays(self) -> None:
+        self.begin(spoken_texts())
+        self.browser.click('#tab-script')
+        self.browser.click('.editor textarea')
+        self.browser.press(Keys.END, Keys.ENTER)
+        # The table begins to read the script, and then the text is typed, before anything was read.
+        self.browser.run('''const field = document.querySelector(arguments[0]);
+            document.querySelector('#tab-text').click();
+            field.value = 'Go.';
+            field.dispatchEvent(new Event('change'))''', self.field(1))
+        self.browser.wait('#count-script', '6')
+        self.becomes(1, 2, 'Go.')
+        self.browser.wait('#panel-text .meter', '1 of 4 done')
+
     def test_undo_takes_an_import_back(self) -> None:
         image = self.begin(spoken_texts())
         self.browser.click(self.field(1))
@@ -122,9 +136,12 @@ class TypedTexts(PageTest):
         self.browser.wait('#count-script', '6')
         rows = common.cdscript_prints('texts', image)
         table = common.folder('table') / 'other.tsv'
-        table.write_text(with_new(rows, {number + 1: 'Away.' for number, row in enumerate(rows.splitlines()) if SENTENCES[0] in row}))
+        # The field of the second text has the focus.
+        table.write_text(with_new(rows, {number + 1: 'Away.' for number, row in enumerate(rows.splitlines()) if SENTENCES[0] in row or SENTENCES[1] in row}))
         self.browser.give('#panel-text input[accept^=".tsv"]', [table])
         self.becomes(1, 2, 'Away.')
+        self.becomes(2, 2, 'Away.')
+        self.wait_for_focus(self.field(2))
         for text in ('Go.', ''):
             self.press('Undo')
             self.becomes(1, 2, text)

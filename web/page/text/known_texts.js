@@ -36,6 +36,8 @@ export class KnownText {
         this.why = '';
         /** Whether the new text waits until the script of all texts is generated. */
         this.waits = false;
+        /** Whether the new text was typed, and is still being put into the script. */
+        this.isPending = false;
         /** Whether a pointer leads to each place of the text, and texts may move. */
         this.mayMove = false;
         /** The new text that the script had before the one that was typed, and that does not fit or waits. */
@@ -117,7 +119,8 @@ export class KnownTexts {
     }
 
     /**
-     * Reads the new texts that the script writes. A new text that does not fit or waits is kept, unless the script has a different one now.
+     * Reads the new texts that the script writes. A new text that does not fit or waits is kept, unless the script has a different one now, and
+     * so is one that is still being put into the script.
      * Returns the earlier new texts of those that have changed.
      * @param {import('../../core/tasks/table.js').FreshOf} newTextOf
      * @param {Signal} signal
@@ -149,6 +152,7 @@ export class KnownTexts {
      * @param {boolean} isKept whether a new text that does not fit or waits is kept in any case
      */
     setNews(known, found, isKept) {
+        if (known.isPending) return;
         /** @type {Map<string, number>} */
         const counts = new Map();
         for (const place of known.places) {
@@ -173,6 +177,7 @@ export class KnownTexts {
         if (known.why === '' && !known.waits) known.before = known.written > 0 ? known.fresh : '';
         for (const place of known.places) this.news.set(place, fresh);
         this.note(known, fresh, known);
+        known.isPending = true;
     }
 
     /**
@@ -199,6 +204,7 @@ export class KnownTexts {
         known.written = written;
         known.why = why;
         known.waits = waits;
+        known.isPending = false;
         known.signs = fresh === '' ? '' : this.glyphs.missingIn(fresh).join('');
         this.count(known, 1);
     }

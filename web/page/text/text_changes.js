@@ -42,10 +42,11 @@ export class TextChanges {
         /** Ends when all typed texts are in the script. */
         this.queue = Promise.resolve();
         this.waiting = 0;
-        /** How often the script has changed since the text that is being put into it. */
-        this.changes = 0;
-        /** Whether the script has changed otherwise since its new texts were read. */
-        this.isOld = false;
+        /** How often the script has changed, and how many of these changes the table has. */
+        this.edits = 0;
+        this.seen = 0;
+        /** Whether the next change of the script is that of a text that is being put into it. */
+        this.isOwn = false;
         /** Whether typed texts that are not in the script are kept in any case when it is read again. */
         this.areKept = false;
         /** How often texts were typed, and how often before the last list that was saved. */
@@ -61,7 +62,8 @@ export class TextChanges {
         this.done = [];
         this.undone = [];
         this.saved = this.typings;
-        this.isOld = false;
+        this.seen = list === null ? this.edits : list.edits;
+        this.update();
     }
 
     /** Whether a typed text is neither in the script nor in a saved list. */
@@ -153,10 +155,11 @@ export class TextChanges {
      */
     async write(list, changes) {
         if (this.app.opened !== list.image) return;
-        this.changes = 0;
         const some = changes.flatMap(({ known, fresh }) => known.fresh === fresh ? [known] : []);
         const failed = (/** @type {unknown} */ error) => new Map(some.map(known => [known, { written: 0, why: `${sentence(error)}.` }]));
+        this.isOwn = true;
         const outcomes = await list.put(some).catch(failed);
+        this.isOwn = false;
         if (this.list !== list) return;
         for (const { known, fresh } of changes) {
             if (known.fresh === fresh) list.texts.note(known, fresh, outcomes.get(known) || { written: 0, why: '' });
@@ -169,23 +172,23 @@ export class TextChanges {
      * @param {boolean} [areKept] whether typed texts that are not in the script are kept in any case
      */
     readAgain(areKept = false) {
-        this.isOld = true;
+        this.seen = -1;
         this.areKept = this.areKept || areKept;
         this.update();
     }
 
     scriptChanged() {
-        this.changes += 1;
-        if (this.list === null || (this.waiting > 0 && this.changes === 1)) return;
-        this.readAgain();
+        this.edits += 1;
+        if (this.isOwn) this.seen += 1;
+        this.isOwn = false;
+        this.update();
     }
 
     /** Reads the new texts of the script again after it was changed elsewhere, if the table is seen. */
     update() {
-        const { app, list } = this;
-        if (!this.isOld || list === null || app.panel !== 'text' || this.waiting > 0) return;
-        const { areKept } = this;
-        this.isOld = false;
+        const { app, list, areKept } = this;
+        if (this.seen === this.edits || list === null || app.panel !== 'text' || this.waiting > 0) return;
+        this.seen = this.edits;
         this.areKept = false;
         this.next(() => this.readScript(list, areKept));
     }

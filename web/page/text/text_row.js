@@ -81,6 +81,8 @@ export class TextRow {
             element('p', { class: 'num' }, place)), element('td', {}, element('p', { class: 'old' }, ...withCodes(known.text))),
         element('td', {}, this.input, this.words), this.room);
         this.row.addEventListener('click', event => { if (event.target !== this.input) this.input.focus(); });
+        /** The new text when the row was last drawn. */
+        this.shown = known.fresh;
         this.input.value = known.fresh;
     }
 
@@ -94,7 +96,8 @@ export class TextRow {
         this.row.setAttribute('aria-rowindex', String(index + 2));
         setAttribute(this.row, 'aria-current', isChosen ? 'true' : null);
         this.input.tabIndex = isChosen ? 0 : -1;
-        if (document.activeElement !== this.input) this.input.value = this.known.fresh;
+        if (document.activeElement !== this.input || this.input.value === this.shown) this.input.value = this.known.fresh;
+        this.shown = this.known.fresh;
         this.drawSize();
         if (this.known.fit === undefined && (isChosen || this.known.fresh !== '')) void this.owner.readFit();
     }

@@ -23,9 +23,10 @@ import { askToLose, keptTexts, noteLeft } from './waiting_texts.js';
 /** @typedef {import('./known_texts.js').Kind} Kind */
 /**
  * The texts of an image or an ordinary file; how new ones are fitted; the bytes that were found to end texts; whether the texts are names
- * in records, or lines; and a function that puts the new texts of some into the script or the file, and returns their outcomes.
- * @typedef {{ image: Image | PlainFile, texts: KnownTexts, options: RowOptions, ends: string[], areRecords: boolean,
- *     areLines: boolean, put: (some: KnownText[]) => Promise<Map<KnownText, import('./known_texts.js').Outcome>> }} List
+ * in records, or lines; how often the script had changed before its new texts were read; and a function that puts the new texts of some
+ * into the script or the file, and returns their outcomes.
+ * @typedef {{ image: Image | PlainFile, texts: KnownTexts, options: RowOptions, ends: string[], areRecords: boolean, areLines: boolean,
+ *     edits: number, put: (some: KnownText[]) => Promise<Map<KnownText, import('./known_texts.js').Outcome>> }} List
  */
 /** @typedef {'csv' | 'tsv' | 'po'} Form */
 /** @typedef {import('./text_changes.js').ChangesOwner} ChangesOwner */
@@ -238,8 +239,6 @@ export class TextsCard {
     turnBack(way) {
         const known = this.changes.turnBack(way);
         fill(this.message);
-        const row = known && this.drawn.get(known);
-        if (row) row.input.value = row.known.fresh;
         const index = this.shown.findIndex(it => it === known);
         if (index < 0) return;
         this.choose(index);

@@ -137,6 +137,7 @@ export class TextsTable {
         for await (const some of pieces) await found.add(some, signal);
         if (found.all.length === 0) return notice('plain', texts.textNoTextFound, texts.textAnotherEncoding);
         await this.known.settled();
+        const { edits } = this.known.changes;
         const newTextOf = await this.newTextOf(image, found.listed);
         if (newTextOf !== null) await found.readNews(newTextOf, signal);
         const { app, plain } = this;
@@ -144,7 +145,7 @@ export class TextsTable {
             if (plain !== null) return plain.put(some, options);
             return this.moving.letsWait(list) ? waitingOutcomes(some) : putIntoScript(app, /** @type {Image} */ (image), some, options);
         };
-        const list = { image, texts: found, options, ends: [...ends], areRecords, areLines, put };
+        const list = { image, texts: found, options, ends: [...ends], areRecords, areLines, edits, put };
         if (!await this.known.replace(list)) return null;
         const { left } = this.left;
         if (left !== null) this.known.takeLeft(currentLeft(list, left.rows));
