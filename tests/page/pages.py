@@ -88,6 +88,23 @@ globalThis.letGo = (count = Infinity) => {
     waiting.splice(0, count).forEach(post => post());
 };'''
 
+# Holds timers of so many milliseconds until `endTimers`: a slow machine may look at what they end too late.
+HELD_TIMERS = '''const { setTimeout, clearTimeout } = globalThis, [time] = arguments, calls = new Map();
+globalThis.setTimeout = (call, wait, ...given) => {
+    const id = setTimeout(wait === time ? () => {} : call, wait, ...given);
+    if (wait === time) calls.set(id, () => call(...given));
+    return id;
+};
+globalThis.clearTimeout = id => {
+    calls.delete(id);
+    clearTimeout(id);
+};
+globalThis.endTimers = () => {
+    const ended = [...calls.values()];
+    calls.clear();
+    ended.forEach(call => call());
+};'''
+
 # By how many pixels the first matching element is outside the window.
 UNSEEN = '''const { top, bottom, left, right } = document.querySelector(arguments[0]).getBoundingClientRect();
     return Math.max(bottom - innerHeight, -top, right - innerWidth, -left)'''

@@ -6,7 +6,7 @@ from collections.abc import Callable
 import discs
 from common import waited
 from keys import Keys
-from pages import BUTTON, HELD, UNSEEN
+from pages import BUTTON, HELD, HELD_TIMERS, UNSEEN
 from states import States
 
 # The element that has the focus, by its name for screen readers.
@@ -126,9 +126,11 @@ class Access(States):
         spoken = "return document.querySelector('#panel-disc .card > div > [aria-live=polite]').textContent"
         waited(lambda: 'offset 0' in self.browser.run(spoken), 'the line is not spoken')
         self.browser.run(WATCHED)
-        for _ in range(6):
-            self.browser.press(Keys.ARROW_RIGHT)
-        waited(lambda: 'offset 6' in self.browser.run(spoken), 'the line is not spoken again')
+        self.browser.run(HELD_TIMERS, 1000)
+        self.browser.press(*[Keys.ARROW_RIGHT] * 6)
+        self.browser.wait('#panel-disc .foot', 'offset 6')
+        self.browser.run('endTimers()')
+        self.assertIn('offset 6', self.browser.run(spoken))
         self.assertEqual(self.browser.run('return spokenLines'), 1)
         self.assertEqual(self.browser.run("return document.querySelector('#panel-disc .foot').closest('[aria-live]')"), None)
 

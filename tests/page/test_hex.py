@@ -4,7 +4,7 @@ import chromium
 import discs
 from common import SECTOR_SIZE, damaged, waited
 from keys import Keys
-from pages import CLIPBOARD, UNSEEN, PageTest
+from pages import CLIPBOARD, HELD_TIMERS, UNSEEN, PageTest
 
 
 # The number of rows that the tools of a sector occupy, and the number of tools.
@@ -126,7 +126,7 @@ class Hex(PageTest):
         browser.wait('#panel-disc .foot', 'Copied 1 byte')
         browser.press(Keys.ARROW_RIGHT)
         waited(lambda: 'Copied' not in browser.text('#panel-disc .foot'), 'another byte is called copied')
-        browser.run(CLIPBOARD)
+        browser.run(CLIPBOARD + HELD_TIMERS, 2000)
         self.press_in('sector', 'Copy as hex')
         waited(lambda: browser.run('return globalThis.copied') == discs.START.hex()[2:4].upper(), 'the menu copies something else')
         browser.wait('#menu', 'Copied')

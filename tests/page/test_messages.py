@@ -4,7 +4,7 @@ import common
 import discs
 from chromium import WIDTHS
 from keys import Keys
-from pages import CLIPBOARD, GATE, UNSEEN, PageTest
+from pages import CLIPBOARD, GATE, HELD_TIMERS, UNSEEN, PageTest
 from states import spoken_texts, with_new
 
 # The numbers of the words with a note that are visible now, among all such words.
@@ -106,13 +106,14 @@ class Messages(PageTest):
         self.assertEqual(self.browser.run(box, css), before, f'{css} moves')
         self.assertTrue(self.browser.run('return copied').startswith(begins), css)
         self.assertEqual(self.browser.text('#announced'), 'Copied')
+        self.browser.run('endTimers()')
         common.waited(lambda: self.browser.text(css).split('\n')[0].strip() == label, f'{css} says it still')
 
     def test_each_copy_button_says_so_for_a_moment(self) -> None:
         files = discs.written(game=discs.scratched(), other=discs.scratched(), english=discs.script())
         packed = files['game'].with_suffix('.chd')
         packed.write_bytes(b'MComprHD' + bytes(5000))
-        self.browser.run(CLIPBOARD)
+        self.browser.run(CLIPBOARD + HELD_TIMERS, 2000)
         self.open_files(packed)
         self.copies('#start-message [data-copies]', 'Copy the command', 'chdman ')
         self.open_image(files['game'])
@@ -134,7 +135,7 @@ class Messages(PageTest):
 
     def test_a_copy_button_that_is_drawn_anew_says_it_too(self) -> None:
         self.open_image(discs.written(game=discs.game())['game'])
-        self.browser.run(f'{CLIPBOARD} const later = setTimeout; setTimeout = (call, time, ...given) => later(call, time === 2000 ? 60000 : time, ...given)')
+        self.browser.run(CLIPBOARD + HELD_TIMERS, 2000)
         self.browser.click('#disc-line [data-copies]')
         self.browser.wait('#disc-line [data-copies]', 'Copied')
         self.browser.click('#tab-text')
@@ -142,7 +143,7 @@ class Messages(PageTest):
 
     def test_what_cannot_be_copied_is_not_said_to_be(self) -> None:
         self.open_image(discs.written(game=discs.game())['game'])
-        self.browser.run('navigator.clipboard.writeText = async () => { throw new Error("no"); }; document.execCommand = () => false')
+        self.browser.run('navigator.clipboard.writeText = async () => { throw new Error("no"); }; document.execCommand = () => false;' + HELD_TIMERS, 2000)
         self.browser.click('#disc-line [data-copies]')
         self.browser.wait('#disc-line [data-copies]', 'Not copied')
 

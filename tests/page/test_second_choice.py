@@ -6,7 +6,7 @@ import common
 import discs
 from chromium import WIDTHS
 from keys import Keys
-from pages import PICKER, UNSEEN, PageTest, patcher
+from pages import HELD_TIMERS, PICKER, UNSEEN, PageTest, patcher
 
 # Counts the bytes of `other.bin` that the page reads itself, and the pieces of it that workers are given.
 WATCHED = '''Object.assign(globalThis, { bytes: 0, pieces: 0 });
@@ -179,6 +179,7 @@ class SecondChoice(PageTest):
         self.browser.cdp('Input.dispatchDragEvent', type=kind, x=300, y=300, data=data)
 
     def says(self, words: str, file: Path) -> None:
+        self.browser.run(HELD_TIMERS, 1000)
         for width in WIDTHS:
             self.browser.size(width)
             for kind in ('dragEnter', 'dragOver'):
@@ -186,7 +187,8 @@ class SecondChoice(PageTest):
             self.browser.wait('#drop-says', words)
             self.assertLessEqual(self.browser.run(UNSEEN, '#drop-says'), 0, width)
             self.drag('dragCancel', [file])
-            common.waited(lambda: self.browser.run('return document.querySelector("#drop-says").hidden'), 'it says it still')
+            self.browser.run('endTimers()')
+            self.assertTrue(self.browser.run('return document.querySelector("#drop-says").hidden'), 'it says it still')
 
     def test_what_a_drop_does_is_said_before_it(self) -> None:
         files = discs.written(game=discs.game(), other=discs.scratched(), english=discs.script())
