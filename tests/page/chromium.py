@@ -44,10 +44,10 @@ for (;;) {{
 # Maximum seconds of one such evaluation.
 LONGEST_LOOK = 100
 
-# The middle of an element's visible part, or null if it is hidden or covered. Afterwards `met` tells whether the next press hits the
-# element, and `clicked` whether the next click does: an element that moves in between gets only the press.
+# The middle of an element's visible part, or null if it is hidden, covered, or disabled. Afterwards `met` tells whether the next press hits
+# the element, and `clicked` whether the next click does: an element that moves in between gets only the press.
 POINT = '''(it => {
-    if (!it?.checkVisibility({ visibilityProperty: true })) return null;
+    if (!it?.checkVisibility({ visibilityProperty: true }) || it.matches(':disabled, [aria-disabled=true]')) return null;
     it.scrollIntoViewIfNeeded();
     const { left, right, top, bottom } = it.getClientRects()[0], middle = (from, to, end) => (Math.max(from, 0) + Math.min(to, end)) / 2;
     const [x, y] = [middle(left, right, innerWidth), middle(top, bottom, innerHeight)];

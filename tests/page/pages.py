@@ -205,8 +205,13 @@ class PageTest(unittest.TestCase):
         common.waited(lambda: self.browser.run('return chosen.begun > 0'), 'nothing is written')
 
     def press(self, text: str) -> None:
-        """Presses the first visible button whose label begins with this text."""
+        """Presses the first visible button whose label begins with this text, as soon as it is not off."""
         self.browser.click_found(f'(it => {{ it?.scrollIntoView({{ block: "center" }}); return it; }})((function () {{ {BUTTON} }})(...given))', text)
+
+    def press_off(self, text: str) -> None:
+        """Clicks the same button although it is off."""
+        self.assertTrue(self.is_off(text))
+        self.browser.run(f'(function () {{ {BUTTON} }})(...arguments).click()', text)
 
     def press_in(self, menu: str, item: str) -> None:
         """Opens a menu by its key, unless it is open, and presses its item whose label begins with this text."""

@@ -54,7 +54,6 @@ class Actions(PageTest):
         """Saves the script as a patcher, and returns its script."""
         self.opens('publish')
         self.types('#patcher-title', 'Starlit')
-        common.waited(lambda: not self.is_off('Save as a patcher'), 'the patcher cannot be saved')
         self.presses('Save as a patcher')
         page = self.browser.downloaded('Starlit.html').read_bytes()
         packed = page[len(common.PAGE.read_bytes()):].split(b'\n')[1]

@@ -17,8 +17,8 @@ Browser = marionette.Firefox | webkit.WebKit
 
 class Browsers(unittest.TestCase):
     def press(self, browser: Browser, text: str) -> None:
-        script = f'const it = [...document.querySelectorAll("button")].find(it => it.offsetParent !== null && it.innerText.trim().startsWith(arguments[0]));' \
-                 'if (it) it.click(); return it !== undefined'
+        script = 'const it = [...document.querySelectorAll("button:not([aria-disabled=true])")].find(it => it.offsetParent !== null && ' \
+                 'it.innerText.trim().startsWith(arguments[0])); if (it) it.click(); return it !== undefined'
         common.waited(lambda: bool(browser.run(script, text)), f'no button {text}')
 
     def whole(self, browser: Browser) -> None:

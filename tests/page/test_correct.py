@@ -155,7 +155,7 @@ class Correct(PageTest):
         self.browser.send('.hex', 'c', '0')
         self.browser.wait('#panel-disc .say.bad', 'Line 2 of the script expects bytes that a correction would change')
         self.waits_for(f'{CORRECT} (off)', ALL, REBUILD)
-        self.press(CORRECT)
+        self.press_off(CORRECT)
         self.assertTrue(self.browser.text('#count-script').startswith('1'))
 
     def test_a_line_that_expects_the_corrected_byte_does_not_hinder_a_correction(self) -> None:

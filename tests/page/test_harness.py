@@ -81,6 +81,14 @@ class Harness(unittest.TestCase):
         self.assertEqual(browser.misfits(900), {900: over})
         self.assertEqual(browser.misfits(600), {600: [over[0], 'is 100 too wide', 'cut: Far', over[1]]})
 
+    def test_chromium_presses_a_button_as_soon_as_it_is_not_off(self) -> None:
+        browser = chromium.shared()
+        browser.open(files()[0])
+        for off in ('disabled', 'aria-disabled'):
+            browser.run('const [off] = arguments; save.setAttribute(off, "true"); setTimeout(() => save.removeAttribute(off), 300)', off)
+            browser.click('#save')
+            self.assertFalse(browser.run('return save.hasAttribute(arguments[0])', off), off)
+
     def test_chromium_sees_what_a_page_tries_to_reach(self) -> None:
         browser = chromium.shared()
         page, _ = files()

@@ -42,8 +42,6 @@ class PointersPage(PageTest):
         self.browser.wait(f'{CARD} .btn.main', 'Make the script')
 
     def make(self, says: str = 'good') -> None:
-        # It cannot be pressed while the pointers of a new list are read.
-        self.browser.wait(f'{CARD} .btn.main:not([aria-disabled=true])')
         self.press('Make the script')
         self.browser.wait(f'{CARD} .say.{says}')
 

@@ -504,7 +504,6 @@ class Random(PageTest):
     def see(self) -> None:
         if not self.ready():
             return
-        common.waited(lambda: not self.is_off('Preview as a player'), 'nothing can be shown')
         self.press('Preview as a player')
         self.browser.wait('#player h1', self.model.title)
         self.model.panel = 'player'
@@ -523,7 +522,6 @@ class Random(PageTest):
     def publish(self) -> None:
         if not self.ready():
             return
-        common.waited(lambda: not self.is_off('Save as a patcher'), 'nothing can be published')
         self.press('Save as a patcher')
         path = self.browser.downloaded(f'{self.model.title}.html')
         data = data_of(path.read_bytes())

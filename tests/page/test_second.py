@@ -44,8 +44,9 @@ class Second(PageTest):
         return files['game']
 
     def press(self, text: str) -> None:
-        waited(lambda: self.browser.run(f'return Boolean({BUTTON})', text), f'no button {text}')
-        self.browser.run(f'{BUTTON}.click()', text)
+        """Clicks a button of the panel as soon as it is there and not off."""
+        clicked = f'(it => it && it.getAttribute("aria-disabled") !== "true" && (it.click(), true))((function () {{ return {BUTTON} }})(...given))'
+        self.assertTrue(self.browser.awaited(clicked, text), f'no button {text}')
 
     def tally(self) -> list[int]:
         self.browser.wait('.tally')

@@ -172,9 +172,9 @@ class Text(PageTest):
         self.browser.press('Start game')
         self.browser.wait('#new-length', '10 bytes, 2 too many for the 8 of the old text')
         self.assertEqual(self.browser.run('return document.querySelectorAll(".gauge .over").length'), 2)
-        self.assertTrue(self.is_off('Replace') and self.is_off('Replace all'))
+        self.assertTrue(self.is_off('Replace all'))
         self.browser.press(Keys.ENTER)
-        self.press('Replace')
+        self.press_off('Replace')
         self.assertTrue(self.browser.run('return document.querySelector("#count-script").hidden'))
 
     def test_a_wide_space_fills_only_what_it_fits(self) -> None:

@@ -186,7 +186,6 @@ class Unsaved(PageTest):
         made = applied(files['game'], files['english'])[2]
         self.browser.click('#tab-publish')
         self.browser.type('#patcher-title', 'Mine')
-        common.waited(lambda: not self.is_off('Preview as a player'), 'nothing can be shown')
         self.press('Preview as a player')
         self.browser.wait('#player h1', 'Mine')
         self.press('Back to Publish')
