@@ -26,8 +26,9 @@ OWN_SCHEMES = ('blob:', 'data:', 'about:', 'chrome:', 'chrome-error:', 'devtools
 # Widths in pixels of a phone, half a screen, and a screen.
 WIDTHS = (360, 900, 1280)
 
-# Seconds allowed for a page to be laid out again.
+# Seconds allowed for a page to be laid out again, and the least number of measurements, each of which waits for frames.
 SETTLES = 2
+MEASURES = 5
 
 # A busy browser loses a drop now and then: the number of attempts, and the seconds between two of them.
 DROPS = 3
@@ -112,9 +113,10 @@ MISFITS = '''const [width] = arguments, within = '.scroll, .hex, .editor, .hide,
 
 
 def settled(measure: Callable[[], Any]) -> Any:
-    """Repeats a measurement of layout errors until it is empty or `SETTLES` seconds have passed: a busy machine needs some frames."""
-    ends = time.monotonic() + SETTLES
-    while (wrong := measure()) and time.monotonic() < ends:
+    """Repeats a measurement of layout errors until it is empty, for `SETTLES` seconds and at least `MEASURES` times."""
+    ends, left = time.monotonic() + SETTLES, MEASURES
+    while (wrong := measure()) and (time.monotonic() < ends or left > 0):
+        left -= 1
         time.sleep(0.1)
     return wrong
 
