@@ -124,8 +124,8 @@ class Correct(PageTest):
         self.waits_for(REPAIR, REBUILD)
         for block, at in ((81, 'byte 2065'), (82, 'byte 14')):
             self.go_to(block)
-            self.browser.wait('#panel-disc .say.bad', text('sectorNeverCorrected'))
-            self.assertIn(f'at {at} of the sector.', self.browser.text('#panel-disc .say.bad'))
+            self.browser.wait('#panel-disc .say.bad', f'at {at} of the sector.')
+            self.assertIn(text('sectorNeverCorrected'), self.browser.text('#panel-disc .say.bad'))
             self.waits_for(REPAIR, REBUILD)
         self.go_to(70)
         self.browser.wait('#panel-disc .say.good', 'This sector is sound.')
