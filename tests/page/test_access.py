@@ -180,8 +180,7 @@ class Access(States):
             self.browser.press(Keys.ARROW_DOWN, Keys.ENTER)
             self.browser.wait('#sheet', 'Close it anyway')
             end()
-            self.browser.wait('#panel-script')
-            self.assertEqual(self.has_focus(), '⋯')
+            waited(lambda: self.has_focus() == '⋯', 'the focus does not go back')
 
     def test_the_focus_stays_in_a_sheet_while_it_asks(self) -> None:
         self.to_second_asked()

@@ -184,7 +184,7 @@ class Facts(PageTest):
             self.browser.wait('#panel-disc .say.bad', f'The blocks of this image are 0 to {len(discs.game()) // 2352 - 1}.')
             self.browser.type('#go-to', '5\n')
             self.browser.wait('#sector-title', 'block 5')
-            self.assertEqual(self.browser.text('#panel-disc .say.bad'), '')
+            self.is_gone('#panel-disc .say.bad')
 
     def test_what_is_sound_is_said_once_and_only_if_something_was_tested(self) -> None:
         for image, green in ((random.Random(4).randbytes(400 * 2352), 0), (discs.game(), 1)):
