@@ -210,7 +210,7 @@ class Chromium:
         """Waits until a matching element with this text is visible."""
         shown = '[...document.querySelectorAll(given[0])].some(it => it.checkVisibility() && it.innerText.includes(given[1]))'
         if not self.awaited(shown, css, text, seconds=seconds):
-            raise AssertionError(f'after {seconds:g} s: {css} with "{text}"; it has "{self.text(css)}"')
+            raise AssertionError(f'after {seconds:g} s: {css} with "{text}"; it has "{self.text(css)}"; the page: {self.text("main")[:1000]}')
 
     # ---- the mouse, and keys
 
