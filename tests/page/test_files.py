@@ -189,8 +189,8 @@ class Files(PageTest):
         self.assertEqual(self.script_text(), self.script_of(image, path))
         self.browser.click('#tab-disc')
         self.give(discs.messages())
-        self.browser.wait('#findings .say', 'earlier line')
-        self.assertIn(common.text('discNewFileIsSame'), self.browser.text('#findings .say'))
+        self.browser.wait('#findings .say', common.text('discNewFileIsSame'))
+        self.assertIn('earlier line', self.browser.text('#findings .say'))
 
     def test_a_file_that_is_replaced_in_a_later_session_has_the_lines_of_that_one_only(self) -> None:
         image = self.begin(discs.game())
