@@ -496,7 +496,7 @@ class Streaming(PageTest):
     def test_a_failure_at_each_write_keeps_no_image(self) -> None:
         self.begin(40)
         self.press_save()
-        self.browser.wait('#panel-script .say.good')
+        self.browser.wait('#panel-script .say.good', 'Saved: ')
         count = int(self.browser.run('return chosen.writes.length'))
         self.assertGreater(count, 1)
         for failing in [*range(count), 'close']:
