@@ -109,6 +109,7 @@ class NamesTable(PageTest):
             self.assertEqual(self.saved('Export a table', 'game (names).csv'), common.cdscript_prints('texts', '--csv', *self.options(), '--list', mine, image))
             self.browser.wait('#panel-text .say.good', 'It has 4 translations.')
             self.press('Show all texts')
+            self.wait_for_focus('#all-texts-title')
             self.browser.wait('#panel-text .meter', '4 of 5 done')
             self.setUp()
             self.begin(image.read_bytes())
