@@ -27,11 +27,6 @@ const STANDARD = { input: 0, output: 1, errors: 2 };
 /** @type {('SIGHUP' | 'SIGINT' | 'SIGTERM')[]} */
 const END_SIGNALS = ['SIGHUP', 'SIGINT', 'SIGTERM'];
 
-/** @param {number} number of a version, such as 10200 */
-function versionText(number) {
-    return [10000, 100, 1].map(unit => Math.floor(number / unit) % 100).join('.');
-}
-
 /** @type {(job: string, options: Given['options'], version: string) => string} */
 function textOf(job, options, version) {
     if (options.version) return `${version}\n`;
@@ -44,7 +39,7 @@ function textOf(job, options, version) {
  * @param {Job} job
  */
 async function printHelp({ job: name, options }, job) {
-    const version = `cdscript ${versionText(job.calls.version())}`;
+    const version = `cdscript ${job.calls.version()}`;
     const text = textOf(name, options, version);
     await job.output.write(options.notices ? gunzipSync(Buffer.from(JOINED.notices, 'base64')) : new TextEncoder().encode(text));
     return STATUS.DONE;

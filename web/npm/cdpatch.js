@@ -50,8 +50,7 @@ export class Cdpatch {
 
     /** The version of the library, for example '2.0.0'. */
     get version() {
-        const number = this.calls.version();
-        return [number / 10000, number / 100 % 100, number % 100].map(Math.floor).join('.');
+        return this.calls.version();
     }
 
     /**

@@ -20,8 +20,10 @@ export function sized(bytes, size) {
 
 /** Has a method for each of these calls. Arguments are copied to the arena, or held there, and answers are copies. */
 export class SectorCalls extends Arena {
+    /** The version of the library, for example '2.0.0'. */
     version() {
-        return this.exports.cdpatch_version() >>> 0;
+        const number = this.exports.cdpatch_version();
+        return [10000, 100, 1].map(unit => Math.floor(number / unit) % 100).join('.');
     }
 
     /**

@@ -11,12 +11,11 @@ import { byId, element, fill, hashParts, keysIn, messageOf, setAttribute } from 
 
 /** @param {App} app */
 export function mountHelp(app) {
-    const version = app.calls.version();
-    const number = `${Math.floor(version / 10000)}.${Math.floor(version / 100) % 100}.${version % 100}`;
-    fill(byId('version'), `cdpatch ${number}`);
+    const name = `cdpatch ${app.calls.version()}`;
+    fill(byId('version'), name);
     fill(byId('keys'), element('b', {}, texts.frameKeys), element('dl', { class: 'keys' }, ...texts.KEYS.flatMap(keyRow)));
     fill(byId('words'), element('b', {}, texts.frameWordsUsed), element('dl', { class: 'keys' }, ...wordRows()));
-    fill(byId('about'), element('b', {}, `cdpatch ${number}`),
+    fill(byId('about'), element('b', {}, name),
         ...paragraphs(texts.frameWhatItIsFor, texts.framePageIsOneFile, texts.frameTranslations, texts.frameTriedIn,
             ...madeWith(app.parts.made)), ownHash(app), whatIsProved(), notices());
     for (const note of document.querySelectorAll('[popover]')) {
