@@ -1,8 +1,9 @@
 // Decides which texts of a file may move, and which ranges they leave free.
 
 import { firstAfter, sameBytes } from '../bytes.js';
-import { endOf, fillingAfter, withEnd } from '../encodings/index.js';
+import { FULL, endOf, fillingAfter, withEnd } from '../encodings/index.js';
 import { MOST_CODES, storedAt } from '../pointers/index.js';
+import { isCodeByte } from '../texts/index.js';
 import { isTurnDue, letOthersIn } from '../turns.js';
 
 /** @typedef {import('../encodings/encoding.js').Encoding} Encoding */
@@ -23,7 +24,6 @@ import { isTurnDue, letOthersIn } from '../turns.js';
 
 /** A byte that follows at least this many texts, and more than half of all in a file, ends them. */
 const LEAST_ENDED_ALIKE = 6;
-const FILLED_BYTE = 0xFF;
 
 /** A control code does not end texts if it is before a 00 in more than this share of them. */
 const SHARE_BEFORE_ZERO = 0.1;
@@ -49,12 +49,7 @@ export function usualEndOf({ bytes, targets }, texts) {
     if (counts[most] < LEAST_ENDED_ALIKE || 2 * counts[most] <= places.length) return 0;
     // A code before a 00 belongs to the text, as the end of a line does.
     const beforeZero = places.filter(at => bytes[at] === most && bytes[at + 1] === 0).length;
-    return most === FILLED_BYTE || isCodeByte(most) && beforeZero <= SHARE_BEFORE_ZERO * places.length ? most : 0;
-}
-
-/** @param {number} byte whether it is a control code other than a tab or a line end */
-function isCodeByte(byte) {
-    return byte < 0x20 && ![0x09, 0x0A, 0x0D].includes(byte);
+    return most === FULL || isCodeByte(most) && beforeZero <= SHARE_BEFORE_ZERO * places.length ? most : 0;
 }
 
 /**

@@ -8,6 +8,7 @@ export { LONGEST_TEXT, assertMeant, bytesOfCode, cellOf, codesLeftOut, controlsT
 export { haveSameText, newBytesOf, unitsOfCell, unitsOfRow } from './codes.js';
 export { Glyphs } from './glyphs.js';
 export { KeptTexts } from './kept_texts.js';
+export { isCodeByte } from './lengths.js';
 export { entriesOfPo, isPo } from './po_reader.js';
 export { PoFile } from './po_writer.js';
 export { bytesAround, bytesBefore, contextOf } from './context.js';

@@ -137,14 +137,14 @@ function isChain(bytes, chain, width, at, { start, end, scores }) {
     if (width === 1 && last === end && chain.length > 1 && (at === start || at === start - 1)) return true;
     // A length of several bytes has a 00, which no text has except in UTF-16.
     const isByte = width === 1 || (scores.wide && width === 2);
-    const codes = isByte ? chain.filter(([from]) => isCode(bytes[from - 1] || bytes[from - 2])).length : chain.length;
+    const codes = isByte ? chain.filter(([from]) => isCodeByte(bytes[from - 1] || bytes[from - 2])).length : chain.length;
     const isSure = codes > CONTROL_SHARE * chain.length && codes > 1;
     if (isSure) return chain.length >= LEAST_CHAINED;
     return chain.length >= (toEnd ? LEAST_TO_END : LEAST_OF_LETTERS);
 }
 
 /** @param {number} byte whether it is a control code other than a tab or a line end */
-function isCode(byte) {
+export function isCodeByte(byte) {
     return byte < 0x20 && byte !== 0x09 && byte !== 0x0A && byte !== 0x0D;
 }
 
