@@ -1,3 +1,3 @@
 // The panel Publish.
 
-export { mountPublish } from './panel.js';
+export { PublishPanel } from './panel.js';

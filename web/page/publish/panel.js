@@ -25,7 +25,7 @@ const SIGNS_OF_PATHS = '\\ / : * ? " < > |';
 const PRIVATE = { autocomplete: 'off', spellcheck: 'false' };
 
 /** The panel. */
-class PublishPanel {
+export class PublishPanel {
     /**
      * @param {App} app
      * @param {HTMLElement} panel
@@ -272,11 +272,3 @@ class PublishPanel {
 
 /** @type {Record<string, string>} */
 const SIGNS = { good: '✓', bad: '✕', warn: '!', quiet: '…' };
-
-/**
- * @param {App} app
- * @param {HTMLElement} panel
- */
-export function mountPublish(app, panel) {
-    return new PublishPanel(app, panel);
-}

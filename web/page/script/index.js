@@ -1,4 +1,4 @@
 // The panel Script.
 
 export { fitOf, fitWords, namingOld } from './fit_words.js';
-export { mountScript } from './panel.js';
+export { ScriptPanel } from './panel.js';

@@ -22,7 +22,7 @@ import { makeUndo } from './undo_file.js';
 /** @typedef {import('../ui/fill.js').Child} Child */
 
 /** The panel. */
-class ScriptPanel {
+export class ScriptPanel {
     /**
      * @param {App} app
      * @param {HTMLElement} panel
@@ -261,12 +261,4 @@ class ScriptPanel {
         this.opening.value = '';
         this.app.open(files);
     }
-}
-
-/**
- * @param {App} app
- * @param {HTMLElement} panel
- */
-export function mountScript(app, panel) {
-    return new ScriptPanel(app, panel);
 }

@@ -1,4 +1,4 @@
 // The panel Text.
 
 export { bindEncodings, chosenEncoding, columnLabel, encodingLabel, signOf } from './encodings.js';
-export { mountText } from './panel.js';
+export { TextPanel } from './panel.js';

@@ -23,7 +23,7 @@ import { TextsTable } from './texts_table.js';
 /** @typedef {import('../../core/encodings/encoding.js').Encoding} Encoding */
 
 /** The panel. */
-class TextPanel {
+export class TextPanel {
     /**
      * @param {App} app
      * @param {HTMLElement} panel
@@ -288,12 +288,4 @@ class TextPanel {
         this.table.value = '';
         if (file) fill(this.state, notice(...await takeTable(this.app, file)));
     }
-}
-
-/**
- * @param {App} app
- * @param {HTMLElement} panel
- */
-export function mountText(app, panel) {
-    return new TextPanel(app, panel);
 }
