@@ -40,12 +40,11 @@ export function tableEncoding(file) {
 /**
  * As `tableEncoding`, with turns for others in between.
  * @param {string} file
- * @param {import('../turns.js').Signal} [signal]
  */
-export async function tableInTurns(file, signal) {
+export async function tableInTurns(file) {
     const made = emptyTable();
     for (const [line, number] of numberedLines(file)) {
-        if (isTurnDue()) await letOthersIn(signal);
+        if (isTurnDue()) await letOthersIn();
         readLine(made, line, number);
     }
     return whole(made);

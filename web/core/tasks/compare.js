@@ -37,13 +37,12 @@ const COMPARED_STEP = 256;
  * @param {Uint8Array} old
  * @param {Uint8Array} fresh
  * @param {number} first
- * @param {import('../script/sector_lines.js').How} [how]
  * @returns {Lines}
  */
-export function diffRange(calls, old, fresh, first, how) {
+export function diffRange(calls, old, fresh, first) {
     const differing = differingSectors(old, fresh);
     const pairs = { blocks: differing.map(i => first + i), old: sectorsAt(old, differing), fresh: sectorsAt(fresh, differing) };
-    return linesBetween(calls, pairs, how);
+    return linesBetween(calls, pairs);
 }
 
 /**

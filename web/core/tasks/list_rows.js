@@ -78,9 +78,10 @@ export async function rowsOfLists(lists, isAlso = () => false, signal) {
         if (reader.size > MOST_LISTED) throw new Fault('list/too-large', { name, size: reader.size, most: MOST_LISTED });
         const own = lists.length > 1 ? name : '';
         try {
-            for (const row of allRows(await longTextOf(reader, signal), own)) {
+            const list = await longTextOf(reader, signal);
+            for (const row of isPo(list) ? poRows(list, own) : tableRows(list, own)) {
                 if (isTurnDue()) await letOthersIn(signal);
-                if (row !== null) read.add(row);
+                if (row !== null) read.add(row); // null only gives other work a turn
             }
         } catch (error) {
             if (own === '' || !failedBy(error, 'list', 'po')) throw error;
@@ -123,16 +124,6 @@ function wholeIn(cell) {
 /** @param {string | undefined} cell the number of a block, or NO_BLOCK for block 0, with which the offsets of plain files begin */
 function blockIn(cell) {
     return cell === NO_BLOCK ? 0 : wholeIn(cell);
-}
-
-/**
- * The rows of a list. Null, now and then, only gives other work a turn.
- * @param {string} list
- * @param {string} name
- * @returns {Generator<ListRow | null>}
- */
-function allRows(list, name) {
-    return isPo(list) ? poRows(list, name) : tableRows(list, name);
 }
 
 /** A comment in a PO file about the places of an entry in one encoding: their smallest room, the encoding, and the filler. */

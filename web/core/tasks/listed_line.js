@@ -3,7 +3,6 @@
 import { remark } from '../faults.js';
 import { listedName } from './listed_name.js';
 
-/** @typedef {import('../disc/dat.js').Found} DumpFound */
 /** @typedef {import('../disc/dat.js').Hashes} Hashes */
 /** @typedef {import('../disc/dat.js').KnownDumps} KnownDumps */
 /** @typedef {import('./file_summary.js').FileSummary} FileSummary */
@@ -19,15 +18,6 @@ const NOT_IN_DAT = 'not in the DAT';
 /** The indices of columns. SAID is that of the DAT. */
 export const COLUMN = Object.freeze({ NAME: 0, KINDS: 1, DAMAGED: 2, FINDINGS: 3, ELSEWHERE: 4, SHA1: 5, SAID: 6, BYTES: 7, CHANGED: 8,
     CRC32: 9, MD5: 10 });
-
-/**
- * The column of the DAT for a file.
- * @param {DumpFound | null} found the dump that is the file
- * @param {TextOf} textOf
- */
-function saidOfDump(found, textOf) {
-    return found === null ? NOT_IN_DAT : listedName(textOf(remark('dat/dump', found)));
-}
 
 /**
  * Whether a hash that a DAT needs was not computed.
@@ -46,7 +36,8 @@ export function lacksHash(needs, { crc32, md5 }) {
  */
 export function saidOfFile(known, { size, hashes, own }, textOf) {
     const found = known.find(size, hashes, own);
-    return found === null && lacksHash(known.needs, hashes) ? NO_DAT : saidOfDump(found, textOf);
+    if (found !== null) return listedName(textOf(remark('dat/dump', found)));
+    return lacksHash(known.needs, hashes) ? NO_DAT : NOT_IN_DAT;
 }
 
 /**

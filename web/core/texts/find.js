@@ -67,7 +67,8 @@ function findInUser(user, firstBlock, parts, { count, limit, fileSize = Infinity
         const stop = matching.end(at);
         if (stop < 0) continue;
         found.count += 1;
-        if (found.hits.length < limit) found.hits.push(hitAt(firstBlock, at, stop));
+        if (found.hits.length === limit) continue;
+        found.hits.push({ block: firstBlock + Math.floor(at / USER_SIZE), offset: at % USER_SIZE, size: stop - at });
     }
     return found;
 }
@@ -80,15 +81,6 @@ function findInUser(user, firstBlock, parts, { count, limit, fileSize = Infinity
  */
 export function joinFound(parts, limit) {
     return { count: parts.reduce((sum, part) => sum + part.count, 0), hits: parts.flatMap(part => part.hits).slice(0, limit) };
-}
-
-/**
- * @param {number} firstBlock
- * @param {number} at
- * @param {number} stop
- */
-function hitAt(firstBlock, at, stop) {
-    return { block: firstBlock + Math.floor(at / USER_SIZE), offset: at % USER_SIZE, size: stop - at };
 }
 
 /**
