@@ -12,11 +12,6 @@ import { didYouMean } from './suggesting.js';
 /** Other names of jobs. */
 const ALIASES = new Map([['repair', 'merge']]);
 
-/** @param {Options} options */
-function namesOf(options) {
-    return /** @type {OptionName[]} */ (Object.keys(options));
-}
-
 /**
  * Sorts the words of the command line into options and names.
  * @param {string[]} words
@@ -63,7 +58,7 @@ function takeOption(options, word, left) {
  * @param {Options} options
  */
 function checkOptions(job, options) {
-    const given = namesOf(options);
+    const given = /** @type {OptionName[]} */ (Object.keys(options));
     const foreign = given.find(name => name !== 'help' && !FORMS[job].options.includes(name));
     if (foreign) throw ownFault(`${job} has no option ${OPTIONS[foreign].word}; see cdscript ${job} --help`);
     const rows = given.map(name => OPTIONS[name]);

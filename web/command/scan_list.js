@@ -25,11 +25,6 @@ const LISTED = new RegExp(['^[^\\t]+', '[^\\t]*', '(?:\\d+|-)', '(?:\\d+|-)', '(
 /** Each line of a list has fewer bytes: a name has at most 4095 bytes, each of which becomes at most ten. */
 const LONGEST_LINE = 1 << 17;
 
-/** @param {Uint8Array} line */
-function isListed(line) {
-    return LISTED.test(new TextDecoder().decode(line));
-}
-
 /**
  * The verdict of a DAT on the file of a line, as its column has it.
  * @param {string[]} row
@@ -100,7 +95,7 @@ export class ResumedList {
         const start = new Uint8Array(LONGEST_LINE);
         const read = start.subarray(0, readSync(this.descriptor, start, 0, start.length, 0));
         const end = read.indexOf(LINE_FEED);
-        return end >= 0 && isListed(read.subarray(0, end)) ? readFileSync(this.name) : read;
+        return end >= 0 && LISTED.test(new TextDecoder().decode(read.subarray(0, end))) ? readFileSync(this.name) : read;
     }
 
     /**

@@ -11,9 +11,7 @@ import { NewFile } from './new_file.js';
 import { openDiscOf, openTrackOf } from './opening.js';
 import { sayOfRuns } from './printed.js';
 
-/** @typedef {import('../core/disc/disc.js').DiscImage} DiscImage */
 /** @typedef {import('../core/tasks/compare.js').Comparison} Comparison */
-/** @typedef {import('../core/tasks/undo.js').NoUndo} NoUndo */
 /** @typedef {import('../core/script/script_writer.js').Script} Script */
 /** @typedef {import('./job.js').Job} Job */
 /** @typedef {import('./job.js').Target} Target */
@@ -133,15 +131,6 @@ function refusedText(refused, name) {
 }
 
 /**
- * Explains why a script cannot be undone.
- * @param {NoUndo} made
- * @param {DiscImage} image
- */
-function whyNoUndo(made, { name }) {
-    return made.why === 'refused' ? refusedText(made.refused, name) : NOTHING_TO_TAKE_BACK;
-}
-
-/**
  * Throws the error of a script with the prefix of this command, and not that of the program.
  * @param {unknown} error
  * @returns {never}
@@ -159,7 +148,7 @@ export async function undoJob(job) {
     const script = job.files.piecesOf(job.names[1]);
     const engine = { calls: job.calls, pool: job.pool.pool(image.sectors, UNDOING_THREADS) };
     const made = await undoScript(engine, opened, script, job.options, job.watch).catch(scriptFailed);
-    if (made.script === null) throw ownFault(whyNoUndo(made, image));
+    if (made.script === null) throw ownFault(made.why === 'refused' ? refusedText(made.refused, image.name) : NOTHING_TO_TAKE_BACK);
     if (made.refused > 0) job.say(refusedText(made.refused, image.name));
     sayOfRuns(job, made.left, left => left.why === 'damaged' ? `${blocksText([left])}: ${DAMAGE_STAYS_OUT}` : leftText(left, image.name));
     await writeFinished(job, target, made.script);

@@ -45,15 +45,6 @@ function hashing(reader, needs) {
 }
 
 /**
- * Whether a file is hashed here while threads survey its sectors.
- * @param {Job} job
- * @param {Reader} reader
- */
-function isHashedBeside(job, reader) {
-    return Boolean(reader.lent) && job.pool.hasThreads(sectorCount(reader.size));
-}
-
-/**
  * Returns a function that surveys and hashes files.
  * @param {Job} job
  * @param {Needs} [needs]
@@ -62,7 +53,7 @@ function isHashedBeside(job, reader) {
 export function readingOnce(job, needs = SHA1_ONLY) {
     return async ({ reader }, tracks) => {
         const hashed = hashing(reader, needs);
-        const isBeside = tracks.length > 0 && isHashedBeside(job, reader);
+        const isBeside = tracks.length > 0 && reader.lent !== undefined && job.pool.hasThreads(sectorCount(reader.size));
         const beside = isBeside ? hashed.digest() : null;
         if (beside !== null) beside.catch(() => {}); // it is thrown when its turn comes
         const surveys = [];
