@@ -23,11 +23,6 @@ import { patchedFile } from './patched_file.js';
 /** The most runs of sectors in a message. */
 const MOST_RUNS = 8;
 
-/** @param {string} path */
-function fileStem(path) {
-    return stemOf(path.replace(/^.*\//, '')) || 'file.bin';
-}
-
 export class FileJobs {
     /** @param {App} app */
     constructor(app) {
@@ -98,7 +93,7 @@ export class FileJobs {
             const source = isPatched && files !== null ? await patchedFile(app, opened, files, file.entries)
                 : { opened, entries: file.entries, refused: 0 };
             const others = await extractFile(app, source.opened, source.entries, take, watch);
-            const name = fileStem(file.path);
+            const name = stemOf(file.path.replace(/^.*\//, '')) || 'file.bin';
             downloadBytes(pieces, name);
             const doubt = others.length > 0 && format(texts.discSectorsNotModeOne, { n: blocksIn(others) });
             const refused = source.refused > 0 && format(texts.discLinesNotInFile, { n: source.refused });
@@ -161,9 +156,11 @@ export class FileJobs {
         const { app } = this;
         const fresh = new Set(incoming);
         const others = linesIn(app.script, places).filter(({ text }) => !fresh.has(text));
+        const shared = sharing.slice(0, MOST_RUNS).map(other =>
+            `${remarkText({ code: 'replace/shared-blocks', facts: { path: seen(path), other: seen(other) } })}.`);
         const words = [removed > 0 && format(texts.discEarlierLinesGone, { n: removed }),
-            others.length > 0 && format(texts.discOtherLinesWrite, { n: others.length, line: String(others[0].number) }),
-            ...sharing.slice(0, MOST_RUNS).map(other => sharingWords(path, other))].flatMap(it => it || []);
+            others.length > 0 && format(texts.discOtherLinesWrite, { n: others.length, line: String(others[0].number) }), ...shared]
+            .flatMap(it => it || []);
         const rest = words.map(text => element('p', {}, text));
         const changes = removed > 0 ? rest : [texts.discNothingAdded, ...rest];
         if (incoming.length === 0) return notice('plain', texts.discNewFileIsSame, ...changes);
@@ -174,12 +171,4 @@ export class FileJobs {
         return notice(others.length + sharing.length > 0 ? 'warn' : 'good', head, ...length, ...rest,
             element('div', { class: 'row' }, go, button('slim', () => app.showPanel('script'), texts.discOpenScriptPanel)));
     }
-}
-
-/**
- * @param {string} path of a file that is replaced
- * @param {string} other a file that has some of its blocks
- */
-function sharingWords(path, other) {
-    return `${remarkText({ code: 'replace/shared-blocks', facts: { path: seen(path), other: seen(other) } })}.`;
 }

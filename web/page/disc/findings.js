@@ -48,7 +48,8 @@ export class Findings {
                 ? texts.discRunsOfSectors : format(texts.discWhatProgramPrints, { command }))));
         this.tools = element('div', { class: 'row pad details' }, choice, element('span', { class: 'row to-end' },
             copyButton('slim bare', () => this.report(), texts.copy, texts.discCopyReportWhat),
-            button('slim bare', () => this.save(), texts.discSaveReport)));
+            button('slim bare', () => downloadText(this.report(), `${COMMANDS[this.detail].replace(/^.* /, '')}.txt`),
+                texts.discSaveReport)));
         this.part = element('section', { class: 'card', id: 'findings', 'aria-label': texts.discFindingsCard },
             element('header', {}, this.tabs), this.files.tools, this.tools, this.body, this.foot);
         oneTabStop(this.tabs, '[role=tab]', tab => this.choose(/** @type {FindingsTab} */ (tab.dataset.tab)));
@@ -92,10 +93,6 @@ export class Findings {
         if (this.detail === 'files') return this.files.text();
         const report = this.detail === 'audit' ? auditText : listText;
         return new TextDecoder().decode(report(calls, survey, image.tail).text);
-    }
-
-    save() {
-        downloadText(this.report(), `${COMMANDS[this.detail].replace(/^.* /, '')}.txt`);
     }
 
     draw() {

@@ -202,7 +202,8 @@ export class SectorCard {
         const isUser = shown.mode1 && at >= USER_OFFSET && at < USER_END;
         const { digit, fault } = this.edit;
         const typed = digit === '' ? `${digitsOf(byte)} = ${byte}` : `${digit}_`;
-        const parts = [element('b', {}, placeName(shown, at)), hexadecimal(isUser ? at - USER_OFFSET : at),
+        const offset = (isUser ? at - USER_OFFSET : at).toString(16).toUpperCase();
+        const parts = [element('b', {}, placeName(shown, at)), element('span', { class: 'mono' }, `0x${offset}`),
             isUser && element('span', {}, byteWords(at)), element('span', { class: 'mono' }, typed),
             isUser && this.fileAt(at - USER_OFFSET), ...this.selectionWords()];
         if (shown.bytes[at] !== shown.old[at]) {
@@ -267,12 +268,4 @@ export class SectorCard {
         this.goTo.setAttribute('aria-invalid', String(fault !== ''));
         fill(this.noBlock, fault !== '' && element('p', { class: 'say bad thin', role: 'alert' }, fault));
     }
-}
-
-/**
- * A number in hexadecimal, as hex editors show it.
- * @param {number} number
- */
-function hexadecimal(number) {
-    return element('span', { class: 'mono' }, `0x${number.toString(16).toUpperCase()}`);
 }

@@ -30,7 +30,10 @@ export function sectorFault(app, block, sector, found) {
     const record = surveyRange(app.calls, sector, block, { shift: shiftOfSector(app, block) }).records;
     const line = new TextDecoder().decode(app.calls.auditLine(block, record)).trimEnd();
     const [edc, zeros, parity] = [record[RECORD.EDC] > 0, record[RECORD.ZEROS] > 0, record[RECORD.P] + record[RECORD.Q] > 0];
-    if (!edc && !zeros && !parity) return line === '' ? soundSector() : elsewhere(app, block, sector, line);
+    if (!edc && !zeros && !parity) {
+        return line !== '' ? elsewhere(app, block, sector, line)
+            : element('div', { class: 'say good thin' }, element('b', {}, texts.sectorIsSound), texts.sectorEdcAndParityFit);
+    }
     const correction = correctionOf(app.calls, block, sector);
     const sentences = [
         edc && say(texts.sectorEdcDoesNotFit, { edc: term('edc', texts.sectorEdcField) }),
@@ -177,10 +180,6 @@ function addRebuild(app, block) {
     if (rebuildWords(app, block) !== '') return;
     app.addLines([rebuildLine(block)], '', firstLinesOf(app.script, block).writes);
     announce(rebuildWords(app, block) || format(texts.sectorInTheScript, { line: rebuildLine(block) }));
-}
-
-function soundSector() {
-    return element('div', { class: 'say good thin' }, element('b', {}, texts.sectorIsSound), texts.sectorEdcAndParityFit);
 }
 
 /**

@@ -7,11 +7,6 @@ import { lineText } from '../../core/script/views.js';
 /** Bytes of a line that were typed, and those that were there before. */
 /** @typedef {{ block: number, offset: number, fresh: number[], old: number[] }} TypedLine */
 
-/** @param {TypedLine} line */
-function textOf({ block, offset, fresh, old }) {
-    return lineText(lines => lines.set(block, offset, Uint8Array.from(fresh), Uint8Array.from(old)));
-}
-
 /** Bytes that are typed one after the other, which form one line. Each time that some are typed is an edit of the script. */
 export class Typing {
     /** @param {App} app */
@@ -48,7 +43,7 @@ export class Typing {
             if (at + i === is.fresh.length) is.old.push(before[i]);
             is.fresh[at + i] = byte;
         });
-        const text = textOf(is);
+        const text = lineText(lines => lines.set(block, is.offset, Uint8Array.from(is.fresh), Uint8Array.from(is.old)));
         const number = was !== null && this.written ? this.written.number : app.addLines([text], 'bytes');
         if (was !== null) app.replaceLine(number, text, 'bytes');
         this.line = is;

@@ -54,8 +54,9 @@ class FileList {
         oneTabStop(table, 'tbody button');
         fill(this.part, element('header', {}, element('h2', {}, texts.listTitle),
             button('slim', () => app.choose(''), texts.listOpenMore),
-            moreButton('slim', 'list', texts.listMore, () => [{ label: texts.textCopyAsTable, copies: () => this.text() },
-                { label: texts.listSave, press: () => this.save() }]),
+            moreButton('slim', 'list', texts.listMore, () => [
+                { label: texts.textCopyAsTable, copies: () => new TextDecoder().decode(this.bytes()) },
+                { label: texts.listSave, press: () => downloadBytes([this.bytes()], SAVED_AS) }]),
             crossButton(playerTexts.close, () => this.close())),
         element('div', { class: 'pad stack' }, this.job, this.counts), table);
         app.on('dumps', () => this.draw());
@@ -94,14 +95,6 @@ class FileList {
         return bytesOfLines(this.found.flatMap(({ summary }) => summary ? this.columns(summary, known).join('\t') : []));
     }
 
-    text() {
-        return new TextDecoder().decode(this.bytes());
-    }
-
-    save() {
-        downloadBytes([this.bytes()], SAVED_AS);
-    }
-
     close() {
         this.app.endJobAt(this.job);
         this.found = [];
@@ -118,8 +111,9 @@ class FileList {
         const all = files.reduce((sum, { size }) => sum + size, 0);
         const names = new Set(files.map(({ name }) => name));
         const earlier = this.found.filter(({ name }) => !names.has(name));
-        const count = files.length + new Set(earlier.map(({ name }) => name)).size;
-        const words = () => format(texts.listExamined, { done: this.done(), n: count });
+        const countOf = (/** @type {Examined[]} */ found) => new Set(found.map(({ name }) => name)).size;
+        const count = files.length + countOf(earlier);
+        const words = () => format(texts.listExamined, { done: countOf(this.found), n: count });
         await jobAt(this.app, this.job, {
             name: texts.listExamining, replaces: true, run: (bar, signal) => {
                 this.found = earlier;
@@ -134,11 +128,6 @@ class FileList {
             failed: error => fill(this.job, isCancelled(error) ? notice('plain', texts.discJobCancelled, words())
                 : notice('bad', sentence(error))),
         });
-    }
-
-    /** How many files were examined. */
-    done() {
-        return new Set(this.found.map(({ name }) => name)).size;
     }
 
     /**

@@ -16,14 +16,6 @@ const SLICES_AHEAD = 2;
 const PASSED_OVER = 1 << 20;
 
 /**
- * The error that an opened file cannot be read any more.
- * @param {string} name
- */
-function fileGone(name) {
-    return ownFault(format(playerTexts.openFileIsGone, { name: shownName(name) }));
-}
-
-/**
  * A reader of a file's bytes.
  * @param {File} file
  * @returns {Reader & { file: File }}
@@ -166,7 +158,7 @@ function readingOf(file, read) {
         try {
             return await read(at, length, room);
         } catch (error) {
-            throw isCancelled(error) ? error : fileGone(file.name);
+            throw isCancelled(error) ? error : ownFault(format(playerTexts.openFileIsGone, { name: shownName(file.name) }));
         }
     };
 }

@@ -257,7 +257,7 @@ export class Player {
             },
             done: saved => {
                 clearNotices();
-                this.endKept();
+                app.endJob(this.kept);
                 if (saved === null) return again(() => notice('plain', texts.playerNoFileChosen, texts.playerNothingWasSaved));
                 if (!saved.streamed) this.kept = app.beginJob({ name: data.name, isLost: true });
                 this.become(() => this.saved(saved, judged, first()));
@@ -268,10 +268,6 @@ export class Player {
                 again(() => failureOfSaving(error, work.reader.size));
             },
         });
-    }
-
-    endKept() {
-        this.app.endJob(this.kept);
     }
 
     /**

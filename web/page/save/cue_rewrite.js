@@ -10,7 +10,7 @@ export function sheetNaming(sheet, names) {
     let found = false;
     const lines = sheet.split('\n').map(line => {
         const parts = fileParts(line);
-        const other = parts && others.get(lastName(parts.name));
+        const other = parts && others.get(withoutPath(parts.name).toLowerCase());
         if (!other) return line;
         found = true;
         return `${parts.before}"${other}"${parts.after}`;
@@ -32,11 +32,6 @@ export function otherFiles(sheet, but) {
 function withoutPath(path) {
     const name = path.replace(/^"|"$/g, '');
     return name.slice(Math.max(name.lastIndexOf('/'), name.lastIndexOf('\\')) + 1);
-}
-
-/** @param {string} path */
-function lastName(path) {
-    return withoutPath(path).toLowerCase();
 }
 
 /**

@@ -236,7 +236,8 @@ export class CheckCard {
                 this.draw(); // before the bar goes, so that the focus passes to what takes its place
             },
             failed: error => {
-                this.failure = isCancelled(error) ? null : failureOf(error);
+                this.failure = isCancelled(error) ? null
+                    : notice('bad', messageOf(error), adviceOf(error, texts.scriptNothingSavedOpenAgain));
                 this.draw();
             },
         });
@@ -280,12 +281,4 @@ export class CheckCard {
 function tooManyPatches() {
     const command = element('span', { class: 'mono' }, 'cdscript apply --long');
     return notice('bad', format(texts.scriptHasTooManyPatches, { n: MOST_PATCHES }), ...say(texts.scriptAppliedWithLong, { command }));
-}
-
-/**
- * A notice about an error, which says that nothing was saved.
- * @param {unknown} error
- */
-function failureOf(error) {
-    return notice('bad', messageOf(error), adviceOf(error, texts.scriptNothingSavedOpenAgain));
 }

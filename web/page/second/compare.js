@@ -105,12 +105,14 @@ export class SecondCompare extends PairJob {
         const names = [texts.secondColumnHeader, texts.secondColumnUserData, 'EDC', texts.secondColumnParity];
         const head = element('tr', {}, element('th', { class: 'n' }, term('block', texts.textColumnBlock)), ...names.map(name =>
             element('th', { class: 'n' }, name === 'EDC' ? term('edc', name) : name)), element('th', {}, texts.textColumnFile));
-        const groups = groupsOf(found, fileSayer(files), name => this.pressed.has(name));
+        const fileOf = fileSayer(files);
+        const groups = groupsOf(found, fileOf, name => this.pressed.has(name));
         const body = groups.flatMap(group => [this.groupRow(group), ...group.rows.map(row => this.fieldRow(row, names, group.name))]);
         const shown = groups.reduce((sum, { isOpen, count, rows }) => sum + (isOpen ? rows.length : count), 0);
         const left = found.sectors - shown;
         const foot = left > 0 ? format(texts.secondMoreBlocksWithoutRow, { n: left }) : texts.secondUserDataWithoutEdc;
-        const list = (/** @type {number} */ most) => listOf(rowsOf(found.differing, most), fileSayer(files));
+        const list = (/** @type {number} */ most) => Array.from(rowsOf(found.differing, most), ({ block, fields }) =>
+            `${block}\t${fields.join('\t')}\t${fileOf(block)}\n`).join('');
         const save = () => downloadText(list(Infinity), patchedName(second.name, 'differences', '.txt'));
         const more = moreButton('slim', 'differences', texts.listMore, () => [
             { label: texts.secondCopyTheRows, copies: () => list(MOST_ROWS) },
@@ -163,15 +165,6 @@ function groupsOf({ sectors, differing }, fileOf, isPressed) {
         if (group.isOpen && left-- > 0) group.rows.push(row);
     }
     return [...groups.values()];
-}
-
-/**
- * The rows as text.
- * @param {Iterable<FieldRow>} rows
- * @param {(block: number) => string} fileOf
- */
-function listOf(rows, fileOf) {
-    return Array.from(rows, ({ block, fields }) => `${block}\t${fields.join('\t')}\t${fileOf(block)}\n`).join('');
 }
 
 /**

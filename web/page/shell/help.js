@@ -11,13 +11,15 @@ import { byId, element, fill, hashParts, keysIn, messageOf, setAttribute } from 
 
 /** @param {App} app */
 export function mountHelp(app) {
+    const { made } = app.parts;
     const name = `cdpatch ${app.calls.version()}`;
     fill(byId('version'), name);
     fill(byId('keys'), element('b', {}, texts.frameKeys), element('dl', { class: 'keys' }, ...texts.KEYS.flatMap(keyRow)));
     fill(byId('words'), element('b', {}, texts.frameWordsUsed), element('dl', { class: 'keys' }, ...wordRows()));
     fill(byId('about'), element('b', {}, name),
         ...paragraphs(texts.frameWhatItIsFor, texts.framePageIsOneFile, texts.frameTranslations, texts.frameTriedIn,
-            ...madeWith(app.parts.made)), ownHash(app), whatIsProved(), notices());
+            ...made.length === 0 ? [] : [format(texts.frameMadeWith, { tools: made.join(', ') })]),
+        ownHash(app), whatIsProved(), notices());
     for (const note of document.querySelectorAll('[popover]')) {
         setAttribute(note, 'aria-label', note.children[0].textContent);
         note.prepend(closing(note));
@@ -52,11 +54,6 @@ function keepTouches() {
         event.preventDefault();
         event.stopPropagation();
     }, true);
-}
-
-/** @param {string[]} tools and their versions */
-function madeWith(tools) {
-    return tools.length === 0 ? [] : [format(texts.frameMadeWith, { tools: tools.join(', ') })];
 }
 
 /** @param {...string} all */

@@ -13,7 +13,7 @@ const HEADINGS = { disc: texts.frameDiscTab, text: texts.frameTextTab, script: t
 /** @param {App} app */
 export function mountFrame(app) {
     mountMenus();
-    oneTabStop(byId('tabs'), '[role=tab]:not([hidden])', tab => app.showPanel(panelOfTab(tab)));
+    oneTabStop(byId('tabs'), '[role=tab]:not([hidden])', tab => app.showPanel(PANELS.find(name => tab.id === `tab-${name}`) || 'disc'));
     for (const name of PANELS) byId(`tab-${name}`).addEventListener('click', () => app.showPanel(name));
     const frame = { started: false, panel: app.panel };
     app.on('saved', endSavingNotices);
@@ -37,14 +37,6 @@ function panelComes({ panel }, frame) {
     const part = byId(`panel-${panel}`);
     if (part.getBoundingClientRect().top < 0) part.scrollIntoView();
     if (document.activeElement?.closest('.panel[hidden]')) byId(`tab-${panel}`).focus({ preventScroll: true });
-}
-
-/**
- * @param {HTMLElement} tab
- * @returns {PanelName}
- */
-function panelOfTab(tab) {
-    return PANELS.find(name => tab.id === `tab-${name}`) || 'disc';
 }
 
 /**

@@ -15,14 +15,6 @@ import { capital, element, fill, messageOf, nameOf, notice, showNotice, shownNam
 const sources = new WeakMap();
 
 /**
- * The source text of an encoding that is a table; undefined for any other encoding.
- * @param {Encoding} encoding
- */
-export function tableSource(encoding) {
-    return sources.get(encoding);
-}
-
-/**
  * The chosen encoding.
  * @param {App} app
  * @returns {Encoding}
@@ -39,7 +31,7 @@ export function chosenEncoding({ encoding, tables }) {
  */
 export function textOptionsOf(app) {
     const encoding = chosenEncoding(app);
-    const table = tableSource(encoding);
+    const table = sources.get(encoding);
     if (table !== undefined) return { table };
     return SEARCHED.includes(encoding) || !encoding.hasCharacters ? {} : { encoding: encoding.name };
 }

@@ -50,7 +50,8 @@ export class PointersCard {
             'aria-label': texts.textPointersToOpen, change: () => this.opened() });
         /** @type {HTMLInputElement} */
         this.onOff = element('input', { type: 'checkbox', id: 'let-move', change: () => owner.turn(this.onOff.checked) });
-        this.saving = button('slim', () => this.save(), texts.discSaveReport,
+        const save = () => { if (this.chosen.length > 0) owner.save(pointerList(this.chosen)); };
+        this.saving = button('slim', save, texts.discSaveReport,
             element('span', { class: 'hide' }, ` ${texts.textTheTables}`));
         this.make = button('main', () => owner.make(), texts.textMakeScript);
         this.behind = element('p', { class: 'small quiet', role: 'status' });
@@ -155,9 +156,5 @@ export class PointersCard {
         const [file] = this.input.files || [];
         this.input.value = '';
         if (file) this.owner.open(file);
-    }
-
-    save() {
-        if (this.chosen.length > 0) this.owner.save(pointerList(this.chosen));
     }
 }

@@ -56,7 +56,7 @@ export class ReplaceCard {
         this.job = element('div', { class: 'stack' });
         this.message = messageArea();
         this.add = button('main', () => this.addLine(), texts.textReplaceText);
-        this.all = button('', () => this.addAll(), '');
+        this.all = button('', () => { if (!isDisabled(this.all)) owner.addAll(this.fresh().bytes, this.filling()); }, '');
         const filling = element('span', { class: 'row small quiet' }, texts.textFillWith, this.fill, this.other);
         const buttons = element('div', { class: 'row' }, this.add, this.all, button('slim bare', () => owner.skip(), texts.textSkipHit));
         this.refusal = element('p', { class: 'say warn', role: 'status' });
@@ -196,10 +196,6 @@ export class ReplaceCard {
         if (line === '') return this.owner.add(target.hit, filled, target.old);
         this.app.replaceLine(target.line, line);
         return void this.changed(notice('good', format(texts.textLineUpdated, { line: String(target.line) })));
-    }
-
-    addAll() {
-        if (!isDisabled(this.all)) this.owner.addAll(this.fresh().bytes, this.filling());
     }
 
     /**

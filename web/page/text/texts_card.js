@@ -198,11 +198,6 @@ export class TextsCard {
         return row.row;
     }
 
-    /** Forgets the rows that are not in the document any more. */
-    forget() {
-        for (const [known, { row }] of this.drawn) if (!row.isConnected) this.drawn.delete(known);
-    }
-
     /** @param {number} index of the row that has got the focus */
     choose(index) {
         if (index === this.chosen) return;
@@ -263,9 +258,9 @@ export class TextsCard {
         fill(this.message, notice(changes.length > 0 ? 'good' : 'plain', format(texts.textReplacedIn, { n: changes.length })));
     }
 
-    /** Draws all rows again, after changes of many texts. */
+    /** Draws all rows again, after changes of many texts, and forgets those that are not in the document any more. */
     redraw() {
-        this.forget();
+        for (const [known, { row }] of this.drawn) if (!row.isConnected) this.drawn.delete(known);
         this.shown.forEach((known, i) => this.drawn.get(known)?.draw(i, i === this.chosen));
         this.drawHead();
     }
