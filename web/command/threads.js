@@ -12,7 +12,6 @@ import { isTested } from './again.js';
 /** @typedef {import('../core/pool/jobs.js').JobName} JobName */
 /** @typedef {Uint8Array | { descriptor: number, at: number, length: number }} Piece bytes, or a range of a file that the thread reads */
 /** @typedef {import('../core/pool/jobs.js').Message<JobName, Piece>} Message */
-/** @typedef {import('../core/pool/jobs.js').Reply} Reply */
 /** @typedef {{ module: WebAssembly.Module, scans: boolean }} ThreadData the data of a new thread; whether it is a thread of `scan` */
 
 /** Fewer sectors are done before threads have started. */

@@ -3,7 +3,6 @@
 import { RECORD, RECORD_SIZE, SECTOR_KIND } from '../module/index.js';
 import { MODE2, isTestedMode2 } from './mode2.js';
 
-/** @typedef {import('./runs.js').Run} Run */
 /** @typedef {import('./survey.js').MovedRun} MovedRun */
 /**
  * A run with the addresses of the blocks that are `by` later. The place of the gap is before it, or, if `isAtStart`, after it, since no

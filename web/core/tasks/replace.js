@@ -7,8 +7,6 @@ import { letOthersIn } from '../turns.js';
 import { replaceBytes } from './replace_bytes.js';
 import { fittingScript } from './script_for.js';
 
-/** @typedef {import('../disc/disc.js').OrderedImage} OrderedImage */
-/** @typedef {import('../script/sector_lines.js').Lines} Lines */
 /** @typedef {import('../encodings/encoding.js').Encoding} Encoding */
 /** @typedef {import('./engine.js').Engine} Engine */
 /** @typedef {import('./engine.js').Watch} Watch */

@@ -9,7 +9,6 @@ import { allScores, endedScores, tableScores } from './scores.js';
 import { TextRecogniser } from './recognising.js';
 import { BESIDE } from './overlap.js';
 
-/** @typedef {import('../encodings/encoding.js').Encoding} Encoding */
 /** @typedef {import('../encodings/encoding.js').TableEncoding} TableEncoding */
 /** @typedef {import('./scores.js').Scores} Scores */
 /**

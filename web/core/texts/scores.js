@@ -4,7 +4,6 @@ import { CP932, SEARCHED, TableEncoding, encodeText, endOf, withEnd } from '../e
 import { AFTER_KINDS, CHARACTERS_BY_BITS } from './frequencies.js';
 
 /** @typedef {import('../encodings/encoding.js').Encoding} Encoding */
-/** @typedef {import('../encodings/encoding.js').Usual} Usual */
 /**
  * An encoding whose texts can be recognised among other bytes: for each byte and each pair of bytes, its score and its kind as a character;
  * whether all characters have two bytes; how many bytes longer characters have, two, or in UTF-8 three; whether it is a game's own table;

@@ -19,7 +19,6 @@ import { fieldsOf } from './sector_fields.js';
 
 /** @typedef {import('../app/state.js').App} App */
 /** @typedef {import('./hex_lines.js').Field} Field */
-/** @typedef {import('./hex_lines.js').Shown} Shown */
 
 export class SectorCard {
     /** @param {App} app */

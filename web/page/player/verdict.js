@@ -13,7 +13,6 @@ import { format, playerTexts as texts } from '../texts/index.js';
 /** @typedef {import('../app/state.js').App} App */
 /** @typedef {import('../../core/disc/disc.js').Disc} Disc */
 /** @typedef {import('../../core/disc/disc.js').DiscImage} DiscImage */
-/** @typedef {import('../../core/bytes.js').Reader} Reader */
 /** @typedef {import('./patcher.js').PatcherData} PatcherData */
 /** @typedef {import('../save/patch_job.js').PatchWork} PatchWork */
 /**

@@ -19,7 +19,6 @@ import { makeUndo } from './undo_file.js';
 
 /** @typedef {import('../app/state.js').App} App */
 /** @typedef {import('./editor.js').LineHelp} LineHelp */
-/** @typedef {import('../ui/fill.js').Child} Child */
 
 /** The panel. */
 export class ScriptPanel {

@@ -10,7 +10,6 @@ import { format, say } from '../texts/index.js';
 import { element, failureNotice, nameOf, notice, showMessageAt } from '../ui/index.js';
 
 /** @typedef {import('../app/state.js').App} App */
-/** @typedef {import('../app/state.js').Image} Image */
 /** @typedef {import('../app/script_lines.js').ScriptLines} ScriptLines */
 /** @typedef {import('../../core/tasks/undo.js').Undo} Undo */
 /** @typedef {import('../../core/tasks/undo.js').NoUndo} NoUndo */

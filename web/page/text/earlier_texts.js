@@ -6,7 +6,6 @@ import { chosenEncoding } from './encodings.js';
 
 /** @typedef {import('../app/state.js').App} App */
 /** @typedef {import('../app/state.js').Image} Image */
-/** @typedef {import('../../core/script/model.js').ScriptLine} ScriptLine */
 /** @typedef {import('../../core/script/model.js').UserRange} UserRange */
 /** @typedef {import('../../core/tasks/list_rows.js').ListRow} ListRow */
 /** @typedef {import('../../core/tasks/pointed_texts.js').PointedTexts} PointedTexts */

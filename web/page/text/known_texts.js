@@ -119,8 +119,8 @@ export class KnownTexts {
     }
 
     /**
-     * Reads the new texts that the script writes. A new text that does not fit or waits is kept, unless the script has a different one now.
-     * So is one that is still being put into the script. Returns the earlier new texts of those that have changed.
+     * Reads the new texts that the script writes. A new text that does not fit or waits is kept, unless the script has a different one now,
+     * and so is one that is still being put into the script. Returns the earlier new texts of those that have changed.
      * @param {import('../../core/tasks/table.js').FreshOf} newTextOf
      * @param {Signal} signal
      * @param {boolean} [areKept] whether it is kept in any case

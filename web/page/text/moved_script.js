@@ -11,7 +11,6 @@ import { rowsMerged } from './merged_rows.js';
 /** @typedef {import('../app/state.js').Image} Image */
 /** @typedef {import('../../core/disc/disc.js').DiscFile} DiscFile */
 /** @typedef {import('../../core/pointers/tsv.js').ListedTable} ListedTable */
-/** @typedef {import('../../core/script/merge_lines.js').Merged} Merged */
 /** @typedef {import('../../core/tasks/engine.js').Watch} Watch */
 /** @typedef {import('../../core/tasks/import_moving.js').MovingImport} MovingImport */
 /** @typedef {import('../../core/tasks/patched_texts.js').EarlierTexts} EarlierTexts */

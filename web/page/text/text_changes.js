@@ -6,7 +6,6 @@ import { sentence } from '../ui/index.js';
 /** @typedef {import('../app/state.js').App} App */
 /** @typedef {import('../../core/tasks/table.js').FreshOf} FreshOf */
 /** @typedef {import('../../core/texts/all_texts.js').ListedText} ListedText */
-/** @typedef {import('./known_texts.js').KnownText} KnownText */
 /** @typedef {import('./texts_card.js').List} List */
 /** @typedef {import('./known_texts.js').Change} Change */
 /**
