@@ -3,15 +3,7 @@
 
 import assert from 'node:assert/strict';
 import { test } from 'node:test';
-import { imageOf, inDirectory, program, run, tool, write } from './common.mjs';
-
-
-/** Writes `image`: blocks 2 to 5 are zeros except for these bytes at these places. */
-function writeImage(room, ...places) {
-    write(room, { plain: imageOf(room, 8), edit: ['cdpatch 1', ...[2, 3, 4, 5].map(block => `fill ${block} 0 2048 00`),
-        ...places.map(([block, offset, bytes]) => `set ${block} ${offset} ${bytes}`), ''].join('\n') });
-    tool(program, ['apply', 'plain', 'edit', 'image'], { cwd: room });
-}
+import { inDirectory, run, write, writeImage } from './common.mjs';
 
 const hex = (text, coding) => Buffer.from(text, coding).toString('hex').toUpperCase();
 

@@ -2,16 +2,9 @@
 
 import assert from 'node:assert/strict';
 import { test } from 'node:test';
-import { ENCODINGS_KNOWN, imageOf, inDirectory, program, run, tool, write } from './common.mjs';
+import { ENCODINGS_KNOWN, imageOf, inDirectory, run, tool, write, writeImage } from './common.mjs';
 
 const INSIDE = 'perhaps in the middle of a character (byte before: 8A)';
-
-/** Writes `image`: blocks 2 to 5 are zeros except for these bytes at these places. */
-function writeImage(room, ...places) {
-    write(room, { plain: imageOf(room, 8), edit: ['cdpatch 1', ...[2, 3, 4, 5].map(block => `fill ${block} 0 2048 00`),
-        ...places.map(([block, offset, bytes]) => `set ${block} ${offset} ${bytes}`), ''].join('\n') });
-    tool(program, ['apply', 'plain', 'edit', 'image'], { cwd: room });
-}
 
 test('a hit in the middle of a character is marked, and replaced only at its place', () => inDirectory(async room => {
     // In CP932 殻 is 8A6B and クk is 834E6B; in EUC-JP 亜亜 is B0A6B0A6, and Π is A6B0.

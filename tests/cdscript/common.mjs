@@ -103,6 +103,13 @@ export function imageOf(directory, count, base = 0) {
     return read(directory, 'made.out');
 }
 
+/** Writes `image`: blocks 2 to 5 are zeros except for these bytes at these places. */
+export function writeImage(room, ...places) {
+    write(room, { plain: imageOf(room, 8), edit: ['cdpatch 1', ...[2, 3, 4, 5].map(block => `fill ${block} 0 2048 00`),
+        ...places.map(([block, offset, bytes]) => `set ${block} ${offset} ${bytes}`), ''].join('\n') });
+    tool(program, ['apply', 'plain', 'edit', 'image'], { cwd: room });
+}
+
 /** A copy of an image with changed bytes: `[block, byte of the sector]`. */
 export function damaged(image, base, ...places) {
     const copy = Buffer.from(image);

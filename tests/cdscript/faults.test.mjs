@@ -133,8 +133,7 @@ test('a full or closed output is a message and status 2', () => inDirectory(room
         assert.equal(existsSync(join(room, 'out')), false);
     }
     const pipe = shell('{ "$COMMAND" rebuilds --base 0 many; echo $? > status; } | head -n 1', room);
-    assert.equal(read(room, 'status').toString(), '2\n');
-    assert.equal(pipe.stderr, '');
+    assert.deepEqual([pipe.stdout, pipe.stderr, read(room, 'status').toString()], ['cdpatch 1\n', '', '2\n']);
     assert.equal(shell('"$COMMAND" check - script <&-', room).stderr, 'cdscript: cannot read -: it is a directory\n');
     assert.equal(shell('"$COMMAND" raw image out 2>&-', room).status, 2);
 }));

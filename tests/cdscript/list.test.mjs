@@ -5,15 +5,7 @@ import { spawn, spawnSync } from 'node:child_process';
 import { readdirSync, truncateSync } from 'node:fs';
 import { join } from 'node:path';
 import { test } from 'node:test';
-import { command, imageOf, inDirectory, program, read, run, tool, write } from './common.mjs';
-
-
-/** Writes `image`: blocks 2 to 5 are zeros except for these bytes at these places. */
-function writeImage(room, ...places) {
-    write(room, { plain: imageOf(room, 8), edit: ['cdpatch 1', ...[2, 3, 4, 5].map(block => `fill ${block} 0 2048 00`),
-        ...places.map(([block, offset, bytes]) => `set ${block} ${offset} ${bytes}`), ''].join('\n') });
-    tool(program, ['apply', 'plain', 'edit', 'image'], { cwd: room });
-}
+import { command, imageOf, inDirectory, program, read, run, tool, write, writeImage } from './common.mjs';
 
 /** Messages without the one about characters that only new texts have. */
 const withoutGlyphs = errors => errors.replace(/^(?:cdscript: )?\d+ characters? \w+ in no old text.*\n/m, '');

@@ -1,7 +1,6 @@
 // The interface of cdscript: suggestions for mistyped words, help, versions, standard output, and progress.
 
 import assert from 'node:assert/strict';
-import { spawnSync } from 'node:child_process';
 import { mkdirSync, readdirSync } from 'node:fs';
 import { join } from 'node:path';
 import { test } from 'node:test';
@@ -87,14 +86,6 @@ test('a dash after -o is standard output', () => inDirectory(async room => {
     const due = await run(['rebuilds', 'image'], { cwd: room });
     const came = await run(['rebuilds', 'image', '-o', '-'], { cwd: room });
     assert.deepEqual([came.status, came.out, read(room, '-')], [due.status, due.out, null]);
-}));
-
-test('nothing is said to a reader that has ended', () => inDirectory(room => {
-    const sector = damaged(imageOf(room, 1), 0, [0, 100]);
-    write(room, { many: Buffer.concat(Array.from({ length: 20000 }, () => sector)) });
-    const { stdout, stderr } = spawnSync('sh', ['-c', `{ "${process.execPath}" "${command}" rebuilds --base 0 many; echo $? > status; } | head -n 1`],
-        { cwd: room, encoding: 'utf8' });
-    assert.deepEqual([stdout, stderr, read(room, 'status').toString()], ['cdpatch 1\n', '', '2\n']);
 }));
 
 /** Every job that reads an image, with its name and that of another file that is read. NEW is the name of a new file. */
