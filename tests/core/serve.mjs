@@ -3,7 +3,7 @@
 import { serve } from '../lib/serve.mjs';
 
 process.env.CORE = process.argv[2];
-const { calls, core, cutBy, encoded, joinedPieces, readerOf, surveyed } = await import('./common.mjs');
+const { calls, core, cutBy, joinedPieces, readerOf, surveyed } = await import('./common.mjs');
 const { Refusal, readScript } = await core('script/script.js');
 const { applyPatches, passPatched } = await core('script/patches.js');
 const { auditText, listText } = await core('sectors/survey.js');

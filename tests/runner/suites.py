@@ -5,10 +5,9 @@ from __future__ import annotations
 import os
 import sys
 from collections.abc import Callable
-from functools import partial
 from pathlib import Path
 
-from suite import MODULE, PYTHON, TESTS, TOP, Suite
+from suite import MODULE, TESTS, TOP, Suite
 
 JUDGE: list[str | Path] = [sys.executable, '-B', TESTS / 'cases/judge.py']
 COMPARE: list[str | Path] = [sys.executable, '-B', TESTS / 'model/compare.py', '--seed', os.environ.get('SEED', '1')]
