@@ -140,6 +140,44 @@ class PageTest(unittest.TestCase):
         self.browser.wait('#disc-line', file.name)
         self.wait_for_hash()
 
+    def open_texts(self, image: bytes) -> Path:
+        """Opens an image as game.bin, and the panel Text."""
+        path = discs.written(game=image)['game']
+        self.open_image(path)
+        self.browser.click('#tab-text')
+        return path
+
+    def show_texts(self) -> None:
+        """Shows all texts in their table."""
+        self.press('Show all texts')
+        self.browser.wait('.all-texts tbody input')
+
+    def open_table(self, image: bytes) -> Path:
+        """Opens an image as game.bin, and the table of its texts."""
+        path = self.open_texts(image)
+        self.show_texts()
+        return path
+
+    def field(self, number: int) -> str:
+        """The field of a row of this table, from 1."""
+        return f'.all-texts tbody tr[aria-rowindex="{number + 1}"] input'
+
+    def type_in_row(self, number: int, text: str) -> None:
+        self.browser.click(self.field(number))
+        self.browser.press(text, Keys.ENTER)
+
+    def save_list(self, label: str) -> None:
+        """Presses this table's button Save, without moving the focus, and chooses a form."""
+        self.browser.run('document.querySelector("[aria-labelledby=all-texts-title] header > .btn:last-child").click()')
+        self.browser.answer(label)
+
+    def saved_list(self, form: str, name: str) -> Path:
+        """Saves this table with the typed texts as a list."""
+        self.save_list(common.text(f'textAs{form.title()}'))
+        path = self.browser.downloaded(f'{name}.{form}')
+        common.waited(path.read_bytes, 'the list is empty')
+        return path.rename(common.folder('list') / f'mine.{form}')
+
     def wait_for_hash(self) -> None:
         """Waits until an image has been read completely. A phone folds its hash."""
         if not self.browser.awaited("document.querySelector('#disc-line .sha1') !== null"):
@@ -161,6 +199,9 @@ class PageTest(unittest.TestCase):
         path = common.folder('patcher') / name
         path.write_bytes(data)
         return path
+
+    def open_patcher(self, data: bytes) -> None:
+        self.browser.open(self.written_page(data))
 
     def go_to(self, block: int) -> None:
         """Opens a sector by the keyboard."""
@@ -270,6 +311,12 @@ def applied(image: Path, script: Path, *options: str) -> tuple[int, str, bytes]:
     out = common.folder('out') / 'out.bin'
     status, text = common.run_program('apply', *options, image, script, out)
     return status, text, out.read_bytes()
+
+
+def result(script: str = '', *options: str) -> bytes:
+    """The game after a script, by default the author's, was applied."""
+    files = discs.written(game=discs.game(), script=script or discs.script())
+    return applied(files['game'], files['script'], *options)[2]
 
 
 def patcher(image: bytes, made: bytes, script: str, **other: Any) -> bytes:

@@ -6,19 +6,13 @@ from pathlib import Path
 
 import common
 import discs
-from pages import NO_PICKER, PageTest, applied, patcher
+from pages import NO_PICKER, PageTest, applied, patcher, result
 
 SENTENCES = ['ゲームをはじめからスタートします。', 'セーブしますか？それともつづけますか？', 'ドアは鍵がかかっている。だれかいるのか？',
              '星空探偵、登場。事件はまだ終わらない。', 'この写真をどこで見つけましたか？']
 
 # Suppresses the browser's picker: the test provides the files.
 NO_CHOICE = f'{NO_PICKER}; HTMLInputElement.prototype.click = function () {{}};'
-
-
-def changed() -> bytes:
-    """The game after somebody has changed it."""
-    files = discs.written(game=discs.game(), english=discs.script())
-    return applied(files['game'], files['english'])[2]
 
 
 class Actions(PageTest):
@@ -64,18 +58,18 @@ class Actions(PageTest):
         self.browser.answer(button)
 
     def written(self) -> dict[str, Path]:
-        files = discs.written(game=discs.game(), scratched=discs.scratched(), changed=changed(), english=discs.script())
+        files = discs.written(game=discs.game(), scratched=discs.scratched(), changed=result(), english=discs.script())
         files['cue'] = files['game'].with_suffix('.cue')
         files['cue'].write_text(discs.sheet_of(game=discs.DATA))
         return files
 
     def test_a_player_takes_three(self) -> None:
         files = self.written()
-        self.browser.open(self.written_page(patcher(discs.game(), changed(), discs.script())))
+        self.open_patcher(patcher(discs.game(), result(), discs.script()))
         self.browser.wait('#player h1')
         self.chooses('Choose the image', files['cue'], files['game'], field='#player-files')
         self.presses('Patch and save')
-        self.assertEqual(self.browser.downloaded('Starlit (English).bin').read_bytes(), changed())
+        self.assertEqual(self.browser.downloaded('Starlit (English).bin').read_bytes(), result())
         self.presses('Save the cue sheet')
         self.browser.downloaded('Starlit (English).cue')
         self.assertEqual(self.actions, 3)
@@ -85,7 +79,7 @@ class Actions(PageTest):
         self.chooses('Apply a patch', files['cue'], files['game'], files['english'])
         self.browser.wait('#panel-script .say.good', 'patches match game.bin')
         self.presses('Apply and save')
-        self.assertEqual(self.browser.downloaded('game (patched).bin').read_bytes(), changed())
+        self.assertEqual(self.browser.downloaded('game (patched).bin').read_bytes(), result())
         self.presses('Save a cue sheet')
         self.browser.downloaded('game (patched).cue')
         self.assertEqual(self.actions, 3)
@@ -120,7 +114,7 @@ class Actions(PageTest):
         self.answers('Compare')
         self.presses('Save the script')
         script = self.browser.downloaded('changed (changes).txt')
-        self.assertEqual(applied(files['game'], script)[2], changed())
+        self.assertEqual(applied(files['game'], script)[2], result())
         self.assertEqual(self.actions, 3)
 
     def test_another_disc_takes_two(self) -> None:

@@ -93,7 +93,7 @@ class Layout(PageTest):
 
     def test_a_patcher_with_long_texts_makes_the_page_no_longer(self) -> None:
         long = {'title': 'The long ' * 20, 'note': 'All menus. ' * 200, 'name': LONG_NAME}
-        self.browser.open(self.written_page(patcher(discs.game(), discs.game(), discs.script(), **long)))
+        self.open_patcher(patcher(discs.game(), discs.game(), discs.script(), **long))
         self.browser.wait('#player h1')
         self.browser.give('#player-files', [discs.written(game=discs.game())['game']])
         self.browser.wait('#verdict')

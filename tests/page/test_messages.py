@@ -222,8 +222,7 @@ class Messages(PageTest):
         self.browser.run('openGate()')
 
     def test_a_job_that_is_asked_for_while_another_one_runs_is_refused_with_words(self) -> None:
-        self.open_image(discs.written(game=discs.game())['game'])
-        self.browser.click('#tab-text')
+        self.open_texts(discs.game())
         self.browser.run(GATE)
         self.browser.run('Worker.prototype.postMessage = () => {}')
         self.press_in('export', 'Export a table')

@@ -8,7 +8,7 @@ import discs
 import pointed
 from keys import Keys
 from pages import PageTest
-from states import SENTENCES, with_new
+from states import SENTENCES
 
 NAMES = ['やくそう', 'どくけしそう', '', 'はがねのつるぎ', 'キメラのつばさ']
 LINES = ['＃はじまりの村', '「ようこそ、旅の方。', 'wait 30', 'ここは小さな村です。」', 'end']
@@ -30,9 +30,7 @@ def disc(table: bytes, **more: bytes) -> bytes:
 
 class NamesTable(PageTest):
     def begin(self, image: bytes) -> Path:
-        path = discs.written(game=image)['game']
-        self.open_image(path)
-        self.browser.click('#tab-text')
+        path = self.open_texts(image)
         self.browser.click('.what-to-list summary')
         return path
 
@@ -63,21 +61,8 @@ class NamesTable(PageTest):
         self.assertEqual(self.saved('Export PO', f'game ({what}).po'), common.cdscript_prints('texts', '--po', *options, image))
         return table
 
-    def type_in_row(self, number: int, text: str) -> None:
-        self.browser.click(f'.all-texts tbody tr[aria-rowindex="{number + 1}"] input')
-        self.browser.press(text, Keys.ENTER)
-
     def old_texts(self) -> list[str]:
         return list(self.browser.run("return Array.from(document.querySelectorAll('.all-texts tbody .old'), it => it.innerText)"))
-
-    def save_list(self, form: str, what: str = 'names') -> Path:
-        """Saves the table with the typed texts as a list."""
-        self.browser.run('document.querySelector("[aria-labelledby=all-texts-title] header > .btn:last-child").click()')
-        self.browser.answer(common.text(f'textAs{form.title()}'))
-        path = self.browser.downloaded(f'game ({what}).{form}')
-        common.waited(path.read_bytes, 'the list is empty')
-        kept = common.folder('list') / f'mine.{form}'
-        return path.rename(kept)
 
     def same_script(self, image: Path, table: Path) -> None:
         """Compares the script of the page with the one that cdscript makes from a list."""
@@ -93,17 +78,16 @@ class NamesTable(PageTest):
             self.browser.wait('.what-to-list summary', 'names in records of 24 bytes, only in /DATA/NAMES.DAT')
             self.same_list(image, *self.options(), what='names')
             self.browser.wait('#panel-text .say.good', 'The names read best in Shift-JIS')
-            self.press('Show all texts')
-            self.browser.wait('.all-texts tbody input')
+            self.show_texts()
             self.assertEqual(self.old_texts(), [name or f'{{{filler.hex().upper()}}}' for name in NAMES])
             for number, name in ((1, 'Medicinal herb 1'), (2, 'Antidote'), (3, 'Empty record'), (5, 'Wing')):
                 self.type_in_row(number, name)
             self.browser.wait('#count-script', '4')
             self.browser.wait('#panel-text .meter', '4 of 5 done')
-            mine = self.save_list('tsv')
+            mine = self.saved_list('tsv', 'game (names)')
             self.assertEqual(mine.read_text(), common.cdscript_prints('texts', *self.options(), '--list', mine, image))
             for form in ('csv', 'po'):
-                self.assertEqual(self.save_list(form).read_bytes().decode(), common.cdscript_prints('texts', f'--{form}', *self.options(), '--list', mine, image))
+                self.assertEqual(self.saved_list(form, 'game (names)').read_bytes().decode(), common.cdscript_prints('texts', f'--{form}', *self.options(), '--list', mine, image))
             self.same_script(image, mine)
             # The script gives the new texts again, to the exported list and to the table.
             self.assertEqual(self.saved('Export a table', 'game (names).csv'), common.cdscript_prints('texts', '--csv', *self.options(), '--list', mine, image))
@@ -139,7 +123,7 @@ class NamesTable(PageTest):
         self.browser.wait('#panel-text .say', 'The names read best in EUC-JP')
         self.type_in_row(1, 'Herb')
         self.browser.wait('#count-script', '1')
-        mine = self.save_list('csv')
+        mine = self.saved_list('csv', 'game (names)')
         self.browser.click('#tab-script')
         written = common.cdscript_prints('replace', image, '--list', mine, '--end', 'FE')
         self.assertEqual(self.script_text(), written)
@@ -175,11 +159,10 @@ class NamesTable(PageTest):
         self.browser.type('#list-file', 'EVENT.TXT')
         table = self.same_list(image, '--lines', '--in', 'EVENT.TXT')
         self.assertEqual([line.split(',')[6] for line in table.splitlines()[1:]], [line for line in LINES if not line.isascii()])
-        self.press('Show all texts')
-        self.browser.wait('.all-texts tbody input')
+        self.show_texts()
         self.type_in_row(2, 'Welcome.')
         self.browser.wait('#count-script', '1')
-        self.same_script(image, self.save_list('csv', 'texts'))
+        self.same_script(image, self.saved_list('csv', 'game (texts)'))
 
     def test_only_the_texts_of_a_file_or_directory_are_listed(self) -> None:
         image = self.begin(disc(records(), **{f'DATA/MANY/F{i:04}.DAT': b'%d' % i for i in range(2000)}))
@@ -218,8 +201,7 @@ class NamesTable(PageTest):
         self.browser.wait('.what-to-list summary', 'names in records of 24 bytes, only in /DATA/NAMES.DAT')
         self.assertEqual(self.browser.run('return document.documentElement.scrollWidth'), 360)
         self.assertEqual(self.saved('Export a table', 'game (names).csv'), common.cdscript_prints('texts', '--csv', *self.options(), image))
-        self.press('Show all texts')
-        self.browser.wait('.all-texts tbody input')
+        self.show_texts()
         self.assertEqual(self.browser.run('return document.documentElement.scrollWidth'), 360)
         self.assertEqual(self.browser.attempts(), [])
 
@@ -248,21 +230,6 @@ class PlainFile(PageTest):
         subprocess.run(words, check=False, stdout=subprocess.DEVNULL, stderr=subprocess.DEVNULL)
         return out.read_bytes()
 
-    def show(self) -> None:
-        self.press('Show all texts')
-        self.browser.wait('.all-texts tbody input')
-
-    def type_in_row(self, number: int, text: str) -> None:
-        self.browser.click(f'.all-texts tbody tr[aria-rowindex="{number + 1}"] input')
-        self.browser.press(text, Keys.ENTER)
-
-    def list_of(self, form: str, what: str = 'texts') -> Path:
-        self.browser.run('document.querySelector("[aria-labelledby=all-texts-title] header > .btn:last-child").click()')
-        self.browser.answer(common.text(f'textAs{form.title()}'))
-        path = self.browser.downloaded(f'items ({what}).{form}')
-        common.waited(path.read_bytes, 'the list is empty')
-        return path.rename(common.folder('list') / f'mine.{form}')
-
     def saved_file(self, name: str = 'items (patched).dat') -> bytes:
         self.press('Save the translated file')
         path = self.browser.downloaded(name)
@@ -274,7 +241,7 @@ class PlainFile(PageTest):
         data = b'\1\2\3' + b'\0'.join(text.encode('cp932') for text in SENTENCES * 3) + b'\0'
         path = self.open_plain(data)
         self.assertNotIn('sector', self.browser.run('return document.body.innerText'))
-        self.show()
+        self.show_texts()
         for number, text in ((1, 'The game starts.'), (2, 'much too long ' * 9), (3, 'Locked.')):
             self.type_in_row(number, text)
         self.browser.wait('#panel-text [aria-pressed]:nth-child(3)', 'Do not fit 1')
@@ -286,11 +253,11 @@ class PlainFile(PageTest):
         self.press('Close')
         self.browser.wait('#sheet', common.text('textTypedNotInFile'))
         self.browser.press(Keys.ESCAPE)
-        mine = self.list_of('tsv')
+        mine = self.saved_list('tsv', 'items (texts)')
         self.assertFalse(self.browser.asks_before_leaving())
         self.assertEqual(mine.read_text(), self.printed(path, '--list', mine))
         for form in ('csv', 'po'):
-            self.assertEqual(self.list_of(form).read_bytes().decode(), self.printed(path, f'--{form}', '--list', mine))
+            self.assertEqual(self.saved_list(form, 'items (texts)').read_bytes().decode(), self.printed(path, f'--{form}', '--list', mine))
         self.assertEqual(made, self.replaced(path, mine))
         self.assertEqual((len(made), made[:3], b'Locked.' in made), (len(data), data[:3], True))
         # The list is imported again, and a text is removed.
@@ -315,10 +282,10 @@ class PlainFile(PageTest):
         for name, number in {'every': EVERY, 'length': LENGTH, 'skip': SKIP}.items():
             self.browser.type(f'#list-{name}', str(number))
             words += [f'--{name}', str(number)]
-        self.show()
+        self.show_texts()
         self.type_in_row(1, 'Herb')
         self.browser.wait('#panel-text .meter', '1 of 5 done')
-        mine = self.list_of('csv', 'names')
+        mine = self.saved_list('csv', 'items (names)')
         self.assertEqual(mine.read_bytes().decode(), self.printed(path, '--csv', *words, '--list', mine))
         self.assertEqual(self.saved_file(), self.replaced(path, mine))
         self.browser.choose('#list-kind', 'lines')
@@ -329,7 +296,7 @@ class PlainFile(PageTest):
 
     def test_new_texts_of_a_file_are_not_lost_when_it_is_closed_or_an_image_is_opened(self) -> None:
         path = self.open_plain(b'\0'.join(text.encode('cp932') for text in SENTENCES * 3) + b'\0')
-        self.show()
+        self.show_texts()
         self.type_in_row(1, 'The game starts.')
         self.browser.wait('#panel-text .meter', '1 of 4 done')
         self.open_files(discs.written(game=discs.game())['game'])

@@ -20,17 +20,9 @@ ROW = '''const { cells } = document.querySelector(`.all-texts tbody tr[aria-rowi
 
 
 class PointersPage(PageTest):
-    def begin(self, image: bytes) -> Path:
-        """Opens an image, and shows its texts."""
-        path = discs.written(game=image)['game']
-        self.open_image(path)
-        self.show()
-        return path
-
     def show(self) -> None:
         self.browser.click('#tab-text')
-        self.press('Show all texts')
-        self.browser.wait('.all-texts tbody input')
+        self.show_texts()
 
     def find_tables(self) -> None:
         self.press('Find pointers')
@@ -44,9 +36,6 @@ class PointersPage(PageTest):
     def make(self, says: str = 'good') -> None:
         self.press('Make the script')
         self.browser.wait(f'{CARD} .say.{says}')
-
-    def field(self, number: int) -> str:
-        return f'.all-texts tbody tr[aria-rowindex="{number + 1}"] input'
 
     def type_text(self, number: int, text: str) -> None:
         self.browser.type(self.field(number), '')
@@ -95,7 +84,7 @@ class PointersPage(PageTest):
 
 class Pointers(PointersPage):
     def test_tables_are_listed_as_cdscript_lists_them_and_saved_and_opened_again(self) -> None:
-        image = self.begin(pointed.game())
+        image = self.open_table(pointed.game())
         self.find_tables()
         form = '16 bits, little-endian, every 2 bytes, from 0x0'
         found = [[True, str(2 + i), f'/EVENT{i}.DAT, 2', '30', '30', form, f'/EVENT{i}.DAT'] for i in range(2)]
@@ -138,7 +127,7 @@ class Pointers(PointersPage):
         self.browser.wait('.pointers tbody td', '29')
 
     def test_longer_texts_move_and_the_script_is_that_of_cdscript(self) -> None:
-        image = self.begin(pointed.game())
+        image = self.open_table(pointed.game())
         self.type_text(1, LONG)
         self.becomes(1, 1, 'too many.')
         self.find_tables()
@@ -171,7 +160,7 @@ class Pointers(PointersPage):
         self.assertEqual(self.script_now(), self.moved_by_cdscript(image, {1: LONG, 5: f'{LONG} twice'}))
 
     def test_with_the_switch_off_again_texts_are_in_place_and_those_that_do_not_fit_are_not_in_the_script(self) -> None:
-        image = self.begin(pointed.game())
+        image = self.open_table(pointed.game())
         self.find_tables()
         self.let_move()
         for number, text in ((1, LONG), (2, 'A villager'), (5, 'The king')):
@@ -188,7 +177,7 @@ class Pointers(PointersPage):
         self.assertTrue(self.browser.run(f'return !document.querySelector("{CARD} .btn.main").checkVisibility()'))
 
     def test_an_imported_list_makes_the_script_of_cdscript_and_names_what_does_not_fit(self) -> None:
-        image = self.begin(pointed.game())
+        image = self.open_table(pointed.game())
         self.find_tables()
         self.let_move()
         fresh = {**{number: f'{LONG} {number}' for number in range(1, 25)}, 31: LONG, 32: 'The king'}
@@ -206,7 +195,7 @@ class Pointers(PointersPage):
         self.browser.wait('#panel-text .say', '25 translations of the table that the list lacks are kept.')
 
     def test_the_table_follows_a_script_that_moves_texts_and_so_does_that_of_another_day(self) -> None:
-        image = self.begin(pointed.game())
+        image = self.open_table(pointed.game())
         self.find_tables()
         self.let_move()
         for number, text in ((1, LONG), (2, 'A villager')):
@@ -245,7 +234,7 @@ class Pointers(PointersPage):
         self.assertEqual(self.script_now(), self.moved_by_cdscript(image, {1: 'Short', 2: 'A villager', 3: 'A wizard'}))
 
     def test_typed_texts_that_wait_for_the_script_are_not_lost_silently(self) -> None:
-        self.begin(pointed.game())
+        self.open_table(pointed.game())
         self.find_tables()
         self.let_move()
         self.type_text(1, LONG)
@@ -281,7 +270,7 @@ class Pointers(PointersPage):
         return ended, longest
 
     def test_cancel_ends_the_search_within_a_tenth_of_a_second(self) -> None:
-        self.begin(pointed.large_game())
+        self.open_table(pointed.large_game())
         found: list[tuple[float, float]] = []
         # A busy machine may let the page wait for longer than that, so an apparent failure is measured again.
         while len(found) < 5 and not any(ended < 100 and longest < 150 for ended, longest in found):
@@ -290,7 +279,7 @@ class Pointers(PointersPage):
         self.assertEqual(self.browser.run(TABLES), [])
 
     def test_the_card_is_used_with_the_keyboard_and_fits_a_phone(self) -> None:
-        self.begin(pointed.game())
+        self.open_table(pointed.game())
         self.find_tables()
         self.browser.run('document.querySelector(".pointers tbody input").focus()')
         self.browser.press(Keys.ARROW_DOWN)

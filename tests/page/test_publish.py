@@ -8,7 +8,7 @@ from typing import Any
 
 import common
 import discs
-from pages import GATE, PICKER, UNSEEN, PageTest, applied, patcher
+from pages import GATE, PICKER, UNSEEN, PageTest, applied, patcher, result
 
 CUE = discs.sheet_of(game=discs.DATA)
 HOSTILE = '<img src=x onerror=alert(1)>'
@@ -17,12 +17,6 @@ HOSTILE = '<img src=x onerror=alert(1)>'
 FOREIGN = '''const it = document.createElement('style');
     it.textContent = 'body { filter: invert(1) }';
     document.head[arguments[0]](it)'''
-
-
-def result() -> bytes:
-    """The game after the author's script was applied."""
-    files = discs.written(game=discs.game(), english=discs.script())
-    return applied(files['game'], files['english'])[2]
 
 
 def data_of(saved: bytes) -> dict[str, Any]:
@@ -227,9 +221,6 @@ class Player(PageTest):
         self.open_patcher(patcher(discs.game(), result(), script or discs.script(), **other))
         self.browser.drop('#player', [discs.written(mine=image)['mine']])
 
-    def open_patcher(self, data: bytes) -> None:
-        self.browser.open(self.written_page(data))
-
     def test_the_right_disc(self) -> None:
         self.play(discs.game())
         self.browser.wait('#verdict', common.text('playerRightDisc'))
@@ -398,16 +389,14 @@ class Player(PageTest):
 
     def test_patched_already_is_known_by_the_hash_too(self) -> None:
         script = f'cdpatch 1\nset {discs.first_block()} 0 5374617274202020\n'
-        files = discs.written(game=discs.game(), script=script)
-        made = applied(files['game'], files['script'])[2]
+        made = result(script)
         self.open_patcher(patcher(discs.game(), made, script))
         self.browser.drop('#player', [discs.written(made=made)['made']])
         self.browser.wait('#verdict', common.text('playerImageIsPatched'))
 
     def test_the_right_disc_is_patched_with_the_base_of_the_author(self) -> None:
         script = f'cdpatch 1\nset {discs.first_block() + 100} 0 41\n'
-        files = discs.written(game=discs.game(), script=script)
-        made = applied(files['game'], files['script'], '--base', '100')[2]
+        made = result(script, '--base', '100')
         self.open_patcher(patcher(discs.game(), made, script, base=100))
         for image, said in ((discs.game(), common.text('playerRightDisc')), (made, common.text('playerImageIsPatched'))):
             self.browser.drop('#player', [discs.written(mine=image)['mine']])
@@ -519,8 +508,7 @@ class Player(PageTest):
 
     def test_a_patcher_with_a_base_of_its_own_is_published_again(self) -> None:
         script = f'cdpatch 1\nset {discs.first_block() + 100} 0 41\n'
-        files = discs.written(game=discs.game(), script=script)
-        made = applied(files['game'], files['script'], '--base', '100')[2]
+        made = result(script, '--base', '100')
         self.open_patcher(patcher(discs.game(), made, script, base=100))
         self.browser.drop('#player', [discs.written(mine=discs.game())['mine']])
         self.browser.wait('#verdict', common.text('playerRightDisc'))
@@ -541,7 +529,7 @@ class Streamed(PageTest):
     stub = PICKER
 
     def test_what_is_dropped_while_an_image_is_saved_is_refused_by_name(self) -> None:
-        self.browser.open(self.written_page(patcher(discs.game(), result(), discs.script())))
+        self.open_patcher(patcher(discs.game(), result(), discs.script()))
         self.browser.give('#player-files', [discs.written(mine=discs.game())['mine']])
         self.browser.wait('#verdict', common.text('playerRightDisc'))
         self.begins('Patch and save')
@@ -555,7 +543,7 @@ class Streamed(PageTest):
 
     def test_a_player_streams_what_the_author_made_and_nothing_else(self) -> None:
         for wanted, state in ((common.sha1(result()), 'closed'), ('0' * 40, 'aborted')):
-            self.browser.open(self.written_page(patcher(discs.game(), result(), discs.script(), result=wanted)))
+            self.open_patcher(patcher(discs.game(), result(), discs.script(), result=wanted))
             self.browser.give('#player-files', [discs.written(mine=discs.game())['mine']])
             self.browser.wait('#verdict', common.text('playerRightDisc'))
             self.press('Patch and save')

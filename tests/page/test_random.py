@@ -267,8 +267,7 @@ class Random(PageTest):
     # ---- the table of texts
 
     def show_texts(self) -> None:
-        self.press('Show all texts')
-        self.browser.wait('.all-texts tbody input')
+        super().show_texts()
         self.model.typed_texts, self.model.undone_texts, self.model.news = [], [], self.news(self.model.text())
 
     def patched(self, text: str) -> bytes:

@@ -202,6 +202,6 @@ class SecondChoice(PageTest):
         self.begins()
         self.says('An image is being saved. Nothing else can be opened until that is done.', files['other'])
         self.browser.run('chosen.release()')
-        self.browser.open(self.written_page(patcher(discs.game(), discs.game(), discs.script())))
+        self.open_patcher(patcher(discs.game(), discs.game(), discs.script()))
         self.browser.wait('#player h1')
         self.says('Drop your disc image: it is checked, and not changed.', files['game'])

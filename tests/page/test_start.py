@@ -1,7 +1,5 @@
 """The first screen: it is completely visible, says nothing twice, and its three jobs lead to their panels."""
 
-from pathlib import Path
-
 import common
 import discs
 from chromium import WIDTHS

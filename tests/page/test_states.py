@@ -8,7 +8,6 @@ If PICTURES is set to a directory, each state is drawn there at three widths in 
 
 import os
 from pathlib import Path
-from typing import Any
 
 from chromium import WIDTHS
 from keys import Keys

@@ -7,20 +7,14 @@ import random
 import threading
 import time
 import zlib
-from pathlib import Path
 
 import common
 import discs
-from pages import PICKER, PageTest, applied, patcher
+from pages import PICKER, PageTest, applied, patcher, result
 
 FORBIDDEN = r'/[\p{Cc}\p{Cf}\p{Zl}\p{Zp}]/u'
 # The number of control and direction characters on the page, other than ends of lines and tabs: no foreign text may add any.
 UNSEEN = f'return [...document.body.innerText].filter(it => it !== "\\n" && it !== "\\t" && {FORBIDDEN}.test(it)).length'
-
-
-def result(script: str) -> bytes:
-    files = discs.written(game=discs.game(), script=script)
-    return applied(files['game'], files['script'])[2]
 
 
 def bomb(size: int) -> bytes:
@@ -63,7 +57,7 @@ class SlowServer:
 class Stranger(PageTest):
     def play(self, image: bytes, script: str, **other: object) -> None:
         """Opens a patcher for the game, and gives it an image."""
-        self.browser.open(self.written_page(patcher(discs.game(), result(script), script, **other)))
+        self.open_patcher(patcher(discs.game(), result(script), script, **other))
         self.browser.wait('#player h1')
         self.browser.drop('#player', [discs.written(mine=image)['mine']])
 
@@ -117,7 +111,7 @@ class Fitting(Stranger):
 class Names(Stranger):
     def test_an_image_is_saved_under_an_images_name(self) -> None:
         for name in ('Play the game.html', 'Game\u202enib.exe', 'CON.bin', 'game'):
-            self.browser.open(self.written_page(patcher(discs.game(), result(discs.named()), discs.named(), name=name)))
+            self.open_patcher(patcher(discs.game(), result(discs.named()), discs.named(), name=name))
             self.browser.give('#player-files', [discs.written(mine=discs.game())['mine']])
             self.browser.wait('#verdict', common.text('playerRightDisc'))
             self.press('Patch and save')
@@ -210,7 +204,7 @@ class Chosen(Stranger):
 
     def test_a_file_with_the_name_of_another_open_one_is_not_written(self) -> None:
         script = discs.named()
-        self.browser.open(self.written_page(patcher(discs.game(), result(script), script, name='Game (Track 02).bin')))
+        self.open_patcher(patcher(discs.game(), result(script), script, name='Game (Track 02).bin'))
         place = common.folder('tracks')
         (place / 'game.bin').write_bytes(discs.game())
         (place / 'Game (Track 02).bin').write_bytes(bytes(2352 * 4))
@@ -238,7 +232,7 @@ class Coming(Stranger):
     def test_a_long_patcher_opens_from_a_disk(self) -> None:
         noise = random.Random(1)
         lines = ''.join(f'# {noise.randbytes(3000).hex()}\n' for _ in range(3000))
-        self.browser.open(self.written_page(b''.join(self.whole(f'{discs.named()}{lines}'))))
+        self.open_patcher(b''.join(self.whole(f'{discs.named()}{lines}')))
         self.browser.wait('#player h1', 'Starlit Detective in English')
         self.browser.drop('#player', [discs.written(mine=discs.game())['mine']])
         self.browser.wait('#verdict', common.text('playerRightDisc'))
@@ -295,7 +289,7 @@ class Pages(Stranger):
         wanted = hashlib.sha256(common.PAGE.read_bytes()).hexdigest()
         self.press('About')
         self.browser.wait('#page-sha256', wanted)
-        self.browser.open(self.written_page(patcher(discs.game(), discs.game(), discs.named())))
+        self.open_patcher(patcher(discs.game(), discs.game(), discs.named()))
         self.browser.wait('#player h1')
         self.browser.run('document.querySelector("#about").showPopover()')
         self.browser.wait('#page-sha256', wanted)

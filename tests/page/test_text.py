@@ -61,8 +61,7 @@ class Text(PageTest):
         self.assertFalse(self.browser.run('return kept'))
 
     def test_the_field_has_an_example_and_the_last_searches(self) -> None:
-        self.open_image(discs.written(game=discs.game())['game'])
-        self.browser.click('#tab-text')
+        self.open_texts(discs.game())
         boxes = """return [...document.querySelectorAll('.ask :is(input, select, .btn)')].filter(it => it.checkVisibility()).map(it => {
             const { top, height } = it.getBoundingClientRect();
             return [Math.round(top), Math.round(height)] })"""
@@ -135,17 +134,6 @@ class Text(PageTest):
         self.assertFalse(self.shown('.hits'))
         self.browser.press('ト')
         self.assertTrue(self.shown('.hits'))
-
-    def test_what_was_not_searched_is_not_called_searched(self) -> None:
-        self.open_image(discs.written(game=discs.game())['game'])
-        self.browser.click('#tab-text')
-        self.browser.click('#find-text')
-        self.browser.press('存在しない', Keys.ENTER)
-        self.browser.wait('#panel-text .say', 'No hit in Shift-JIS (CP932).')
-        self.browser.type('#find-text', 'Café')
-        self.browser.press(Keys.ENTER)
-        self.browser.wait('.hint', "CP932 cannot encode 'é'")
-        self.assertNotIn('were searched', self.browser.text('#panel-text'))
 
     def test_hits_are_counted_anew_after_the_script_has_changed(self) -> None:
         self.find_in_game()
@@ -328,8 +316,7 @@ class Text(PageTest):
         self.browser.wait('#panel-text .say.bad', 'line 2 of the table is not HEX=TEXT')
 
     def test_a_damaged_sector_is_not_replaced(self) -> None:
-        self.open_image(discs.written(game=discs.scratched())['game'])
-        self.browser.click('#tab-text')
+        self.open_texts(discs.scratched())
         self.browser.click('#find-text')
         self.search('スタート')
         self.browser.press('Start')
@@ -353,12 +340,15 @@ class Text(PageTest):
         self.wait_for_focus('.hits tbody tr:nth-child(1) button')
         self.browser.wait('#panel-text [aria-label=Replace] .btn.main', 'Replace')
 
-    def test_no_hit_says_what_was_searched(self) -> None:
-        self.open_image(discs.written(game=discs.game())['game'])
-        self.browser.click('#tab-text')
+    def test_no_hit_says_what_was_searched_and_nothing_else_does(self) -> None:
+        self.open_texts(discs.game())
         self.browser.click('#find-text')
         self.browser.press('存在しない', Keys.ENTER)
         self.browser.wait('#panel-text .say', 'No hit in Shift-JIS (CP932).')
         self.browser.wait('#panel-text .say', f'All user data ({len(discs.game()) // 2352} sectors) were searched.')
+        self.browser.type('#find-text', 'Café')
+        self.browser.press(Keys.ENTER)
+        self.browser.wait('.hint', "CP932 cannot encode 'é'")
+        self.assertNotIn('were searched', self.browser.text('#panel-text'))
         self.browser.type('#find-text', '한')
         self.browser.wait('.hint', "CP932 cannot encode '한' (U+D55C), character 1 of the text")

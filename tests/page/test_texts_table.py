@@ -12,12 +12,6 @@ from states import SENTENCES, dat_of, spoken_texts, with_new
 
 
 class TextsTable(PageTest):
-    def begin(self, image: bytes) -> Path:
-        path = discs.written(game=image)['game']
-        self.open_image(path)
-        self.browser.click('#tab-text')
-        return path
-
     def printed(self, image: Path) -> str:
         """The table that cdscript prints."""
         return common.cdscript_prints('texts', image)
@@ -32,7 +26,7 @@ class TextsTable(PageTest):
         self.browser.give('#panel-text input[accept^=".tsv"]', [table])
 
     def test_the_table_is_what_cdscript_prints(self) -> None:
-        image = self.begin(spoken_texts())
+        image = self.open_texts(spoken_texts())
         self.press_in('export', 'Export a table')
         self.browser.wait('#panel-text .say.good', 'Saved: game (texts).csv')
         saved = common.waited(self.browser.downloaded('game (texts).csv').read_bytes, 'the table is empty').decode()
@@ -43,7 +37,7 @@ class TextsTable(PageTest):
 
     def test_english_is_listed_only_with_its_encoding_or_table_as_is_said_beside_the_buttons(self) -> None:
         ascii_text = b'Start of the game'
-        image = self.begin(spoken_texts())
+        image = self.open_texts(spoken_texts())
         self.assertIn(ascii_text, image.read_bytes())
         self.browser.wait('#panel-text .texts-table + p', 'For English and other European languages choose Windows-1252')
         self.press_in('export', 'Export a table')
@@ -62,7 +56,7 @@ class TextsTable(PageTest):
         self.assertIn(ascii_text, common.waited(self.browser.downloaded('game (texts).csv').read_bytes, 'the table is empty'))
 
     def test_the_byte_that_ends_texts_is_that_of_the_field(self) -> None:
-        image = self.begin(spoken_texts())
+        image = self.open_texts(spoken_texts())
         self.browser.type('#texts-end', '0A')
         self.press_in('export', 'Export a table')
         self.browser.wait('#panel-text .say.good', 'Saved: game (texts).csv')
@@ -70,7 +64,7 @@ class TextsTable(PageTest):
         self.assertEqual(saved, common.cdscript_prints('texts', '--csv', '--end', '0A', image))
 
     def test_new_texts_become_the_lines_that_cdscript_writes(self) -> None:
-        image = self.begin(spoken_texts())
+        image = self.open_texts(spoken_texts())
         table = self.table(image, {2: 'The game starts.', 3: 'Save?', 5: 'The end.'})
         self.give(table)
         self.browser.wait('#panel-text .say.good', '3 lines added to the script.')
@@ -84,7 +78,7 @@ class TextsTable(PageTest):
         self.assertEqual(self.browser.downloaded('game (patched).bin').read_bytes(), applied(image, discs.written(script=written)['script'])[2])
 
     def test_a_po_file_has_the_new_texts_of_the_script_and_gives_them_again(self) -> None:
-        image = self.begin(spoken_texts(1))
+        image = self.open_texts(spoken_texts(1))
         table = self.table(image, {2: 'The game starts.', 3: 'Save?'})
         self.give(table)
         self.browser.wait('#panel-text .say.good', '2 lines added to the script.')
@@ -97,7 +91,7 @@ class TextsTable(PageTest):
         saved = common.waited(self.browser.downloaded('game (texts).po').read_bytes, 'the PO file is empty').decode()
         self.assertEqual(saved, common.cdscript_prints('texts', '--po', '--list', table, image))
         self.setUp()
-        self.begin(spoken_texts(1))
+        self.open_texts(spoken_texts(1))
         mine = common.folder('po') / 'mine.po'
         mine.write_text(saved)
         self.give(mine)
@@ -130,7 +124,7 @@ class TextsTable(PageTest):
     def test_codes_that_new_texts_leave_out_are_counted(self) -> None:
         text = '勇者は{0D}{0A}村人と{0D}{0A}話した。長い旅がはじまる。{0A}次の朝'
         data = b'\0'.join(text.replace('{0D}', '\r').replace('{0A}', '\n').encode('cp932') for _ in range(3)) + b'\0'
-        image = self.begin(common.image_of([b'', data]))
+        image = self.open_texts(common.image_of([b'', data]))
         rows = [f'1\t{number * (len(data) // 3)}\t{text}\tHero{{0D0A}}talked {number}' for number in range(3)]
         table = image.with_name('mine.tsv')
         table.write_text('\n'.join(['block\toffset\ttext\tnew', *rows, '']))
@@ -147,7 +141,7 @@ class TextsTable(PageTest):
             rows.append(f'{number // 64}\t{number % 64 * 32}\t31\tCP932\tゲームを始める{number:05}\tStart {number}')
             texts.append(f'ゲームを始める{number:05}'.encode('cp932').ljust(32, b'\0'))
         blocks = [b''.join(texts[at:at + 64]) for at in range(0, len(texts), 64)]
-        image = self.begin(common.image_of(blocks))
+        image = self.open_texts(common.image_of(blocks))
         table = image.with_name('mine.tsv')
         table.write_text('\n'.join([*rows, '']))
         self.browser.run("""Object.assign(globalThis, { begun: performance.now(), last: performance.now(), longest: 0 });
@@ -159,7 +153,7 @@ class TextsTable(PageTest):
         self.assertLess(self.browser.run('return longest / (performance.now() - begun)'), 0.4)
 
     def test_a_corrected_table_takes_the_place_of_the_first_one(self) -> None:
-        image = self.begin(spoken_texts())
+        image = self.open_texts(spoken_texts())
         self.give(self.table(image, {2: 'The game starts.', 3: 'Save?'}))
         self.browser.wait('#panel-text .say.good', '2 lines added to the script.')
         self.press('Open Script')
@@ -177,7 +171,7 @@ class TextsTable(PageTest):
         self.browser.wait('#panel-script .say.good', '3 patches, which all match')
 
     def test_lines_whose_new_texts_are_gone_are_named_and_removed(self) -> None:
-        image = self.begin(spoken_texts())
+        image = self.open_texts(spoken_texts())
         self.give(self.table(image, {2: 'The game starts.', 3: 'Save?', 5: 'The end.', 6: 'Start!'}))
         self.browser.wait('#panel-text .say.good', '4 lines added to the script.')
         corrected = self.table(image, {2: 'The game begins.', 5: 'The end.'})
@@ -202,7 +196,7 @@ class TextsTable(PageTest):
         self.browser.wait('#panel-text .say.warn', 'The list has no new text for the lines 4, 5 of the script.')
 
     def test_rows_that_do_not_fit_are_a_list_to_walk(self) -> None:
-        image = self.begin(spoken_texts())
+        image = self.open_texts(spoken_texts())
         rows = self.printed(image).splitlines()
         self.give(self.table(image, {2: 'The game starts.', 3: 'much too long ' * 9, 4: 'also too long ' * 9}))
         self.browser.wait('#panel-text .say.warn', '1 line added to the script.')
@@ -224,7 +218,7 @@ class TextsTable(PageTest):
         self.browser.wait('#panel-text h2', 'Correct row 3')
 
     def test_a_row_that_does_not_fit_is_corrected_where_it_is_listed(self) -> None:
-        image = self.begin(spoken_texts())
+        image = self.open_texts(spoken_texts())
         self.give(self.table(image, {2: 'The game starts.', 3: 'much too long ' * 9, 4: 'with a sign: é', 5: 'much too long ' * 9}))
         self.browser.wait('#panel-text .say.warn', '1 translation fits. 3 translations do not fit: 2 too long, 1 with a character that the encoding lacks.')
         self.browser.wait('#row-length', 'too many: there is room for')
@@ -251,7 +245,7 @@ class TextsTable(PageTest):
         self.assertEqual(sorted(self.script_text().splitlines()), sorted(common.cdscript_prints('replace', image, '--list', corrected).splitlines()))
 
     def test_rows_that_do_not_fit_are_in_the_table_that_is_shown_after_the_import(self) -> None:
-        image = self.begin(spoken_texts())
+        image = self.open_texts(spoken_texts())
         self.give(self.table(image, {2: 'The game starts.', 3: 'much too long ' * 9}))
         self.browser.wait('#panel-text h2', '1 row does not fit')
         self.press('Show all texts')
@@ -267,7 +261,7 @@ class TextsTable(PageTest):
 
     def test_equal_rows_are_corrected_together(self) -> None:
         places = [20 * i for i in range(5)]
-        image = self.begin(common.image_of([b'', b''.join((discs.START if at else b'another').ljust(20, b'\0') for at in places)]))
+        image = self.open_texts(common.image_of([b'', b''.join((discs.START if at else b'another').ljust(20, b'\0') for at in places)]))
         table = image.with_name('mine.tsv')
         rows = [f'1\t{at}\tスタート\tmuch too long for it\n' for at in places]
         table.write_text('block\toffset\ttext\tnew\n' + ''.join(rows) + '1\t100\tはじめ\tmuch too long for it\n')
@@ -292,7 +286,7 @@ class TextsTable(PageTest):
         self.assertEqual(sorted(self.script_text().splitlines()), sorted(['cdpatch 1', *lines]))
 
     def test_a_corrected_row_never_writes_over_the_text_of_another_row(self) -> None:
-        image = self.begin(common.image_of([b'', 'はじめからスタート'.encode('cp932') + b'\0' * 20]))
+        image = self.open_texts(common.image_of([b'', 'はじめからスタート'.encode('cp932') + b'\0' * 20]))
         table = image.with_name('mine.tsv')
         table.write_text('block\toffset\ttext\tnew\n1\t0\tはじめからスタート\tmuch too long for it\n1\t10\tスタート\tStart\n')
         self.give(table)
@@ -305,7 +299,7 @@ class TextsTable(PageTest):
         self.assertEqual(self.script_text().splitlines(), ['cdpatch 1', f"set 1 10 {b'Start   '.hex().upper()} was {discs.START.hex().upper()}"])
 
     def test_the_rows_that_do_not_fit_are_saved_as_a_table_that_can_be_imported(self) -> None:
-        image = self.begin(spoken_texts())
+        image = self.open_texts(spoken_texts())
         self.give(self.table(image, {2: 'The game starts.', 3: 'much too "long", ' * 9, 5: 'also too long ' * 9}))
         self.browser.wait('#panel-text h2', '2 rows do not fit')
         self.press('Save…')
@@ -330,7 +324,7 @@ class TextsTable(PageTest):
         self.assertEqual(self.script_text(), common.cdscript_prints('replace', image, '--list', corrected))
 
     def test_a_table_that_is_none_adds_nothing(self) -> None:
-        image = self.begin(spoken_texts())
+        image = self.open_texts(spoken_texts())
         wrong = common.folder('wrong') / 'mine.csv'
         for text, why in (('a,b\n1,2\n', 'lacks the columns block, offset, text, new'), (self.printed(image).replace('\t', ','), 'o row of the list has a translation')):
             wrong.write_text(text)
@@ -340,7 +334,7 @@ class TextsTable(PageTest):
         self.assertTrue(self.browser.run('return document.querySelector("#count-script").hidden'))
 
     def test_cancel_ends_the_making_of_lines(self) -> None:
-        image = self.begin(spoken_texts())
+        image = self.open_texts(spoken_texts())
         table = self.table(image, {2: 'The game starts.'})
         self.browser.run(GATE)
         self.give(table)
@@ -351,7 +345,7 @@ class TextsTable(PageTest):
         self.assertTrue(self.browser.run('return document.querySelector("#count-script").hidden'))
 
     def test_cancel_ends_the_looking_for_texts(self) -> None:
-        self.begin(spoken_texts())
+        self.open_texts(spoken_texts())
         self.browser.run('Worker.prototype.postMessage = () => {}')
         self.press_in('export', 'Export a table')
         self.browser.wait('#panel-text .progress')

@@ -10,7 +10,7 @@ from pathlib import Path
 import common
 import discs
 from chromium import WIDTHS
-from pages import PICKER, PageTest, applied, patcher
+from pages import PICKER, PageTest, patcher, result
 from states import States, all_states
 
 # Each language by its own name.
@@ -71,10 +71,8 @@ class Choice(PageTest):
 
     def opened(self, prefers: str, **other: object) -> str:
         """Opens a patcher in a browser that prefers these languages, and returns the language of its page."""
-        files = discs.written(game=discs.game(), english=discs.script())
-        made = applied(files['game'], files['english'])[2]
         self.browser.before_pages(PREFERS.format(prefers.split()) + PICKER)
-        self.browser.open(self.written_page(patcher(discs.game(), made, discs.script(), **other)))
+        self.open_patcher(patcher(discs.game(), result(), discs.script(), **other))
         self.browser.wait('#player h1')
         return self.shown()
 
@@ -104,9 +102,8 @@ class Choice(PageTest):
         self.assertEqual(self.opened('fr es', language='en'), 'en')
 
     def test_a_patcher_in_no_known_language_is_refused_in_that_of_the_browser(self) -> None:
-        files = discs.written(game=discs.game(), english=discs.script())
         self.browser.before_pages(PREFERS.format(['it']))
-        self.browser.open(self.written_page(patcher(discs.game(), applied(files['game'], files['english'])[2], discs.script(), language='xx')))
+        self.open_patcher(patcher(discs.game(), result(), discs.script(), language='xx'))
         self.browser.wait('.say.bad', common.text('playerPatcherUnusable', 'it'))
         self.assertIn(common.text('playerHeadWithWrongMember', 'it').split('{')[0][1:] + 'language', self.browser.text('.say.bad'))
 

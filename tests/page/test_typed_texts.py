@@ -3,7 +3,6 @@
 from pathlib import Path
 
 import common
-import discs
 from keys import Keys
 from pages import PageTest
 from states import SENTENCES, spoken_texts, with_new
@@ -14,26 +13,11 @@ ROWS = '''return [...document.querySelectorAll('.all-texts tbody tr:not(.gap)')]
 
 
 class TypedTexts(PageTest):
-    def begin(self, image: bytes) -> Path:
-        """Opens an image, and shows its texts."""
-        path = discs.written(game=image)['game']
-        self.open_image(path)
-        self.browser.click('#tab-text')
-        self.show()
-        return path
-
-    def show(self) -> None:
-        self.press('Show all texts')
-        self.browser.wait('.all-texts tbody input')
-
     def cells(self) -> list[list[str]]:
         return list(self.browser.run(ROWS))
 
     def row(self, number: int) -> list[str]:
         return self.cells()[number - 1]
-
-    def field(self, number: int) -> str:
-        return f'.all-texts tbody tr[aria-rowindex="{number + 1}"] input'
 
     def becomes(self, number: int, column: int, text: str) -> None:
         """Waits until a cell contains a text."""
@@ -52,7 +36,7 @@ class TypedTexts(PageTest):
         self.assertEqual(sorted(self.script_text().splitlines()), sorted(script.splitlines()))
 
     def test_each_text_is_listed_once_and_a_typed_one_is_in_the_script_at_all_its_places(self) -> None:
-        image = self.begin(spoken_texts())
+        image = self.open_table(spoken_texts())
         self.assertEqual([(file, old, room) for file, old, _, _, room in self.cells()],
                          [('MSG00.DAT 6 times', text, f'0 of {len(text.encode("cp932"))}') for text in SENTENCES])
         self.browser.click(self.field(1))
@@ -67,7 +51,7 @@ class TypedTexts(PageTest):
         self.same_lines(self.written(image, {SENTENCES[0]: 'The game starts.', SENTENCES[1]: 'Save?'}))
 
     def test_a_text_that_does_not_fit_is_counted_kept_and_lost_only_if_the_user_wants_it(self) -> None:
-        self.begin(spoken_texts())
+        self.open_table(spoken_texts())
         self.browser.click(self.field(2))
         self.browser.press('Save?', Keys.ENTER)
         self.becomes(2, 4, '5 of 38')
@@ -91,7 +75,7 @@ class TypedTexts(PageTest):
         self.assertNotIn(common.text('textTypedAreLost'), self.browser.text('#sheet'))
 
     def test_tab_goes_on_from_a_typed_text_and_the_keys_of_undo_take_it_back(self) -> None:
-        self.begin(spoken_texts())
+        self.open_table(spoken_texts())
         self.browser.click(self.field(2))
         self.browser.press('Save?', Keys.TAB)
         self.browser.wait('#count-script', '6')
@@ -107,7 +91,7 @@ class TypedTexts(PageTest):
         self.browser.wait('#panel-text .meter', '1 of 4 done')
 
     def test_the_field_with_the_focus_is_in_the_window_with_its_remark(self) -> None:
-        self.begin(spoken_texts())
+        self.open_table(spoken_texts())
         self.browser.size(1280, 620)
         self.browser.click(self.field(1))
         for _ in range(3):
@@ -116,7 +100,7 @@ class TypedTexts(PageTest):
             self.assertTrue(0 <= place[0] and place[1] < place[2] + 1, place)
 
     def test_a_text_that_is_typed_while_the_script_is_read_again_stays(self) -> None:
-        self.begin(spoken_texts())
+        self.open_table(spoken_texts())
         self.browser.click('#tab-script')
         self.browser.click('.editor textarea')
         self.browser.press(Keys.END, Keys.ENTER)
@@ -130,7 +114,7 @@ class TypedTexts(PageTest):
         self.browser.wait('#panel-text .meter', '1 of 4 done')
 
     def test_undo_takes_an_import_back(self) -> None:
-        image = self.begin(spoken_texts())
+        image = self.open_table(spoken_texts())
         self.browser.click(self.field(1))
         self.browser.press('Go.', Keys.ENTER)
         self.becomes(1, 4, '3 of ')
@@ -149,7 +133,7 @@ class TypedTexts(PageTest):
         self.browser.wait('#panel-text .meter', '0 of 4 done')
 
     def test_a_text_that_does_not_fit_is_in_each_list_and_publish_says_so(self) -> None:
-        self.begin(spoken_texts())
+        self.open_table(spoken_texts())
         self.browser.click(self.field(1))
         self.browser.press('much too long ' * 4, Keys.ENTER)
         self.becomes(1, 3, 'too many.')
@@ -162,7 +146,7 @@ class TypedTexts(PageTest):
 
     def test_typed_texts_that_do_not_fit_stay_if_the_texts_are_listed_again_and_are_not_lost_without_a_question(self) -> None:
         text = b'\0'.join(it.encode('cp932') for it in SENTENCES) + b'\0'
-        self.begin(common.image_of(common.iso_of({'A.DAT': text, 'B.DAT': text.replace(SENTENCES[1].encode('cp932'), SENTENCES[3].encode('cp932'))})))
+        self.open_table(common.image_of(common.iso_of({'A.DAT': text, 'B.DAT': text.replace(SENTENCES[1].encode('cp932'), SENTENCES[3].encode('cp932'))})))
         long = 'much too long ' * 4
         self.browser.click(self.field(2))
         self.browser.press(long, Keys.ENTER)
@@ -188,7 +172,7 @@ class TypedTexts(PageTest):
         self.assertFalse(self.browser.asks_before_leaving())
 
     def test_a_removed_text_is_removed_from_the_script(self) -> None:
-        image = self.begin(spoken_texts())
+        image = self.open_table(spoken_texts())
         for number, text in ((1, 'Start'), (2, 'Save?')):
             self.browser.click(self.field(number))
             self.browser.press(text, Keys.ENTER)
@@ -200,7 +184,7 @@ class TypedTexts(PageTest):
         self.same_lines(self.written(image, {SENTENCES[1]: 'Save?'}))
 
     def test_the_table_follows_the_script_and_a_saved_list_gives_its_texts_again(self) -> None:
-        image = self.begin(spoken_texts())
+        image = self.open_table(spoken_texts())
         self.browser.click(self.field(1))
         self.browser.press('The game starts.', Keys.ENTER)
         self.browser.press('much too long ' * 4, Keys.ENTER)
@@ -230,13 +214,8 @@ class TypedTexts(PageTest):
         self.browser.click('#tab-text')
         self.becomes(1, 2, 'The game starts.')
 
-    def save_list(self, label: str) -> None:
-        """Presses the table's button Save, without moving the focus, and chooses a form."""
-        self.browser.run('document.querySelector("[aria-labelledby=all-texts-title] header > .btn:last-child").click()')
-        self.browser.answer(label)
-
     def test_a_text_in_a_field_is_not_lost_and_a_saved_list_has_it(self) -> None:
-        image = self.begin(spoken_texts())
+        image = self.open_table(spoken_texts())
         self.browser.click(self.field(1))
         self.browser.press('The game starts.')
         self.assertTrue(self.browser.asks_before_leaving())
@@ -253,7 +232,7 @@ class TypedTexts(PageTest):
         self.assertFalse(self.browser.asks_before_leaving())
 
     def test_a_list_that_was_not_saved_does_not_count_as_saved(self) -> None:
-        self.begin(spoken_texts())
+        self.open_table(spoken_texts())
         self.browser.click(self.field(1))
         self.browser.press('much too long ' * 4, Keys.ENTER)
         self.browser.wait('#panel-text [aria-pressed]:nth-child(3)', 'Do not fit 1')
@@ -272,7 +251,7 @@ class TypedTexts(PageTest):
         self.assertFalse(self.browser.asks_before_leaving())
 
     def test_words_are_found_and_replaced_in_the_new_texts_that_are_shown(self) -> None:
-        image = self.begin(spoken_texts())
+        image = self.open_table(spoken_texts())
         for number, text in ((1, 'The Hero starts.'), (2, 'Hero, save?'), (3, 'A door.')):
             self.browser.click(self.field(number))
             self.browser.press(text, Keys.ENTER)
@@ -296,7 +275,7 @@ class TypedTexts(PageTest):
     def test_only_the_rows_on_the_screen_are_drawn_and_the_row_that_is_typed_in_stays(self) -> None:
         count = 3000
         texts = [f'ゲームを始める場面{number:06}'.encode('cp932').ljust(32, b'\0') for number in range(count)]
-        self.begin(common.image_of([b''.join(texts[at:at + 64]) for at in range(0, count, 64)]))
+        self.open_table(common.image_of([b''.join(texts[at:at + 64]) for at in range(0, count, 64)]))
         drawn = 'return document.querySelectorAll(".all-texts tbody input").length'
         self.assertLess(self.browser.run(drawn), 40)
         self.browser.click(self.field(3))
@@ -319,7 +298,7 @@ class TypedTexts(PageTest):
 
     def test_codes_have_a_different_colour(self) -> None:
         text = '勇者は村人と\n話した。長い旅がはじまる。'
-        self.begin(common.image_of([b'', b'\0'.join(it.encode('cp932') for it in (text, SENTENCES[0], text, SENTENCES[0])) + b'\0']))
+        self.open_table(common.image_of([b'', b'\0'.join(it.encode('cp932') for it in (text, SENTENCES[0], text, SENTENCES[0])) + b'\0']))
         colours = '''return [...document.querySelectorAll('.all-texts tbody .old')].map(it =>
             [it.innerText, ...Array.from(it.querySelectorAll('.code'), code => [code.innerText, getComputedStyle(code).color === getComputedStyle(it).color])])'''
         self.assertEqual(self.browser.run(colours), [[text.replace('\n', '{0A}'), ['{0A}', False]], [SENTENCES[0]]])
