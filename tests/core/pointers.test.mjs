@@ -299,6 +299,18 @@ test('a script that is not as it was planned is refused before it is written', a
     for (const [name, plan] of Object.entries(wrong)) await assert.rejects(check(plan), { code: 'pointers/unproved' }, name);
 });
 
+test('each copy of a file has its own pointers, in itself or in the file beside it', async () => {
+    const copied = async (name, ...files) => {
+        const { files: { 'TEXT.BIN': texts, 'TEXT.TBL': table } } = gameNamed(name);
+        const { opened } = await discOf(Object.fromEntries(files.map(it => [it, it.endsWith('.TBL') ? table : texts])));
+        return (await tablesOfList(readerOf(encoded((await listed(opened)).pointers)))).map(it => [it.path, it.texts]);
+    };
+    const files = ['COPY.BIN', 'TEXT.BIN', 'TEXT.BIN2'];
+    assert.deepEqual(await copied('16 bits from the texts', ...files), files.map(it => [`/${it}`, `/${it}`]));
+    assert.deepEqual(await copied('a table in another file', 'COPY.BIN', 'COPY.TBL', 'TEXT.BIN', 'TEXT.TBL'),
+        [['/COPY.TBL', '/COPY.BIN'], ['/TEXT.TBL', '/TEXT.BIN']]);
+});
+
 test('a text with fewer pointers than both its neighbours is named', async () => {
     const game = gameNamed('two tables');
     const { opened, rows, pointers } = await prepared(game);

@@ -31,6 +31,9 @@ const MOST_CLAIMED = 0.3;
 /** How much a table of wider pointers is preferred: a narrower one has only a part of their bytes. */
 const WEIGHTS = new Map([[2, 1], [3, 1.1], [4, 1.25]]);
 
+/** How much a table is preferred whose texts are near, by their path: a disc may have copies of a file, each with pointers of its own. */
+const NEARNESS = 0.1;
+
 /** Numbers below this one are frequent: single pointers that are so small count only if this many are at equal distances. */
 const LEAST_ADDRESS = 1 << 16;
 const LEAST_IN_PART = 4;
@@ -40,12 +43,18 @@ const MOST_APART = 64;
 
 /** A run with what decides whether it is a table. */
 class Candidate {
-    /** @param {Run} run */
-    constructor(run) {
+    /**
+     * @param {Run} run
+     * @param {Searched} file
+     */
+    constructor(run, { path }) {
         this.run = run;
         this.distinct = new Set(run.hits.map(({ text }) => text)).size;
         this.firsts = run.hits.filter(({ isFirst }) => isFirst).length;
-        this.weight = this.distinct * (WEIGHTS.get(run.form.width) || 1);
+        const own = `${path}\n`.split('');
+        const shared = own.findIndex((it, i) => it !== `${run.texts.path}\n`[i]);
+        const nearness = (shared < 0 ? own.length : shared) / own.length;
+        this.weight = this.distinct * (WEIGHTS.get(run.form.width) || 1) * (1 + NEARNESS * nearness);
     }
 
     /** @param {Searched} file */
@@ -173,7 +182,7 @@ export async function findPointerTables(texts, searched, signal) {
     for await (const file of searched) {
         await letOthersIn(signal);
         const tables = new Tables(file);
-        const candidates = (await runsIn(file, differences, signal)).map(run => new Candidate(run)).filter(it => it.isTable(file));
+        const candidates = (await runsIn(file, differences, signal)).map(run => new Candidate(run, file)).filter(it => it.isTable(file));
         candidates.sort((a, b) => b.weight - a.weight || b.firsts - a.firsts || a.run.form.unit - b.run.form.unit
             || a.run.distance - b.run.distance);
         for (const candidate of candidates) {
