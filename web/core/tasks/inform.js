@@ -181,8 +181,7 @@ export async function foundInSurvey({ image, part, isAlone, sheetTracks: tracks 
     const ofMode2 = mode2Counts(survey.records, mode2Found);
     const unproven = ofMode2.tested > 0 ? [] : commonRuns(lost.untested, mode2Runs(mode2, survey.block, isTestedMode2));
     return { survey, ...counts, wrong: counts.wrong + ofMode2.wrong, mode2: ofMode2, mode2Found, unproven: blocksIn(unproven), ...lost,
-        fillers: bytesOfLost(lost.lost, filled), lack,
-        gaps: [...await gapBefore(image, part), ...gapsIn({ ...survey, moved }, mode2Found)] };
+        fillers: bytesOfLost(lost.lost, filled), lack, gaps: await gapsOf(image, part, gapsIn({ ...survey, moved }, mode2Found)) };
 }
 
 /**
@@ -194,6 +193,16 @@ export async function foundInSurvey({ image, part, isAlone, sheetTracks: tracks 
 async function gapBefore(image, part) {
     const by = await missingBefore(image, part);
     return by === 0 ? [] : [{ first: part.base, last: part.base - 1, by, isAtStart: false }];
+}
+
+/**
+ * All gaps of a track. Sectors at its start with earlier addresses, after which the first sectors of the volume are missing, are one gap.
+ * @param {DiscImage} image
+ * @param {DiscImage} part
+ * @param {Gap[]} found in the survey
+ */
+async function gapsOf(image, part, found) {
+    return found.some(({ isAtStart, by }) => isAtStart && by < 0) ? found : [...await gapBefore(image, part), ...found];
 }
 
 /**
