@@ -42,6 +42,7 @@ test('info and scan give the verdict of the table', () => inDirectory(async room
     assert.match((await run(['info', 'twice-start.bin'], { cwd: room })).out, /^verdict: 3 extra sectors are before block 3$/m);
     assert.match((await run(['info', 'late-start.bin'], { cwd: room })).out, /^verdict: 3 sectors are missing before block 3$/m);
     assert.match((await run(['info', 'early-hole.bin'], { cwd: room })).out, /^verdict: 5 sectors are missing before block 8$/m);
+    assert.match((await run(['info', 'swapped.bin'], { cwd: room })).out, /^verdict: .* in 2 places: before blocks 19 and 139$/m);
     const withBase = async name => run(['info', '--base', '100', name], { cwd: room });
     assert.doesNotMatch((await withBase('sound.bin')).out, SAYS.gap, 'a wrong base is not a gap');
     assert.match((await withBase('hole.bin')).out, SAYS.gap, 'a gap is found with a wrong base');

@@ -1,9 +1,13 @@
 // The verdict on a file in words.
 
 import { blocksIn } from '../core/sectors/views.js';
+import { blocksText } from './blocks.js';
 
 /** @typedef {import('../core/tasks/verdict.js').Finding} Finding */
 /** @typedef {import('../core/tasks/verdict.js').Verdict} Verdict */
+
+/** How many places are listed before which sectors are missing or extra. */
+const MOST_PLACES = 3;
 
 /**
  * @param {number} count
@@ -20,12 +24,12 @@ function are(count) {
 }
 
 /** @param {Finding} finding */
-function gapClause({ count, gaps: [{ first, last, by, isAtStart }] }) {
-    if (count > 1) return `sectors are missing or extra in ${count} places`;
-    const sectors = Math.abs(by);
-    const block = isAtStart ? last + 1 : first;
-    if (by < 0 !== isAtStart) return `${counted(sectors, 'extra sector')} ${are(sectors)} before block ${block}`;
-    return `${counted(sectors, 'sector')} ${are(sectors)} missing before block ${block}`;
+function gapClause({ count, gaps }) {
+    const places = gaps.map(({ first, last, isAtStart }) => isAtStart ? last + 1 : first).map(block => ({ first: block, last: block }));
+    if (count > 1) return `sectors are missing or extra in ${count} places: before ${blocksText(places, MOST_PLACES)}`;
+    const [{ by, isAtStart }] = gaps;
+    const sectors = counted(Math.abs(by), by < 0 !== isAtStart ? 'extra sector' : 'sector');
+    return `${sectors} ${are(Math.abs(by))} ${by < 0 !== isAtStart ? '' : 'missing '}before ${blocksText(places)}`;
 }
 
 /** @param {Finding} finding */
