@@ -4,7 +4,6 @@ import assert from 'node:assert/strict';
 import { test } from 'node:test';
 import { damaged, imageOf, inDirectory, program, read, run, sameFile, tool, write } from './common.mjs';
 
-
 /** Writes a later track of 40 sectors from block 150, once undamaged and once with two damaged sectors. */
 function writeLater(room) {
     const later = imageOf(room, 40, 150);

@@ -3,9 +3,7 @@
 import assert from 'node:assert/strict';
 import { test } from 'node:test';
 import { inDirectory, read, run, tool, write } from './common.mjs';
-import { makeDisc, noise } from './discs.mjs';
-
-const skip = tool('genisoimage', ['--version']) === null && 'no genisoimage';
+import { makeDisc, noise, skip } from './discs.mjs';
 
 /** The missing blocks by `info`, and its status; and the kinds and the numbers that `scan` prints, and its status. */
 async function said(room, name) {

@@ -1,8 +1,9 @@
 // A disc of files with texts, created by genisoimage: its ISO image and its raw image.
 
+import assert from 'node:assert/strict';
 import { mkdirSync, writeFileSync } from 'node:fs';
 import { join } from 'node:path';
-import { read, run, tool } from './common.mjs';
+import { run, tool } from './common.mjs';
 
 /** The texts of the disc, by their encodings as iconv names them. */
 export const TEXTS = { CP932: '勇者は旅に出た', 'EUC-JP': '魔王の城', 'UTF-16LE': '王様', 'UTF-8': '村人' };
@@ -31,14 +32,20 @@ export function files() {
     };
 }
 
-/** Creates `disc.iso` and `disc.bin`, whose first sector is block `first`. False if genisoimage is not installed. */
-export async function makeDisc(directory, { first = 0, options = [] } = {}) {
-    for (const [path, bytes] of Object.entries(files())) {
+/** Why tests that need a disc of files are skipped, or false. */
+export const skip = tool('genisoimage', ['--version']) === null && 'no genisoimage';
+
+/** Creates `disc.iso` with files, and its raw image, whose first sector is block `first`. False if genisoimage is not installed. */
+export async function discOf(directory, contents, { options = ['-R'], name = 'disc.bin', first = 0 } = {}) {
+    for (const [path, bytes] of Object.entries(contents)) {
         mkdirSync(join(directory, 'tree', path, '..'), { recursive: true });
         writeFileSync(join(directory, 'tree', path), bytes);
     }
-    if (tool('genisoimage', ['-quiet', '-R', '-J', ...options, '-o', 'disc.iso', 'tree'], { cwd: directory }) === null) return false;
-    const made = await run(['raw', 'disc.iso', 'disc.bin', '--first', String(first)], { cwd: directory });
-    if (made.status !== 0) throw new Error(made.errors);
-    return read(directory, 'disc.bin') !== null;
+    if (tool('genisoimage', ['-quiet', ...options, '-o', 'disc.iso', 'tree'], { cwd: directory }) === null) return false;
+    const made = await run(['raw', 'disc.iso', name, '--first', String(first)], { cwd: directory });
+    assert.equal(made.status, 0, made.errors);
+    return true;
 }
+
+/** Creates the disc with these files. */
+export const makeDisc = (directory, { first, options = [] } = {}) => discOf(directory, files(), { options: ['-R', '-J', ...options], first });

@@ -6,9 +6,8 @@ import { existsSync, truncateSync } from 'node:fs';
 import { join } from 'node:path';
 import { test } from 'node:test';
 import { command, damaged, imageOf, inDirectory, program, read, run, tool, write } from './common.mjs';
-import { files, makeDisc } from './discs.mjs';
+import { files, makeDisc, skip } from './discs.mjs';
 
-const hasDisc = tool('genisoimage', ['--version']) !== null;
 const hasTerminal = tool('script', ['--version']) !== null;
 
 /** The output of a job on a terminal, without the lines that it has erased again. */
@@ -111,7 +110,7 @@ test('a pipe that has nothing yet, and does not wait, is waited for', () => inDi
     assert.match(came.toString(), /\n0-2 mode1\nsectors 3 tail 0\n/);
 }));
 
-test('a file that is taken out with sectors that are not Mode 1 is not passed off as whole', { skip: !hasDisc && 'no genisoimage' }, () =>
+test('a file that is taken out with sectors that are not Mode 1 is not passed off as whole', { skip }, () =>
     inDirectory(async room => {
         await makeDisc(room);
         const [place] = (await run(['files', 'disc.bin'], { cwd: room })).out.split('\n').filter(line => line.endsWith('\t/BIG.BIN'));

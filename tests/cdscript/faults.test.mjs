@@ -12,10 +12,9 @@ import { fileURLToPath } from 'node:url';
 // Must run before cdscript is loaded, which binds the calls.
 const faults = createRequire(import.meta.url)('./faulty.cjs');
 const { call, command, damaged, imageOf, inDirectory, program, read, run, sameFile, tool, write } = await import('./common.mjs');
-const { makeDisc } = await import('./discs.mjs');
+const { makeDisc, skip } = await import('./discs.mjs');
 
 const preload = fileURLToPath(new URL('./faulty.cjs', import.meta.url));
-const hasDisc = tool('genisoimage', ['--version']) !== null;
 
 /** The jobs, with their files in a room. OUT stands for the name of a file to be written. */
 const JOBS = [
@@ -58,7 +57,7 @@ const LATE = /^cdscript: cannot (close|remove) .+: the disk or the drive has an 
 /** All jobs begin with the reads that identify an image. For the first job each of them fails, for the others every `SPARSELY`-th. */
 const SPARSELY = process.env.GATE ? 12 : 24;
 
-test('each call that fails once is a message and status 2', { skip: !hasDisc && 'no genisoimage' }, () => inDirectory(room =>
+test('each call that fails once is a message and status 2', { skip }, () => inDirectory(room =>
     inDirectory(async streams => {
         await makeRoom(room);
         for (const words of JOBS) {
@@ -82,7 +81,7 @@ test('each call that fails once is a message and status 2', { skip: !hasDisc && 
         }
     })));
 
-test('short reads and writes change nothing', { skip: !hasDisc && 'no genisoimage' }, () => inDirectory(room =>
+test('short reads and writes change nothing', { skip }, () => inDirectory(room =>
     inDirectory(async streams => {
         await makeRoom(room);
         for (const words of JOBS) {
@@ -94,7 +93,7 @@ test('short reads and writes change nothing', { skip: !hasDisc && 'no genisoimag
         }
     })));
 
-test('an image that shrinks is no shorter answer', { skip: !hasDisc && 'no genisoimage' }, () => inDirectory(room =>
+test('an image that shrinks is no shorter answer', { skip }, () => inDirectory(room =>
     inDirectory(async streams => {
         await makeRoom(room);
         const whole = read(room, 'disc.bin');

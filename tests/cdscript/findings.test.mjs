@@ -9,8 +9,7 @@ import { test } from 'node:test';
 import { harmlessVolume, recordOf, volumeOf } from '../core/strangers.mjs';
 import { MESSAGES } from '../lib/messages.mjs';
 import { command, damaged, imageOf, inDirectory, program, read, run, runProcess, sameFile, tool, write } from './common.mjs';
-
-const hasDisc = tool('genisoimage', ['--version']) !== null;
+import { skip } from './discs.mjs';
 
 /** A copy of an image with blocks that a dumper has filled with one byte. */
 function filled(image, blocks, byte) {
@@ -85,7 +84,7 @@ async function listed(room, user) {
     return run(['files', 'made.raw'], { cwd: room });
 }
 
-test('a file that only one tree of names has is listed', { skip: !hasDisc && 'no genisoimage' }, () => inDirectory(async room => {
+test('a file that only one tree of names has is listed', { skip }, () => inDirectory(async room => {
     mkdirSync(join(room, 'tree'));
     for (const name of ['seen.txt', 'hidden.txt', 'only long names.txt']) writeFileSync(join(room, 'tree', name), name);
     tool('genisoimage', ['-quiet', '-J', '-hide-joliet', 'hidden.txt', '-hide', 'ONLY*', '-o', 'disc.iso', 'tree'], { cwd: room });

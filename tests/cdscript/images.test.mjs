@@ -6,9 +6,8 @@ import { existsSync } from 'node:fs';
 import { join } from 'node:path';
 import { test } from 'node:test';
 import { ENCODINGS_KNOWN, damaged, imageOf, inDirectory, program, read, run, sameFile, tool, top, write } from './common.mjs';
-import { files, makeDisc, noise } from './discs.mjs';
+import { files, makeDisc, noise, skip } from './discs.mjs';
 
-const skip = tool('genisoimage', ['--version']) === null && 'no genisoimage';
 const TRY_PARITY = 'cdscript: with --parity, such a sector is corrected by its own P and Q instead, if its EDC confirms the result\n';
 const NOT_CONVERTED = 'expected an image of 2048, 2336, or 2448 bytes per sector, but';
 const sheet = (name, type = 'MODE1/2352') => `FILE "${name}" BINARY\n  TRACK 01 ${type}\n    INDEX 01 00:00:00\n`;

@@ -1,25 +1,12 @@
 // Files of a disc that change their length, and files of several extents: `replace-file`, `extract`, and texts that cross extents.
 
 import assert from 'node:assert/strict';
-import { mkdirSync, writeFileSync } from 'node:fs';
-import { join } from 'node:path';
 import { test } from 'node:test';
 import { recordOf, volumeOf } from '../core/strangers.mjs';
-import { encoded, noise } from './discs.mjs';
+import { discOf, encoded, noise, skip } from './discs.mjs';
 import { damaged, inDirectory, program, read, run, sameFile, tool, write } from './common.mjs';
 
 const USER = 2048;
-const skip = tool('genisoimage', ['--version']) === null && 'no genisoimage';
-
-/** Creates `disc.bin` from files with genisoimage. */
-async function makeDisc(room, files, ...options) {
-    for (const [path, bytes] of Object.entries(files)) {
-        mkdirSync(join(room, 'tree', path, '..'), { recursive: true });
-        writeFileSync(join(room, 'tree', path), bytes);
-    }
-    tool('genisoimage', ['-quiet', ...options, '-o', 'disc.iso', 'tree'], { cwd: room });
-    assert.equal((await run(['raw', 'disc.iso', 'disc.bin'], { cwd: room })).status, 0);
-}
 
 /** Creates `disc.bin` from user data. */
 async function makeRaw(room, user) {
@@ -48,7 +35,7 @@ const isoFile = (room, path, ...options) => tool('isoinfo', [...options, '-x', p
 
 test('a file of another length gets it in each record that names it, and zeros after it', { skip }, () => inDirectory(async room => {
     const files = { 'DATA/TEXT.DAT': noise(5000, 1), 'DATA/MORE.DAT': noise(3 * USER, 2), 'OTHER.BIN': noise(7000, 3) };
-    await makeDisc(room, files, '-R', '-J');
+    await discOf(room, files, { options: ['-R', '-J'] });
     const before = read(room, 'disc.iso');
     const at = before.indexOf(files['DATA/TEXT.DAT']);
     for (const size of [6144, 5001, 4999, 2048, 1, 0]) {
@@ -70,7 +57,7 @@ test('a file of another length gets it in each record that names it, and zeros a
 
 test('a file of an image that begins with another block is replaced there', { skip }, () => inDirectory(async room => {
     const fresh = noise(4000, 9);
-    await makeDisc(room, { 'A.BIN': noise(5000, 1), 'B.BIN': noise(100, 2) });
+    await discOf(room, { 'A.BIN': noise(5000, 1), 'B.BIN': noise(100, 2) }, { options: [] });
     assert.equal((await run(['raw', 'disc.iso', 'later.bin', '--first', '300'], { cwd: room })).status, 0);
     write(room, { fresh });
     assert.equal((await run(['replace-file', 'later.bin', '/A.BIN', 'fresh', '-o', 'script'], { cwd: room })).status, 0);
@@ -81,7 +68,7 @@ test('a file of an image that begins with another block is replaced there', { sk
 }));
 
 test('a file that is longer than its sectors is refused with both lengths', { skip }, () => inDirectory(async room => {
-    await makeDisc(room, { 'A.DAT': noise(5000, 1), 'EMPTY': '' }, '-R');
+    await discOf(room, { 'A.DAT': noise(5000, 1), 'EMPTY': '' }, { options: ['-R'] });
     const said = async (...given) => (await replaced(room, ...given)).errors;
     assert.equal(await said('/A.DAT', noise(6145, 2)), 'cdscript: /A.DAT has 5000 bytes and room for 6144, but the new file has 6145\n');
     assert.equal(await said('/EMPTY', noise(1, 2)), 'cdscript: /EMPTY has 0 bytes and room for 0, but the new file has 1\n');
@@ -91,7 +78,7 @@ test('a file that is longer than its sectors is refused with both lengths', { sk
 }));
 
 test('with --fill the length stays, and nothing but the file changes', { skip }, () => inDirectory(async room => {
-    await makeDisc(room, { 'A.DAT': noise(5000, 1) }, '-R', '-J');
+    await discOf(room, { 'A.DAT': noise(5000, 1) }, { options: ['-R', '-J'] });
     const made = await replaced(room, '/A.DAT', noise(4990, 2), '--fill', '2E');
     assert.deepEqual([made.status, made.errors], [0, 'cdscript: padded with 10 bytes (2E)\n']);
     const due = read(room, 'disc.iso');
@@ -100,7 +87,7 @@ test('with --fill the length stays, and nothing but the file changes', { skip },
 }));
 
 test('on a disc with UDF a file keeps its length', { skip }, () => inDirectory(async room => {
-    await makeDisc(room, { 'A.DAT': noise(5000, 1) }, '-R', '-J', '-udf');
+    await discOf(room, { 'A.DAT': noise(5000, 1) }, { options: ['-R', '-J', '-udf'] });
     const why = 'the UDF file system of the disc would keep the old length of /A.DAT: use --fill to keep the length';
     for (const size of [5001, 4999]) {
         const { status, out, errors } = await replaced(room, '/A.DAT', noise(size, 2));

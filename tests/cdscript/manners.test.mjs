@@ -6,9 +6,8 @@ import { join } from 'node:path';
 import { test } from 'node:test';
 import { harmlessVolume } from '../core/strangers.mjs';
 import { ENCODINGS_KNOWN, command, damaged, imageOf, inDirectory, read, run, runProcess, tool, write } from './common.mjs';
-import { makeDisc } from './discs.mjs';
+import { makeDisc, skip } from './discs.mjs';
 
-const hasDisc = tool('genisoimage', ['--version']) !== null;
 const hasTerminal = tool('script', ['--version']) !== null;
 
 test('a mistyped job, option or encoding is answered by what was meant', async () => {
@@ -35,7 +34,7 @@ test('a mistyped job, option or encoding is answered by what was meant', async (
     }
 });
 
-test('a mistyped path is answered by the one that was meant', { skip: !hasDisc && 'no genisoimage' }, () => inDirectory(async room => {
+test('a mistyped path is answered by the one that was meant', { skip }, () => inDirectory(async room => {
     await makeDisc(room);
     const SAID = { 'data/border.dat': 'did you mean /DATA/BORDER.DAT?', '/DATA/BODER.DAT': 'did you mean /DATA/BORDER.DAT?', '/nothing/like/it': 'cdscript files lists the files' };
     for (const [path, said] of Object.entries(SAID)) {

@@ -2,10 +2,8 @@
 
 import assert from 'node:assert/strict';
 import { test } from 'node:test';
-import { inDirectory, read, run, sameFile, tool, write } from './common.mjs';
-import { files, makeDisc } from './discs.mjs';
-
-const skip = tool('genisoimage', ['--version']) === null && 'no genisoimage';
+import { inDirectory, read, run, sameFile, write } from './common.mjs';
+import { files, makeDisc, skip } from './discs.mjs';
 
 test('control characters in names of a disc are not printed', { skip }, () => inDirectory(async room => {
     await makeDisc(room);

@@ -1,11 +1,9 @@
 // A whole translation whose texts are longer than their room: `texts --pointers` and `replace --pointers`.
 
 import assert from 'node:assert/strict';
-import { mkdirSync, writeFileSync } from 'node:fs';
-import { join } from 'node:path';
 import { test } from 'node:test';
-import { encoded } from './discs.mjs';
-import { inDirectory, read, run, sameFile, tool, write } from './common.mjs';
+import { discOf, encoded, skip } from './discs.mjs';
+import { inDirectory, read, run, sameFile, write } from './common.mjs';
 
 const FILES = 10;
 const TEXTS = 30;
@@ -37,13 +35,9 @@ const english = (text, i) => `The hero found herb number ${/\d+/.exec(text)[0]}$
 
 /** A directory with the disc and the lists of its texts and pointers; null if genisoimage or iconv is not installed. */
 async function madeDisc(room, files) {
-    if (tool('genisoimage', ['--version']) === null || encoded('', 'CP932') === null) return null;
-    for (let i = 0; i < files; i++) {
-        mkdirSync(join(room, 'tree'), { recursive: true });
-        writeFileSync(join(room, 'tree', `EVENT${i}.DAT`), eventFile(i));
-    }
-    tool('genisoimage', ['-quiet', '-R', '-J', '-o', 'disc.iso', 'tree'], { cwd: room });
-    await run(['raw', 'disc.iso', 'disc.bin'], { cwd: room });
+    if (skip || encoded('', 'CP932') === null) return null;
+    const contents = Object.fromEntries(Array.from({ length: files }, (_, i) => [`EVENT${i}.DAT`, eventFile(i)]));
+    await discOf(room, contents, { options: ['-R', '-J'] });
     return run(['texts', 'disc.bin', '-o', 'texts.tsv', '--pointers', 'pointers.tsv'], { cwd: room });
 }
 

@@ -1,11 +1,9 @@
 // Tables of names of fixed width: `texts --every`, and the lists that it prints.
 
 import assert from 'node:assert/strict';
-import { mkdirSync } from 'node:fs';
-import { join } from 'node:path';
 import { test } from 'node:test';
 import { inDirectory, program, read, run, sameFile, tool, write } from './common.mjs';
-import { encoded } from './discs.mjs';
+import { discOf, encoded } from './discs.mjs';
 
 const NAMES = ['やくそう', 'どくけしそう', '', 'てつのつるぎ', 'キメラのつばさ'];
 
@@ -25,10 +23,8 @@ const WORDS = ['--every', '24', '--length', '16', '--skip', '6'];
 
 test('the names of a table are listed whole, and new ones fill their records', t => inDirectory(async room => {
     const table = tableOf(Buffer.from([0x20]));
-    mkdirSync(join(room, 'files/DATA'), { recursive: true });
-    write(room, { 'files/DATA/NAMES.DAT': table, 'names.dat': table });
-    if (tool('genisoimage', ['-quiet', '-o', 'disc.iso', 'files'], { cwd: room }) === null) return t.skip('no genisoimage');
-    assert.equal((await run(['raw', 'disc.iso', 'image'], { cwd: room })).status, 0);
+    write(room, { 'names.dat': table });
+    if (!await discOf(room, { 'DATA/NAMES.DAT': table }, { options: [], name: 'image' })) return t.skip('no genisoimage');
     const listed = await run(['texts', 'image', '--in', 'data/../NAMES.DAT', ...WORDS], { cwd: room });
     assert.deepEqual([listed.status, listed.out, listed.errors.startsWith('cdscript: no file data/../NAMES.DAT on the disc')], [2, '', true]);
     const done = await run(['texts', 'image', '--in', '/DATA/NAMES.DAT', ...WORDS], { cwd: room });

@@ -7,9 +7,7 @@ import { join } from 'node:path';
 import { test } from 'node:test';
 import { MESSAGES } from '../lib/messages.mjs';
 import { damaged, imageOf, inDirectory, program, read, run, sameFile, tool, write } from './common.mjs';
-import { TEXTS, encoded, files, makeDisc, noise } from './discs.mjs';
-
-const skip = tool('genisoimage', ['--version']) === null && 'no genisoimage';
+import { TEXTS, encoded, files, makeDisc, noise, skip } from './discs.mjs';
 
 /** The output of a job: its lines, split at tabs. */
 const rows = text => text.split('\n').slice(0, -1).map(line => line.split('\t'));

@@ -2,11 +2,11 @@
 
 import assert from 'node:assert/strict';
 import { createHash } from 'node:crypto';
-import { mkdirSync, readFileSync, writeFileSync } from 'node:fs';
-import { join } from 'node:path';
+import { readFileSync } from 'node:fs';
 import { test } from 'node:test';
 import { deflateRawSync } from 'node:zlib';
 import { ENCODINGS_KNOWN, inDirectory, program, read, run, tool, write } from './common.mjs';
+import { discOf } from './discs.mjs';
 
 const HEAD = 'block\toffset\tbytes\troom\tencoding\tfile\ttext\tnew';
 
@@ -60,24 +60,22 @@ const NOISES = (() => {
 async function makeGame(room, count) {
     const dice = diceOf(11);
     const labels = {};
-    mkdirSync(join(room, 'tree'));
-    for (const [name, bytes] of Object.entries(NOISES)) writeFileSync(join(room, 'tree', name), bytes);
+    const files = { ...NOISES };
     for (const encoding of ['CP932', 'EUC-JP', 'UTF-16LE', 'UTF-8']) {
         const texts = Array.from({ length: count }, () => someText(dice));
         const unit = encoding === 'UTF-16LE' ? 2 : 1;
         const parts = [];
         let at = 0;
-        labels[`/${encoding.replace(/\W/g, '')}.BIN`] = new Map(eachEncoded(texts, encoding).map((bytes, i) => {
+        const file = `${encoding.replace(/\W/g, '')}.BIN`;
+        labels[`/${file}`] = new Map(eachEncoded(texts, encoding).map((bytes, i) => {
             parts.push(bytes, Buffer.alloc(unit * (1 + dice(3))));
             const place = at;
             at += bytes.length + parts[parts.length - 1].length;
             return [place, { text: texts[i], size: bytes.length, room: bytes.length + parts[parts.length - 1].length - unit }];
         }));
-        writeFileSync(join(room, 'tree', `${encoding.replace(/\W/g, '')}.BIN`), Buffer.concat(parts));
+        files[file] = Buffer.concat(parts);
     }
-    if (tool('genisoimage', ['-quiet', '-R', '-o', 'disc.iso', 'tree'], { cwd: room }) === null) return null;
-    assert.equal((await run(['raw', 'disc.iso', 'image'], { cwd: room })).status, 0);
-    return labels;
+    return await discOf(room, files, { name: 'image' }) ? labels : null;
 }
 
 const rowsOf = text => text.split('\n').slice(1, -1).map(line => line.split('\t'));
@@ -176,17 +174,6 @@ test('where no text is, none is found; and what cannot be searched is named', t 
     assert.deepEqual([nowhere.status, nowhere.errors.split('\n').slice(-2)[0]], [2, 'cdscript: no file or directory X on the disc; cdscript files lists the files']);
 }));
 
-/** Creates a disc with one file for each of these contents with genisoimage. False if it is not installed. */
-async function makeFiles(room, files) {
-    for (const [path, bytes] of Object.entries(files)) {
-        mkdirSync(join(room, 'tree', path, '..'), { recursive: true });
-        writeFileSync(join(room, 'tree', path), bytes);
-    }
-    if (tool('genisoimage', ['-quiet', '-R', '-o', 'disc.iso', 'tree'], { cwd: room }) === null) return false;
-    assert.equal((await run(['raw', 'disc.iso', 'image'], { cwd: room })).status, 0);
-    return true;
-}
-
 const KANA = 'あいうえおかきくけこさしすせそたちつてとなにぬねのはひふへほまみむめもやゆよらりるれろわをんがぎぐげござじずぜぞだぢづでどばびぶべぼぱぴぷぺぽゃゅょっー、。！？';
 const KANA_TEXTS = ['はじめからやりますか？', 'つづきから', 'はい', 'いいえ', 'しろのちかにたからがあるらしい。', 'まほうつかいはふるいとうからかえってきた', 'ここはきたのもりです。'];
 const tableOf = (characters, first, end) => `${[...characters].map((it, i) => `${(first + i).toString(16)}=${it}\n`).join('')}/${end}=<end>\n`;
@@ -200,7 +187,7 @@ test('the texts of a game with a table of its own are found, in UTF-8 and in UTF
     const english = ['the brave hero leaves the village', 'you found a small key', 'No', 'the door is locked, is it not?'];
     const bytes = Buffer.concat([random, Buffer.of(0xFF), byTable(KANA_TEXTS, KANA, 0x20, 0xFF), random]);
     const other = Buffer.concat([random, Buffer.of(0), byTable(english, latin, 0x80, 0), random]);
-    if (!await makeFiles(room, { 'KANA.BIN': bytes, 'LATIN.BIN': other })) return t.skip('no genisoimage');
+    if (!await discOf(room, { 'KANA.BIN': bytes, 'LATIN.BIN': other }, { name: 'image' })) return t.skip('no genisoimage');
     const table = tableOf(KANA, 0x20, 'FF');
     const wide = Buffer.from(`\uFEFF${table}`, 'utf16le');
     write(room, { 'kana.tbl': table, 'wide.tbl': wide, 'swapped.tbl': Buffer.from(wide).swap16(), 'latin.tbl': tableOf(latin, 0x80, '00') });
@@ -225,7 +212,7 @@ test('the texts of other languages are found by their encoding', t => inDirector
         const parts = eachEncoded(texts, codec).flatMap(bytes => [bytes, Buffer.alloc(1)]);
         return [`${name.replace('Windows-', 'W').toUpperCase()}.BIN`, Buffer.concat([random, Buffer.alloc(2), ...parts, random])];
     });
-    if (!await makeFiles(room, Object.fromEntries(files))) return t.skip('no genisoimage');
+    if (!await discOf(room, Object.fromEntries(files), { name: 'image' })) return t.skip('no genisoimage');
     for (const { name, texts } of others) {
         const { out } = await run(['texts', 'image', '--encoding', name, '--in', `${name.replace('Windows-', 'W').toUpperCase()}.BIN`, '--min', '1'], { cwd: room });
         assert.deepEqual(rowsOf(out).map(row => row[6]), texts, name);
@@ -235,7 +222,7 @@ test('the texts of other languages are found by their encoding', t => inDirector
 test('several paths are looked into, each once, and one that is none is named', t => inDirectory(async room => {
     const [text] = eachEncoded(['魔法使いは古い塔から帰ってきた'], 'CP932');
     const files = Object.fromEntries(['A/ONE.BIN', 'A/TWO.BIN', 'B/ONE.BIN', 'AA.BIN'].map(path => [path, Buffer.concat([Buffer.alloc(9), text])]));
-    if (!await makeFiles(room, files)) return t.skip('no genisoimage');
+    if (!await discOf(room, files, { name: 'image' })) return t.skip('no genisoimage');
     const paths = async (...words) => {
         const { status, out, errors } = await run(['texts', 'image', ...words.flatMap(word => ['--in', word])], { cwd: room });
         return [status, rowsOf(out).map(row => row[5]).sort(), errors];
@@ -250,7 +237,7 @@ test('several paths are looked into, each once, and one that is none is named', 
 test('each line of a text is a row with --lines, and comes back as it is', t => inDirectory(async room => {
     const lines = ['勇者は古い剣を手に入れた。', 'は', '', 'The hero', '村人が城の地下について話した！'];
     const bytes = encoded(lines.slice(0, 5), 'CP932');
-    if (!await makeFiles(room, { 'STORY.TXT': bytes })) return t.skip('no genisoimage');
+    if (!await discOf(room, { 'STORY.TXT': bytes }, { name: 'image' })) return t.skip('no genisoimage');
     const rows = rowsOf((await run(['texts', 'image', '--lines', '--in', 'STORY.TXT', '--encoding', 'CP932'], { cwd: room })).out);
     const wide = rowsOf((await run(['texts', 'image', '--lines', '--in', 'STORY.TXT'], { cwd: room })).out);
     assert.deepEqual(wide, rows.filter(row => row[6] !== 'The hero'));
