@@ -18,6 +18,16 @@ TABLES = '''return [...document.querySelectorAll('.pointers tbody tr')].map(({ c
 ROW = '''const { cells } = document.querySelector(`.all-texts tbody tr[aria-rowindex="${arguments[0] + 1}"]`);
     return [cells[2].querySelector('input').value, cells[2].querySelector('p').innerText.trim(), cells[3].innerText.trim()]'''
 
+# The milliseconds that the longest of 20 turns of 50 takes, which are more on a busy machine.
+TURN = '''let longest = 0;
+    for (let turn = 0; turn < 20; turn++) {
+        const begun = performance.now();
+        while (performance.now() < begun + 50);
+        await new Promise(done => setTimeout(done));
+        longest = Math.max(longest, performance.now() - begun);
+    }
+    return longest'''
+
 
 class PointersPage(PageTest):
     def show(self) -> None:
@@ -255,8 +265,9 @@ class Pointers(PointersPage):
         self.browser.answer('Cancel')
         return asked
 
-    def cancelled(self) -> tuple[float, float]:
-        """Cancels the search for pointers. Returns the milliseconds until it ends, and the most of them between two turns of other tasks."""
+    def is_ended_soon(self) -> bool:
+        """Cancels the search for pointers. Returns whether that takes the time of two turns, and other tasks never waited for three."""
+        turn = self.browser.run(TURN)
         self.browser.run('''globalThis.ended = undefined; globalThis.gaps = []; let last = performance.now();
             globalThis.beat = setInterval(() => { gaps.push(performance.now() - last); last = performance.now(); });''')
         self.press('Find pointers')
@@ -267,15 +278,11 @@ class Pointers(PointersPage):
             document.querySelector(`${arguments[0]} .job-end .btn`).click();''', CARD)
         self.browser.wait(f'{CARD} .say.plain', common.text('discJobCancelled'))
         ended, longest = self.browser.run('clearInterval(beat); return [ended, Math.max(...gaps)]')
-        return ended, longest
+        return bool(ended < 2 * turn and longest < 3 * turn)
 
     def test_cancel_ends_the_search_within_a_tenth_of_a_second(self) -> None:
         self.open_table(pointed.large_game())
-        found: list[tuple[float, float]] = []
-        # A busy machine may let the page wait for longer than that, so an apparent failure is measured again.
-        while len(found) < 5 and not any(ended < 100 and longest < 150 for ended, longest in found):
-            found.append(self.cancelled())
-        self.assertTrue(any(ended < 100 and longest < 150 for ended, longest in found), found)
+        self.assertTrue(any(self.is_ended_soon() for _ in range(3)))
         self.assertEqual(self.browser.run(TABLES), [])
 
     def test_the_card_is_used_with_the_keyboard_and_fits_a_phone(self) -> None:
