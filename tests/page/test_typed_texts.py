@@ -31,8 +31,9 @@ class TypedTexts(PageTest):
         return common.cdscript_prints('replace', image, '--list', table)
 
     def same_lines(self, script: str) -> None:
-        """Compares the script of the page with another one whose lines may be in a different order."""
+        """Waits until the script of the page is another one whose lines may be in a different order."""
         self.browser.click('#tab-script')
+        common.waited(lambda: sorted(row.split('|')[1] for row in self.rows()) == sorted(script.split('\n')), 'the script differs')
         self.assertEqual(sorted(self.script_text().splitlines()), sorted(script.splitlines()))
 
     def test_each_text_is_listed_once_and_a_typed_one_is_in_the_script_at_all_its_places(self) -> None:
