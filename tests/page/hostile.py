@@ -139,12 +139,12 @@ class Walk:
         if state != QUIET:
             self.wrong.append(f'{name}: {state}')
 
-    def settled(self, name: str, seconds: float = 30) -> None:
+    def settled(self, name: str) -> None:
         """Waits until the page shows a message or the player."""
         script = '''return ['#messages .say', '#start-message .say', '#player h1', '#panel-script header .tag'].some(it => {
             const found = document.querySelector(it); return found !== null && found.offsetParent !== null })'''
         try:
-            common.waited(lambda: self.browser.run(script), 'nothing was said', seconds)
+            common.waited(lambda: self.browser.run(script), 'nothing was said')
         except AssertionError as error:
             shown = self.browser.run('return [document.readyState, document.querySelector("#not-started") !== null, document.body.innerText.slice(0, 300)]')
             self.wrong.append(f'{name}: {error}; {shown}')
