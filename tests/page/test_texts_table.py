@@ -247,7 +247,7 @@ class TextsTable(PageTest):
     def test_rows_that_do_not_fit_are_in_the_table_that_is_shown_after_the_import(self) -> None:
         image = self.open_texts(spoken_texts())
         self.give(self.table(image, {2: 'The game starts.', 3: 'much too long ' * 9}))
-        self.browser.wait('#panel-text h2', '1 row does not fit')
+        self.browser.wait('#panel-text .say.warn', '1 translation does not fit: 1 too long.')
         self.press('Show all texts')
         self.browser.wait('#panel-text [aria-pressed]:nth-child(3)', 'Do not fit 1')
         field = '.all-texts tbody tr[aria-rowindex="3"] input'
