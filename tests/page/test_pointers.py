@@ -353,14 +353,14 @@ class NamesBesideTexts(PointersPage):
             self.setUp()
 
     def test_a_list_that_is_exported_and_imported_unchanged_changes_nothing(self) -> None:
-        for header, says in ((pointed.HEADER, ''), (b'', '3 lines are unchanged.')):
+        for header in (pointed.HEADER, b''):
             for item, form in (('Export a table', 'csv'), ('Export PO', 'po')):
                 image, script = self.begin_with_names(header)
                 self.press_in('export', item)
                 path = self.browser.downloaded(f'game (texts).{form}')
                 common.waited(path.read_bytes, 'the list is empty')
                 self.browser.give('#panel-text input[accept^=".tsv"]', [path.rename(common.folder('list') / path.name)])
-                self.browser.wait('#panel-text .texts-table ~ * .say.good', says)
+                self.browser.wait('#panel-text .texts-table ~ * .say.good', '3 lines are unchanged.')
                 self.assertEqual(self.script_now(), script)
                 self.has_names(image, script, header)
                 self.setUp()
