@@ -345,6 +345,8 @@ class Second(PageTest):
         script = self.browser.downloaded('other (changes).txt')
         self.assertEqual([line.split()[:2] for line in script.read_text().splitlines()], [['cdpatch', '1'], ['set', '50']])
         script.unlink()
+        # The second Enter may have begun a job.
+        self.is_gone('#second-body .progress')
         self.press('Open in Script')
         self.press('Leave these 2 out')
         self.browser.wait('#panel-script .say.good', 'other (changes).txt: 1 patch, which matches game.bin.')
