@@ -268,7 +268,9 @@ class Text(PageTest):
             self.browser.type('#new-text', new)
             self.press('Replace all')
             script += self.cdscript(image, 'replace', old, new, '--all', '--encoding', encoding).removeprefix('cdpatch 1\n')
+            # A change of the script removes the message about an earlier one, and a search begins only after the next message.
             self.browser.wait('#count-script', str(len(script.splitlines()) - 1))
+            self.browser.wait('#panel-text .say', 'added to the script.')
         self.assertEqual(len(script.splitlines()), 1 + 8 + 2 + 2)
         self.browser.click('#tab-script')
         self.assertEqual(self.script_text(), script)
