@@ -11,6 +11,21 @@ from states import SENTENCES, spoken_texts, with_new
 ROWS = '''return [...document.querySelectorAll('.all-texts tbody tr:not(.gap)')].map(({ cells: [file, old, fresh, room] }) =>
     [file.innerText.replace(/\\s+/g, ' ').trim(), old.innerText.trim(), fresh.querySelector('input').value, fresh.querySelector('p').innerText, room.innerText.trim()])'''
 
+# Lets others run after each step of a loop, which then waits. `goOn` lets all loops go on, so many times, and calls a function before each.
+STEPS = '''const later = setTimeout, waiting = [];
+    let now = Date.now();
+    Date.now = () => now += 1000;
+    globalThis.setTimeout = (work, time = 0) => time > 0 ? later(work, time) : waiting.push(work);
+    globalThis.goOn = async (times, first) => {
+        for (let i = 0; i < times; i++) {
+            first(i);
+            waiting.splice(0).forEach(work => work());
+            await new Promise(done => later(done));
+        }
+        globalThis.setTimeout = later;
+        waiting.forEach(work => work());
+    };'''
+
 
 class TypedTexts(PageTest):
     def cells(self) -> list[list[str]]:
@@ -113,6 +128,42 @@ class TypedTexts(PageTest):
         self.browser.wait('#count-script', '6')
         self.becomes(1, 2, 'Go.')
         self.browser.wait('#panel-text .meter', '1 of 4 done')
+
+    def test_a_list_that_is_saved_while_an_import_is_read_does_not_take_it_back(self) -> None:
+        image = self.open_table(spoken_texts())
+        self.browser.click(self.field(1))
+        self.browser.press('Go.', Keys.ENTER)
+        self.browser.wait('#count-script', '6')
+        table = common.folder('table') / 'other.tsv'
+        rows = common.cdscript_prints('texts', image)
+        table.write_text(with_new(rows, {number + 1: 'Away.' for number, row in enumerate(rows.splitlines()) if SENTENCES[0] in row}))
+        self.browser.run(STEPS)
+        self.browser.give('#panel-text input[accept^=".tsv"]', [table])
+        # The list is saved at each step. No list is needed.
+        self.browser.run('''const { createObjectURL } = URL;
+            URL.createObjectURL = () => { throw new Error('none'); };
+            await goOn(300, () => {
+                document.querySelector('[aria-labelledby=all-texts-title] header > .btn:last-child').click();
+                document.querySelector('#sheet .btn').click();
+            });
+            URL.createObjectURL = createObjectURL;''')
+        self.becomes(1, 2, 'Away.')
+        self.same_lines(self.written(image, {SENTENCES[0]: 'Away.'}))
+
+    def test_a_text_that_is_typed_while_the_texts_are_listed_again_is_in_the_table_as_it_is_in_the_script(self) -> None:
+        image = self.open_table(spoken_texts())
+        self.browser.click(self.field(1))
+        self.browser.press('G')
+        self.browser.run(STEPS)
+        self.browser.run('''[...document.querySelectorAll('button')].find(it => it.innerText === arguments[0]).click();
+            await goOn(150, i => document.execCommand('insertText', false, i < 90 && i % 9 === 0 ? 'o' : ''))''', common.text('textShowAllTexts'))
+        self.wait_for_focus('#all-texts-title')
+        # What is saved is complete.
+        self.save_list(common.text('textAsTsv'))
+        self.browser.downloaded('game (texts).tsv')
+        self.becomes(1, 2, 'Goo')
+        self.browser.wait('#panel-text .meter', '1 of 4 done')
+        self.same_lines(self.written(image, {SENTENCES[0]: self.row(1)[2]}))
 
     def test_undo_takes_an_import_back(self) -> None:
         image = self.open_table(spoken_texts())

@@ -119,8 +119,8 @@ export class KnownTexts {
     }
 
     /**
-     * Reads the new texts that the script writes. A new text that does not fit or waits is kept, unless the script has a different one now,
-     * and so is one that is still being put into the script. Returns the earlier new texts of those that have changed.
+     * Reads the new texts that the script writes, and returns the earlier ones of those that have changed. A new text that is still being
+     * put into the script is kept. So is one that does not fit or waits, unless the script has a different one now.
      * @param {import('../../core/tasks/table.js').FreshOf} newTextOf
      * @param {Signal} signal
      * @param {boolean} [areKept] whether it is kept in any case

@@ -109,7 +109,7 @@ export class TextsCard {
 
     /** The new texts that are only in their fields, because they are still being typed. */
     inFields() {
-        return [...this.drawn].flatMap(([known, { input: { value } }]) => value === known.fresh ? [] : [{ known, fresh: value }]);
+        return [...this.drawn].flatMap(([known, { input: { value }, shown }]) => value === shown ? [] : [{ known, fresh: value }]);
     }
 
     /**
@@ -118,6 +118,7 @@ export class TextsCard {
      * @param {List} list
      */
     async replace(list) {
+        while (this.changes.waiting > 0 || this.inFields().length > 0) await this.settled();
         const { changes, lost } = keptTexts(this.list, list);
         if (lost > 0 && this.changes.isLost()) {
             const answer = await askToLose(lost);
