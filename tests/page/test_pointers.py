@@ -7,7 +7,7 @@ import common
 import discs
 import pointed
 from keys import Keys
-from pages import PageTest, applied
+from pages import GATE, PageTest, applied
 from states import with_new
 
 CARD = '[aria-labelledby=pointers-title]'
@@ -203,6 +203,37 @@ class Pointers(PointersPage):
         self.browser.wait('#panel-text .meter', '2 of 60 done')
         self.browser.give('#panel-text input[accept^=".tsv"]', [self.list_of(image, {2: f'{LONG} again'})])
         self.browser.wait('#panel-text .say', '25 translations of the table that the list lacks are kept.')
+
+    def make_held(self) -> Path:
+        """Presses Make the script for two texts, and holds the first read of their list."""
+        image = self.open_table(pointed.game())
+        self.find_tables()
+        self.let_move()
+        for number, text in ((1, LONG), (2, 'A villager')):
+            self.type_text(number, text)
+        self.browser.run(f'{GATE} globalThis.held = 1')
+        self.press('Make the script')
+        common.waited(lambda: self.browser.run('return reads > 0'), 'nothing is read')
+        return image
+
+    def test_an_import_while_the_script_is_being_made_comes_after_it(self) -> None:
+        image = self.make_held()
+        fresh = {2: f'{LONG} again', 5: 'The king'}
+        self.browser.give('#panel-text input[accept^=".tsv"]', [self.list_of(image, fresh)])
+        self.assertIsNone(self.browser.awaited('document.querySelector("#panel-text .say.good")', seconds=3))
+        self.browser.run('openGate()')
+        self.browser.wait('#panel-text .say.good', 'All 3 translations fit.')
+        self.becomes(5, 0, 'The king')
+        self.assertEqual(self.script_now(), self.moved_by_cdscript(image, {1: LONG, **fresh}))
+
+    def test_the_switch_that_is_turned_off_while_the_script_is_being_made_puts_the_texts_back_in_place(self) -> None:
+        image = self.make_held()
+        self.browser.click('#let-move')
+        self.browser.run('openGate()')
+        self.browser.wait('#panel-text [aria-pressed]:nth-child(3)', 'Do not fit 1')
+        self.becomes(2, 2, '10 of')
+        self.browser.wait('#count-script', '1')
+        self.assertEqual(self.script_now(), common.cdscript_prints('replace', image, '--list', self.list_of(image, {2: 'A villager'})))
 
     def test_the_table_follows_a_script_that_moves_texts_and_so_does_that_of_another_day(self) -> None:
         image = self.open_table(pointed.game())

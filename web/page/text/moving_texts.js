@@ -57,6 +57,8 @@ export class MovingTexts {
         this.pointed = null;
         /** Ends when the pointers of the chosen tables have been read. */
         this.judging = Promise.resolve();
+        /** Ends when no script is being generated. */
+        this.making = Promise.resolve();
         /** @type {ListedTable[] | null} the tables with which the script was generated, null if none was with any */
         this.used = null;
         this.card = new PointersCard({
@@ -106,15 +108,15 @@ export class MovingTexts {
     /**
      * Runs a job with its bar in the card.
      * @template Result
-     * @param {{ name: string, noun?: string, failure: string }} words
+     * @param {{ name: string, noun?: string, failure: string, replaces?: boolean }} words
      * @param {(bar: import('../app/jobs.js').Bar, signal: AbortSignal) => Promise<Result>} run
      * @param {(result: Result) => unknown} done
      * @param {() => void} [undone] is called if the job fails
      */
-    work({ name, noun, failure }, run, done, undone = () => {}) {
+    work({ failure, ...words }, run, done, undone = () => {}) {
         const { app, card } = this;
         return jobAt(app, card.job, {
-            name, noun, of: 'image', run: (bar, signal) => {
+            ...words, of: 'image', run: (bar, signal) => {
                 fill(card.message);
                 return run(bar, signal);
             },
@@ -217,19 +219,28 @@ export class MovingTexts {
         if (!isOn && (list.texts.waiting > 0 || this.used !== null)) await this.make();
     }
 
-    /** Generates the script of all new texts of the table. */
+    /**
+     * Generates a script when the one before it is generated and the table has its texts, because it would remove those that it lacks.
+     * @template Result
+     * @param {() => Promise<Result>} generate
+     */
+    inTurn(generate) {
+        const made = this.making.then(() => this.judging).then(() => this.owner.known.settled()).then(generate);
+        this.making = made.then(() => {}, () => {});
+        return made;
+    }
+
+    /** Generates the script of all new texts of the table. If they are put back in place, it replaces the one that is being generated. */
     async make() {
         const { list, isOn } = this;
         if (list === null) return;
-        const words = { name: texts.discMakingLines, noun: texts.textMakingOfRows, failure: texts.discNothingAdded };
-        await this.work(words, async (bar, signal) => {
-            await this.judging;
+        const words = { name: texts.discMakingLines, noun: texts.textMakingOfRows, failure: texts.discNothingAdded, replaces: !isOn };
+        await this.work(words, (bar, signal) => this.inTurn(async () => {
             if (this.isOn && this.pointed === null) return null;
-            await this.owner.known.settled();
             const isAny = list.texts.all.some(({ fresh }) => fresh !== '');
             const lists = isAny ? [await listFile(list.texts.listed, list.texts)] : [];
             return this.script(list, lists, { signal, progress: bar.things });
-        }, result => result && showMessageAt(this.card.message, this.noticeOf(result, false)), () => {
+        }), result => result && showMessageAt(this.card.message, this.noticeOf(result, false)), () => {
             this.isOn = this.isOn || !isOn;
             void this.mark(list);
         });

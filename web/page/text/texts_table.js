@@ -255,14 +255,16 @@ export class TextsTable {
     async take(file, image, bar, signal) {
         const { app } = this;
         this.forget();
-        if (this.moving.letsWait(this.known.list)) return this.moving.importList(file, this.left, { signal, progress: bar.things });
+        const { moving } = this;
+        const watch = { signal, progress: bar.things };
+        if (moving.letsWait(this.known.list)) return moving.inTurn(() => moving.importList(file, this.left, watch));
         const options = this.rowOptions();
         const lists = [{ name: file.name, reader: fileReader(file) }];
         if (!('disc' in image)) return this.takeIntoFile(image, lists, bar, signal);
-        const earlier = await earlierTexts(app, image, { end: this.endByte(), movable: this.moving.movable });
+        const earlier = await earlierTexts(app, image, { end: this.endByte(), movable: moving.movable });
         const isAlso = (/** @type {ListRow} */ row) => isWritten(app, row);
         const imported = { ...options, lists, isAlso, partial: true, earlier };
-        const made = await importTable(app, image.opened, imported, { signal, progress: bar.things });
+        const made = await importTable(app, image.opened, imported, watch);
         const merged = await rowsMerged(app, image, made.script, signal, earlier.lines);
         if (merged === null) return null;
         app.checkAfterChange();
