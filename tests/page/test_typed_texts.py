@@ -184,6 +184,26 @@ class TypedTexts(PageTest):
             self.becomes(1, 2, text)
         self.browser.wait('#panel-text .meter', '0 of 4 done')
 
+    def test_undo_and_redo_give_each_place_its_own_text_again(self) -> None:
+        image = self.open_table(spoken_texts())
+        rows = common.cdscript_prints('texts', image)
+        places = [number for number, row in enumerate(rows.splitlines(), 1) if SENTENCES[0] in row]
+        table = common.folder('table') / 'other.tsv'
+        table.write_text(with_new(rows, {number: 'Two.' if number in places[-2:] else 'Away.' for number in places}))
+        self.browser.give('#panel-text input[accept^=".tsv"]', [table])
+        self.becomes(1, 3, 'In 4 of 6 places.')
+        self.browser.type(self.field(1), 'Go.')
+        self.browser.press(Keys.ENTER)
+        self.browser.wait('#panel-text .meter', '1 of 4 done')
+        for text in ('In 4 of 6 places.', ''):
+            self.press('Undo')
+            self.becomes(1, 3, text)
+        self.becomes(1, 2, '')
+        self.browser.click(self.field(1))
+        self.browser.press('y', held=Keys.CONTROL)
+        self.becomes(1, 3, 'In 4 of 6 places.')
+        self.same_lines(common.cdscript_prints('replace', image, '--list', table))
+
     def test_a_text_that_does_not_fit_is_in_each_list_and_publish_says_so(self) -> None:
         self.open_table(spoken_texts())
         self.browser.click(self.field(1))

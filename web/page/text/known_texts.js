@@ -13,7 +13,7 @@ import { isTurnDue, letOthersIn } from '../../core/turns.js';
  * @typedef {{ written: number, why: string, waits?: boolean }} Outcome
  */
 /** @typedef {'all' | 'empty' | 'left' | 'signs' | 'done'} Kind */
-/** @typedef {{ known: KnownText, fresh: string }} Change a text with a different new text */
+/** @typedef {{ known: KnownText, fresh: string, each?: string[] }} Change a text with a different new text, or one for `each` place */
 
 /** The kinds of texts that a filter shows. */
 export const KINDS = /** @type {Kind[]} */ (['all', 'empty', 'left', 'signs', 'done']);
@@ -136,9 +136,9 @@ export class KnownTexts {
         /** @type {Change[]} */
         const earlier = [];
         for (const known of this.all) {
-            const { fresh } = known;
+            const before = this.current(known);
             this.setNews(known, found, areKept);
-            if (known.fresh !== fresh) earlier.push({ known, fresh });
+            if (this.current(known).each.some((fresh, i) => fresh !== before.each[i])) earlier.push(before);
             if (isTurnDue()) await letOthersIn(signal);
         }
         return earlier;
@@ -168,13 +168,20 @@ export class KnownTexts {
     }
 
     /**
-     * Sets the new text that was typed for all places of a text.
+     * The new texts of a text.
      * @param {KnownText} known
-     * @param {string} fresh
      */
-    type(known, fresh) {
+    current(known) {
+        return { known, fresh: known.fresh, each: known.places.map(place => this.news.get(place) || '') };
+    }
+
+    /**
+     * Sets the new text that was typed for all places of a text, or the new texts that each of them had.
+     * @param {Change} change
+     */
+    type({ known, fresh, each }) {
         if (known.why === '' && !known.waits) known.before = known.written > 0 ? known.fresh : '';
-        for (const place of known.places) this.news.set(place, fresh);
+        for (const [i, place] of known.places.entries()) this.news.set(place, each === undefined ? fresh : each[i]);
         this.note(known, fresh, known);
         known.isPending = true;
     }

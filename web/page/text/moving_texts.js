@@ -74,6 +74,7 @@ export class MovingTexts {
         this.isOwn = false;
         this.pointed = null;
         this.used = null;
+        this.making = Promise.resolve();
         fill(this.card.message);
         this.card.show([]);
         this.draw();

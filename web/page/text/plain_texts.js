@@ -2,7 +2,7 @@
 
 import { PieceCutter } from '../../core/bytes.js';
 import { NewTexts, importIntoFile, importRowsIntoFile } from '../../core/tasks/index.js';
-import { outcomesOf, rowOfListed } from './typed_text.js';
+import { outcomesOf, rowsOf } from './typed_text.js';
 
 /** @typedef {import('../app/state.js').PlainFile} PlainFile */
 /** @typedef {import('../../core/bytes.js').Piece} Piece */
@@ -50,11 +50,11 @@ export class PlainTexts {
     /**
      * Keeps the new texts of some texts at the places where they fit. Returns the outcomes, as putIntoScript does.
      * @param {KnownText[]} some
+     * @param {import('./known_texts.js').KnownTexts['news']} news
      * @param {RowOptions} options
      */
-    async put(some, options) {
-        const owners = new Map(some.filter(({ fresh }) => fresh !== '').flatMap(known =>
-            known.places.map(place => [rowOfListed(place, known.fresh), known])));
+    async put(some, news, options) {
+        const owners = rowsOf(some, news);
         const { changes, left } = await importRowsIntoFile(this.file.opened, [...owners.keys()], options);
         for (const { offset } of some.flatMap(({ places }) => places)) {
             this.rows.delete(offset);

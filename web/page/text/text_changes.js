@@ -15,15 +15,6 @@ import { sentence } from '../ui/index.js';
  *     redraw: () => void, failed: (error: unknown) => void }} ChangesOwner
  */
 
-/**
- * The current new texts of some that change.
- * @param {Change[]} changes
- * @returns {Change[]}
- */
-function currentOf(changes) {
-    return changes.map(({ known }) => ({ known, fresh: known.fresh }));
-}
-
 /** The typed texts of a list. */
 export class TextChanges {
     /**
@@ -99,7 +90,7 @@ export class TextChanges {
         const { list } = this;
         const others = changes.filter(({ known, fresh }) => fresh !== known.fresh);
         if (others.length === 0 || list === null) return;
-        this.noteChanges(currentOf(others));
+        this.noteChanges(others.map(({ known }) => list.texts.current(known)));
         this.put(list, others);
     }
 
@@ -120,9 +111,10 @@ export class TextChanges {
     turnBack(way) {
         const [from, to] = way === 'undo' ? [this.done, this.undone] : [this.undone, this.done];
         const last = from.pop();
-        if (last === undefined || this.list === null) return null;
-        to.push(currentOf(last));
-        this.put(this.list, last);
+        const { list } = this;
+        if (last === undefined || list === null) return null;
+        to.push(last.map(({ known }) => list.texts.current(known)));
+        this.put(list, last);
         return last[0].known;
     }
 
@@ -132,7 +124,7 @@ export class TextChanges {
      */
     put(list, changes) {
         if (changes.length === 0) return;
-        for (const { known, fresh } of changes) list.texts.type(known, fresh);
+        for (const change of changes) list.texts.type(change);
         this.typings += 1;
         this.owner.redraw();
         this.next(() => this.write(list, changes));

@@ -142,8 +142,9 @@ export class TextsTable {
         if (newTextOf !== null) await found.readNews(newTextOf, signal);
         const { app, plain } = this;
         const put = async (/** @type {KnownText[]} */ some) => {
-            if (plain !== null) return plain.put(some, options);
-            return this.moving.letsWait(list) ? waitingOutcomes(some) : putIntoScript(app, /** @type {Image} */ (image), some, options);
+            if (plain !== null) return plain.put(some, found.news, options);
+            return this.moving.letsWait(list) ? waitingOutcomes(some)
+                : putIntoScript(app, /** @type {import('./moved_script.js').DiscList} */ (list), some);
         };
         const list = { image, texts: found, options, ends: [...ends], areRecords, areLines, edits, put };
         if (!await this.known.replace(list)) return null;

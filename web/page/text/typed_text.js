@@ -8,12 +8,12 @@ import { isWritten, linesOfTexts } from './earlier_texts.js';
 import { lineBeside, rowsMerged } from './merged_rows.js';
 
 /** @typedef {import('../app/state.js').App} App */
-/** @typedef {import('../app/state.js').Image} Image */
 /** @typedef {import('../../core/texts/all_texts.js').ListedText} ListedText */
 /** @typedef {import('../../core/tasks/list_rows.js').ListRow} ListRow */
-/** @typedef {import('../../core/tasks/table.js').RowOptions} RowOptions */
 /** @typedef {import('./known_texts.js').KnownText} KnownText */
+/** @typedef {import('./known_texts.js').KnownTexts} KnownTexts */
 /** @typedef {import('./known_texts.js').Outcome} Outcome */
+/** @typedef {import('./moved_script.js').DiscList} DiscList */
 
 /**
  * The row of a list that gives a listed text a new text.
@@ -27,6 +27,18 @@ export function rowOfListed({ block, offset, room, encoding, text, fill = '' }, 
         list: '', unit: 'row', number: 0, place: '', block: isInFile ? 0 : block, isInFile, offset, room, encoding, fill, text, fresh,
         fault: null, isFuzzy: false,
     };
+}
+
+/**
+ * The rows of a list that give some texts their new ones, with these texts.
+ * @param {KnownText[]} some
+ * @param {KnownTexts['news']} news the new texts of places
+ */
+export function rowsOf(some, news) {
+    return new Map(some.flatMap(known => known.places.flatMap(place => {
+        const fresh = news.get(place) || '';
+        return fresh === '' ? [] : [/** @type {[ListRow, KnownText]} */ ([rowOfListed(place, fresh), known])];
+    })));
 }
 
 /**
@@ -47,20 +59,20 @@ function rangeOf({ block, offset, bytes, room }) {
 }
 
 /**
- * Puts the new texts of some texts into the script, at the places where they fit, and removes the lines of those that have none any more.
- * Returns at how many places each is written, and why not at the others.
+ * Puts the new texts of some texts of a list into the script, at the places where they fit, and removes the lines of places that have none
+ * any more. Returns at how many places each is written, and why not at the others.
  * @param {App} app
- * @param {Image} image
+ * @param {DiscList} list
  * @param {KnownText[]} some
- * @param {RowOptions} options
  */
-export async function putIntoScript(app, image, some, options) {
+export async function putIntoScript(app, list, some) {
+    const { image, texts: { news } } = list;
     const lines = await linesOfTexts(app, image);
     const others = new Map(some.map(known => [known, known.places.flatMap(it => lines.at(rangeOf(it)).others)[0]?.number || 0]));
     const free = some.filter(known => others.get(known) === 0);
-    const removed = free.flatMap(({ fresh, places }) => fresh === '' ? places.flatMap(it => lines.at(rangeOf(it)).own) : []);
+    const removed = free.flatMap(({ places }) => places.flatMap(it => news.get(it) === '' ? lines.at(rangeOf(it)).own : []));
     if (removed.length > 0 && app.image === image) app.changeScript(own => own.remove(new Set(removed.map(({ text }) => text))));
-    const outcomes = await putNewTexts(app, image, free.filter(({ fresh }) => fresh !== ''), options);
+    const outcomes = await putNewTexts(app, list, free.filter(({ fresh }) => fresh !== ''));
     for (const [known, line] of others) if (line > 0) outcomes.set(known, writtenBy(line));
     return outcomes;
 }
@@ -68,18 +80,18 @@ export async function putIntoScript(app, image, some, options) {
 /**
  * Like putIntoScript, for texts with new ones. If a line that begins elsewhere writes at one of their places, each is put by itself.
  * @param {App} app
- * @param {Image} image
+ * @param {DiscList} list
  * @param {KnownText[]} some
- * @param {RowOptions} options
  * @returns {Promise<Map<KnownText, Outcome>>}
  */
-async function putNewTexts(app, image, some, options) {
-    const owners = new Map(some.flatMap(known => known.places.map(place => [rowOfListed(place, known.fresh), known])));
+async function putNewTexts(app, list, some) {
+    const { image, options } = list;
+    const owners = rowsOf(some, list.texts.news);
     const { script, left } = await importRows(app, image.opened, [...owners.keys()], options);
     const line = lineBeside(app, script);
     if (line > 0 && some.length > 1) {
         const each = [];
-        for (const known of some) each.push(...await putNewTexts(app, image, [known], options));
+        for (const known of some) each.push(...await putNewTexts(app, list, [known]));
         return new Map(each);
     }
     if (line > 0) return new Map([[some[0], writtenBy(line)]]);
@@ -95,12 +107,13 @@ async function putNewTexts(app, image, some, options) {
  */
 export function outcomesOf(owners, left, remarkOn = () => '') {
     /** @type {Map<KnownText, Outcome>} */
-    const outcomes = new Map(Array.from(owners.values(), known => [known, { written: known.places.length, why: '' }]));
-    for (const { text: row, why } of left) {
-        const outcome = outcomes.get(/** @type {KnownText} */ (owners.get(row)));
-        if (outcome === undefined) continue;
-        outcome.written -= 1;
-        outcome.why = outcome.why || leftWords(why) + remarkOn(row);
+    const outcomes = new Map();
+    const whys = new Map(left.map(({ text: row, why }) => [row, leftWords(why) + remarkOn(row)]));
+    for (const [row, known] of owners) {
+        const { written, why } = outcomes.get(known) || { written: 0, why: '' };
+        const own = whys.get(row);
+        const isSame = own === undefined && row.fresh === known.fresh;
+        outcomes.set(known, { written: written + Number(isSame), why: why || own || '' });
     }
     return outcomes;
 }

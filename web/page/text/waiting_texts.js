@@ -58,7 +58,7 @@ export function noteLeft({ texts: own }, left) {
     for (const { text: row, why } of left) {
         const known = own.at(row);
         if (known === undefined || row.fresh === '') continue;
-        own.type(known, row.fresh);
+        own.type({ known, fresh: row.fresh });
         own.note(known, row.fresh, { written: 0, why: leftWords(why) });
     }
 }
