@@ -129,6 +129,24 @@ class TypedTexts(PageTest):
         self.becomes(1, 2, 'Go.')
         self.browser.wait('#panel-text .meter', '1 of 4 done')
 
+    def test_an_undo_in_the_panel_script_while_a_text_is_being_put_into_the_script_is_read(self) -> None:
+        self.open_table(spoken_texts())
+        self.browser.click(self.field(1))
+        self.browser.press('Go.', Keys.ENTER)
+        self.browser.wait('#count-script', '6')
+        self.becomes(1, 4, '3 of ')
+        self.browser.click('#tab-script')
+        # The text does not fit, so only the panel Script changes the script.
+        self.browser.run('''const field = document.querySelector(arguments[0]);
+            field.value = 'much too long '.repeat(4);
+            field.dispatchEvent(new Event('change'));
+            for (let i = 0; i < 9; i++) await null;
+            const key = { key: 'z', ctrlKey: true, bubbles: true, cancelable: true };
+            document.querySelector('.editor textarea').dispatchEvent(new KeyboardEvent('keydown', key));
+            document.querySelector('#tab-text').click()''', self.field(2))
+        self.browser.wait('#panel-text [aria-pressed]:nth-child(3)', 'Do not fit 1')
+        common.waited(lambda: self.row(1)[2] == '', 'the table shows what the script does not have')
+
     def test_a_list_that_is_saved_while_an_import_is_read_does_not_take_it_back(self) -> None:
         image = self.open_table(spoken_texts())
         self.browser.click(self.field(1))

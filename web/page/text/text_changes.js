@@ -42,7 +42,7 @@ export class TextChanges {
         /** How often texts were typed, and how often before the last list that was saved. */
         this.typings = 0;
         this.saved = 0;
-        app.on('script', () => this.scriptChanged());
+        app.on('script', detail => this.scriptChanged(detail));
         app.on('panel', () => this.update());
     }
 
@@ -168,10 +168,12 @@ export class TextChanges {
         this.update();
     }
 
-    scriptChanged() {
+    /** @param {unknown} detail null if the panel Script was used */
+    scriptChanged(detail) {
+        const isOwn = this.isOwn && detail !== null;
         this.edits += 1;
-        if (this.isOwn) this.seen += 1;
-        this.isOwn = false;
+        this.seen += Number(isOwn);
+        this.isOwn = this.isOwn && !isOwn;
         this.update();
     }
 
