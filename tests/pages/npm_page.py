@@ -10,11 +10,19 @@ sys.path.insert(0, str(Path(__file__).resolve().parent.parent / 'page'))
 import chromium  # noqa: E402
 import common  # noqa: E402
 
+# The module comes late, so an image may be dropped before it.
+LATE = '''const ask = fetch;
+globalThis.fetch = async (...given) => {
+    await new Promise(done => setTimeout(done, 2000));
+    return ask(...given);
+};'''
+
 
 def main() -> None:
     package, image, script, patched = (Path(it).resolve() for it in sys.argv[1:])
     server, browser = common.Server(package), chromium.Chromium()
     try:
+        browser.before_pages(LATE)
         browser.open(f'{server.url}/example.html')
         browser.type('#script', script.read_text())
         browser.drop('h1', [image])
