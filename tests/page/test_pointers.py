@@ -216,6 +216,19 @@ class Pointers(PointersPage):
         common.waited(lambda: self.browser.run('return reads > 0'), 'nothing is read')
         return image
 
+    def test_make_the_script_waits_for_pointers_that_are_being_read(self) -> None:
+        self.open_table(pointed.game())
+        self.find_tables()
+        self.let_move()
+        self.type_text(1, LONG)
+        self.browser.run(f'{GATE} globalThis.held = 1')
+        self.browser.click('.pointers tbody tr:last-child input')
+        common.waited(lambda: self.browser.run('return reads > 0'), 'nothing is read')
+        self.press('Make the script')
+        self.browser.run('openGate()')
+        self.browser.wait(f'{CARD} [role=status]', common.text('textScriptHasAll'))
+        self.assertIn('set ', self.script_now())
+
     def test_an_import_while_the_script_is_being_made_comes_after_it(self) -> None:
         image = self.make_held()
         fresh = {2: f'{LONG} again', 5: 'The king'}
