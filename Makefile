@@ -1,6 +1,6 @@
 # `make help` prints the targets: the lines with ## here, below the headings ##@.
-.PHONY: all help try check quick test test-outside must-fail mutants fuzz bench web pages english design version map contracts audit clean
-.PHONY: program packages
+.PHONY: all help try check test test-outside must-fail mutants fuzz bench web pages english design version map contracts audit weight clean
+.PHONY: program packages toolchain
 
 # Targets are built one after another, in the given order. Crates are proved in parallel, at most N with `make -j N`.
 .NOTPARALLEL:
@@ -27,8 +27,11 @@ try: program                ## prove and build only the program, then patch and 
 	./cdpatch apply try/disc.bin try/changes.txt try/new.bin
 	./cdpatch audit try/new.bin
 
-check: packages             ## test the build and the pages; proves nothing, and skips tests whose optional packages are missing
-	@test -x '$(PROGRAM)' || { echo 'There is no $(PROGRAM) to test: run make first.' >&2; exit 1; }
+# What was built stays as it is, so that it is what is tested.
+BUILT = $(PROGRAM) library/libcdpatch.so.2 library/cdpatch.wasm cdscript cdpatch.html
+check: MAY_INSTALL = yes
+check: packages $(if $(filter-out $(wildcard $(BUILT)),$(BUILT)),all)  ## build what is missing, and test; skips tests whose packages are missing
+	@test -x '$(PROGRAM)' || { echo 'There is no $(PROGRAM) to test.' >&2; exit 1; }
 	PROGRAM='$(PROGRAM)' tests/run
 
 test:                       ## the merge gate: all proofs, wrong bodies, and tests
@@ -42,29 +45,30 @@ dist:                       ## pack the build: a tarball that installs without a
 	@bash tools/dist.sh '$(distdir)'
 
 clean:                      ## remove everything that was built
-	rm -rf try dist cdpatch cdscript cdpatch.html library windows arm64 completions bench/cd_bench crates/*/out
-	rm -f web/core/module/numbers.js python/cdpatch/_numbers.py
+	rm -rf out try dist cdpatch cdscript cdpatch.html library windows arm64 completions bench/cd_bench crates/*/out
+	rm -f web/core/module/numbers.ts python/cdpatch/_numbers.py
 
 ##@ To change cdpatch:
 help:                       ## print this list
 	@sed -nE 's/^([a-z0-9-]+):[^#]*## /  make \1\t/p; s/^##@ /\n/p' $(firstword $(MAKEFILE_LIST)) | expand -t 22
 	@printf '%s\n' '' 'Variables: CPU=x86-64-v3 (make), WHOLE=1 (make check), PREFIX=DIRECTORY (make install and make uninstall).'
 
-quick: all check            ## build everything, then test it
+toolchain:
+	@command -v rt > /dev/null || { echo 'There is no rt on the path: see "What a build needs" in README.md.' >&2; exit 1; }
+	@bash tools/fit.sh toolchain || true
 
 # tools/prove.py calls the module of rt, and is faster than rt.
-program:
-	@bash tools/fit.sh toolchain || true
+program: toolchain
 	@python3 tools/prove.py cdpatch '$(AT_ONCE)' '$(CPU)'
 	@cp crates/cdpatch/out/cdpatch cdpatch
 
-# `make try` does not need all of these.
+# `make try` does not need all of these. As root, `make check` installs them.
 packages:
+	@[ -z '$(MAY_INSTALL)' ] || [ "$$(id -u)" != 0 ] || bash tools/packages.sh --install build
 	@missing=$$(bash tools/packages.sh build | paste -sd ' '); [ -z "$$missing" ] || \
 	    { echo "make needs more packages of Debian: sudo apt-get install $$missing" >&2; exit 1; }
 
-cdpatch: packages
-	@bash tools/fit.sh toolchain || true
+cdpatch: packages toolchain
 	@python3 tools/prove.py 'cdpatch $(LIBRARY_CRATES)' '$(AT_ONCE)' '$(CPU)'
 	cp crates/cdpatch/out/cdpatch cdpatch
 	bash tools/library.sh library
@@ -132,6 +136,9 @@ contracts:                  ## print what each crate promises: its calls, their 
 
 audit:                      ## list the definitions to read, in order, to know what is proved
 	@python3 -B tools/pages.py audit
+
+weight:                     ## print lines, files, words, and bytes, beside those of 2.0.0
+	@python3 -B tools/weight.py
 
 # A release is a commit of its version, built by the tools that tools/versions.txt lists, and with all lines of tools/owner.txt, which only the
 # owner can fill in. `make release SIGN=KEY` signs its files with an ssh key.

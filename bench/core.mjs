@@ -3,15 +3,15 @@
 
 import { fstatSync, openSync, readFileSync, readSync, writeSync } from 'node:fs';
 import { Worker } from 'node:worker_threads';
-import { Pool, localWorker } from '../web/core/pool/index.js';
-import { openDisc } from '../web/core/disc/index.js';
-import { encodingOf } from '../web/core/encodings/index.js';
-import { filesOf } from '../web/core/iso/index.js';
-import { JOBS } from '../web/core/jobs/index.js';
-import { Calls } from '../web/core/module/index.js';
-import { auditText } from '../web/core/sectors/index.js';
-import { compareTrack, openTrack, repairTrack } from '../web/core/tasks/index.js';
-import { joinFound, sectorsBeyond } from '../web/core/texts/index.js';
+import { Pool, localWorker } from '../out/web/core/pool/index.js';
+import { openDisc } from '../out/web/core/disc/index.js';
+import { encodingOf } from '../out/web/core/encodings/index.js';
+import { filesOf } from '../out/web/core/iso/index.js';
+import { JOBS } from '../out/web/core/jobs/index.js';
+import { Calls } from '../out/web/core/module/index.js';
+import { auditText } from '../out/web/core/sectors/index.js';
+import { compareTrack, openTrack, repairTrack } from '../out/web/core/tasks/index.js';
+import { joinFound, sectorsBeyond } from '../out/web/core/texts/index.js';
 
 const [threads, job, ...paths] = process.argv.slice(2);
 const module = new WebAssembly.Module(readFileSync(new URL('../library/cdpatch.wasm', import.meta.url)));

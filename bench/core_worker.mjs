@@ -1,9 +1,9 @@
 // The thread of bench/core.mjs that runs jobs.
 
 import { parentPort, workerData } from 'node:worker_threads';
-import { serving, transfersOf } from '../web/core/pool/index.js';
-import { JOBS } from '../web/core/jobs/index.js';
-import { Calls } from '../web/core/module/index.js';
+import { serving, transfersOf } from '../out/web/core/pool/index.js';
+import { JOBS } from '../out/web/core/jobs/index.js';
+import { Calls } from '../out/web/core/module/index.js';
 
 const serve = serving(new Calls(workerData), JOBS);
 parentPort.on('message', message => {

@@ -29,18 +29,42 @@ static const uint8_t *mapped(const char *name, size_t *size) {
     return image == MAP_FAILED ? fail(strerror(errno)) : image;
 }
 
+static void print(const uint8_t *line, size_t size) {
+    if (fwrite(line, 1, size, stdout) != size)
+        fail("cannot write the text");
+}
+
+/* Prints the findings in the sectors, and the last line. Returns the status. */
+static int audit(const uint8_t *image, uint32_t sectors, uint16_t tail) {
+    uint8_t line[CDPATCH_LINE_SIZE];
+    uint32_t mode1 = 0, damaged = 0;
+    bool found = false;
+    for (uint32_t block = 0; block < sectors; block++, image += CDPATCH_SECTOR_SIZE) {
+        struct cdpatch_record it;
+        if (!cdpatch_survey(image, 1, block, &it, 1))
+            fail("cannot survey a sector");
+        mode1 += it.kind == CDPATCH_KIND_MODE1;
+        damaged += it.zeros || it.edc || it.p || it.q;
+        size_t size = cdpatch_audit_line(block, &it, line);
+        found = found || size > 0;
+        print(line, size);
+    }
+    print(line, cdpatch_audit_end(sectors, mode1, damaged, tail, line));
+    return found ? CDPATCH_STATUS_FOUND : CDPATCH_STATUS_DONE;
+}
+
 int main(int count, char **arguments) {
-    size_t size, length;
+    uint8_t line[CDPATCH_LINE_SIZE];
+    size_t size;
     if (count != 2)
         fail("usage: audit IMAGE");
     const uint8_t *image = mapped(arguments[1], &size);
-    size_t room = size / CDPATCH_SECTOR_SIZE * 40 + 100;
-    uint8_t *text = malloc(room);
-    if (!text)
-        fail("no memory");
-    enum cdpatch_status status = cdpatch_audit(image, size, 0, text, room, &length);
-    if (fwrite(text, 1, length, stdout) != length || fflush(stdout) != 0)
+    int status = CDPATCH_STATUS_FAILED;
+    if (size > CDPATCH_MOST_SECTORS * (size_t)CDPATCH_SECTOR_SIZE)
+        print(line, cdpatch_failure_line(CDPATCH_FAILURE_LONG_IMAGE, line));
+    else
+        status = audit(image, (uint32_t)(size / CDPATCH_SECTOR_SIZE), (uint16_t)(size % CDPATCH_SECTOR_SIZE));
+    if (fflush(stdout) != 0)
         fail("cannot write the text");
-    free(text);
-    return (int)status;
+    return status;
 }

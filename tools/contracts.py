@@ -64,8 +64,8 @@ def static_crates() -> frozenset[str]:
 
 def code_of(crate: str) -> list[Path]:
     """A crate's files of code, without its tests."""
-    files = sorted((TOP / 'crates' / crate / 'src').rglob('*.rt'))
-    return [file for file in files if 'tests' not in file.parts and file.name != 'tests.rt']
+    source = TOP / 'crates' / crate / 'src'
+    return [file for file in sorted(source.rglob('*.rt')) if 'tests' not in file.relative_to(source).parts and file.name != 'tests.rt']
 
 
 def first_paragraph(file: Path) -> str:

@@ -13,8 +13,8 @@ TOP = Path(__file__).resolve().parent.parent
 KINDS = {
     'pages': ('*.md', 'docs/*.md', 'docs/*.svg', 'man/*', 'bench/*.md', 'tests/README.md', 'tests/cases/README.md', 'web/npm/README.md',
               'tools/README.*', 'debian/control', 'debian/copyright', 'include/cdpatch.h'),
-    'help and messages': ('Makefile', 'crates/cd_args/src/help.rt', 'web/command/*.js', 'web/sentences/*.js'),
-    'the page': ('web/page/texts/english.js', 'web/page/texts/player/english.js'),
+    'help and messages': ('Makefile', 'crates/cd_args/src/help.rt', 'web/command/*.ts', 'web/sentences/*.ts'),
+    'the page': ('web/page/*.ts', 'web/page/*/*.ts', 'web/page/texts/player/english.ts'),
 }
 PATTERNS = {
     'stand, for be or occur': r'\b(?:stands?|stood|standing)\b',
@@ -43,7 +43,7 @@ def blank(found: re.Match[str]) -> str:
 def prose(path: Path) -> str:
     """The prose of a file at its original places, with each paragraph in one line."""
     text = path.read_text(encoding='utf-8')
-    if path.suffix in ('.js', '.rt'):
+    if path.suffix in ('.ts', '.rt'):
         text = re.sub(r'(?m)^\s*(?://|/?\*).*', blank, text)
         characters = [' '] * len(text)
         for found in STRINGS.finditer(text):

@@ -1,4 +1,4 @@
-"""Generates web/core/texts/frequencies.js, the frequencies of characters in Japanese man pages: `frequencies.py DIRECTORY..`.
+"""Generates web/core/texts/frequencies.ts, the frequencies of characters in Japanese man pages: `frequencies.py DIRECTORY..`.
 
 It was generated from those of Debian 12, in the packages manpages-ja, dpkg, apt, man-db, passwd, login, and vim-common, whose licences are
 free. It contains counts and none of their words: for each character log2(65536 * its share), from 0 bits up; and for kinds of characters,

@@ -1,7 +1,7 @@
 """Converts include/cdpatch.h for those that repeat it: `header.py numbers`, `header.py pages`, and `header.py check`. A DIRECTORY as the next
 argument names another tree.
 
-`numbers` writes web/core/module/numbers.js and python/cdpatch/_numbers.py if they change. They have all enumerators without `CDPATCH_`,
+`numbers` writes web/core/module/numbers.ts and python/cdpatch/_numbers.py if they change. They have all enumerators without `CDPATCH_`,
 those of a named enum as its members without the prefix that they share, and the sizes of structs and the places of their fields on x86-64,
 which are also those in the modules.
 
@@ -19,7 +19,7 @@ from typing import NamedTuple
 
 TOP = Path(__file__).resolve().parent.parent
 MADE = 'made by tools/header.py'
-SIZES = {'bool': 1, 'uint8_t': 1, 'uint16_t': 2, 'uint32_t': 4, 'uint64_t': 8, 'size_t': 8}
+SIZES = {'void *': 8, 'bool': 1, 'uint8_t': 1, 'uint16_t': 2, 'uint32_t': 4, 'uint64_t': 8, 'size_t': 8}
 LETTERS = {'bool': '?', 'uint8_t': 'B', 'uint16_t': 'H', 'uint32_t': 'I', 'uint64_t': 'Q', 'size_t': 'N'}
 LONGEST_LINE = 140
 PAGES = ('man/cdpatch.1', 'man/libcdpatch.3')
@@ -55,7 +55,8 @@ def unprefixed(members: dict[str, int]) -> dict[str, int]:
 def laid_out(body: str, numbers: dict[str, int]) -> tuple[list[Field], int]:
     """The fields of a struct, each at a multiple of its size, and the size of the struct, a multiple of its largest field."""
     fields, end, largest = [], 0, 1
-    for kind, name, count in re.findall(r'(\w+) (\w+)(?:\[(\w+)\])?;', body):
+    for kind, pointer, name, count in re.findall(r'(\w+) (\*?)(\w+)(?:\[(\w+)\])?;', body):
+        kind = 'void *' if pointer else kind
         size = SIZES[kind]
         end, largest = -(-end // size) * size, max(largest, size)
         items = int(count) if count.isdigit() else numbers[count.replace('CDPATCH_', '')] if count else 0
@@ -104,7 +105,7 @@ def javascript(header: Header) -> str:
 
 def python_type(field: Field) -> str:
     kind = f'ctypes.c_{field.kind.removesuffix("_t")}'
-    kind = 'ctypes.c_size_t' if field.kind == 'size_t' else kind
+    kind = {'size_t': 'ctypes.c_size_t', 'void *': 'ctypes.c_void_p'}.get(field.kind, kind)
     return f'{kind} * {field.items}' if field.items else kind
 
 
@@ -236,7 +237,7 @@ def main(job: str, tree: str = str(TOP)) -> int:
     header = Path(tree, 'include/cdpatch.h').read_text(encoding='utf-8')
     if job == 'numbers':
         found = read(header)
-        write(Path(tree, 'web/core/module/numbers.js'), javascript(found))
+        write(Path(tree, 'web/core/module/numbers.ts'), javascript(found))
         write(Path(tree, 'python/cdpatch/_numbers.py'), python(found))
         return 0
     status = 0

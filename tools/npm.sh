@@ -12,15 +12,16 @@ cd "$(dirname "$0")/.."
 scratch=$(mktemp -d)
 trap 'rm -rf "$scratch"' EXIT
 mkdir "$scratch/package"
+python3 -B tools/strip.py
 # joined OUT WORD..: bundles the interface and the core into one file.
 joined() {
-    esbuild web/npm/cdpatch.js --bundle --format=esm --platform=neutral --target=es2022 --charset=utf8 --keep-names \
+    esbuild out/web/npm/cdpatch.js --bundle --format=esm --platform=neutral --target=es2022 --charset=utf8 --keep-names \
         --legal-comments=none --log-level=warning --outfile="$scratch/package/$1" "$2"
 }
 joined cdpatch.js --external:node:fs/promises
-joined browser.js --alias:node:fs/promises=./web/npm/no_files.js
-tsc --allowJs --strict --declaration --emitDeclarationOnly --target es2022 --module es2022 --moduleResolution node --lib es2022,dom \
-    --outDir "$scratch/types" web/npm/cdpatch.js web/npm/node.d.ts
+joined browser.js --alias:node:fs/promises=./out/web/npm/no_files.js
+tsc --strict --declaration --emitDeclarationOnly --target es2022 --module es2022 --moduleResolution node --lib es2022,dom \
+    --outDir "$scratch/types" web/npm/cdpatch.ts web/npm/node.d.ts web/core/jobs/jobs.ts
 mkdir -p "$scratch"/package/types/{npm,core}
 cp "$scratch"/types/npm/{cdpatch,errors}.d.ts "$scratch/package/types/npm"
 cp -r "$scratch/types/core/module" "$scratch/package/types/core"

@@ -1,7 +1,7 @@
 #!/usr/bin/env python3
 """Generates files from the help of cdpatch, and from the jobs and options that `cdscript --forms` prints: `python3 tools/options.py
-completions DIRECTORY PROGRAM..` writes completions for three shells, `pages PROGRAM..` updates parts of the man pages and of the README,
-and `check PROGRAM..` prints which of these pages differ.
+completions DIRECTORY PROGRAM..` writes completions for three shells, `pages PROGRAM..` updates parts of the man pages, and
+`check PROGRAM..` prints which of these pages differ.
 
 In a page a part is between marks, such as `made: synopsis` and `end of synopsis`; tools/header.py generates other parts. In the lists
 of commands and options only the heads are generated. The prose below each is written by hand, and a new head gets its description in help.
@@ -322,18 +322,12 @@ def statuses_list(program: Program) -> list[str]:
             for line in [f'.It Cm {" , ".join(names)}', *textwrap.wrap(f'{found[0].upper()}{found[1:]}.', 78)]]
 
 
-def commands_table(program: Program) -> list[str]:
-    rows = [f'| `{program.name} {command.name} {" ".join(command.forms[0])}` | {command.says} |' for command in program.commands]
-    return ['', '| Command | What it does |', '|---|---|', *rows, '']
-
-
 def part(program: Program, name: str, lines: Sequence[str]) -> list[str]:
     """A generated part of a page, based on its current lines."""
     if name == 'synopsis':
         return synopsis(program)
-    made = {'table': commands_table, 'statuses': statuses_list}
-    if name in made:
-        return made[name](program)
+    if name == 'statuses':
+        return statuses_list(program)
     return made_list(lines, heads_of_commands(program) if name == 'commands' else heads_of_options(program))
 
 
@@ -343,11 +337,11 @@ def remade(text: str, program: Program) -> str:
         begin, name, lines, end = found.group(1), found.group(2), found.group(3).splitlines(), found.group(4)
         return begin + ''.join(f'{line}\n' for line in part(program, name, lines)) + end
 
-    return re.sub(r'(?ms)(^(?:\.\\" |<!-- )made: (synopsis|table|commands|options|statuses)(?: -->)?\n)(.*?)(^(?:\.\\" |<!-- )end of \2(?: -->)?$)', make, text)
+    return re.sub(r'(?ms)(^\.\\" made: (synopsis|commands|options|statuses)\n)(.*?)(^\.\\" end of \2$)', make, text)
 
 
-def pages_of(program: Program) -> list[Path]:
-    return [TOP / f'man/{program.name}.1'] + ([TOP / 'README.md'] if program.name == 'cdpatch' else [])
+def page_of(program: Program) -> Path:
+    return TOP / f'man/{program.name}.1'
 
 
 def main() -> int:
@@ -359,14 +353,14 @@ def main() -> int:
         return 0
     status = 0
     for program in programs:
-        for page in pages_of(program):
-            text = page.read_text(encoding='utf-8')
-            made = remade(text, program)
-            if job == 'pages':
-                page.write_text(made, encoding='utf-8')
-            elif made != text:
-                print(f'{page.relative_to(TOP)} is not as tools/options.py makes it of {program.name} --help')
-                status = 1
+        page = page_of(program)
+        text = page.read_text(encoding='utf-8')
+        made = remade(text, program)
+        if job == 'pages':
+            page.write_text(made, encoding='utf-8')
+        elif made != text:
+            print(f'{page.relative_to(TOP)} is not as tools/options.py makes it of {program.name} --help')
+            status = 1
     return status
 
 

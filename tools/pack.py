@@ -1,6 +1,6 @@
 """Packs an interface into one file by esbuild: `pack.py command MODULE OUT` builds cdscript from web/command, and `pack.py page MODULE OUT`
 builds cdpatch.html from web/page. The licence notices are the file NOTICES in the directory of MODULE, or the file that `--notices` names.
-`--web DIRECTORY` names another `web`. joined_command.js and joined_page.js define the object JOINED of the packed modules. The page has its
+It reads out/web, which it updates by strip.py, or what `--web DIRECTORY` names in its place, which is in JavaScript. joined_command.js and joined_page.js define the object JOINED of the packed modules. The page has its
 script gzipped, and page_loader.js, which starts it. The bytes depend only on these files and on the versions of esbuild and zlib, which
 `pack.py --versions` prints.
 
@@ -20,14 +20,15 @@ import hashlib
 import html
 import json
 import re
-import subprocess
 import sys
 import tempfile
 import zlib
 from pathlib import Path
 
+from strip import esbuild, stripped
+
 TOOLS = Path(__file__).resolve().parent
-LARGEST_PAGE = 440_000
+LARGEST_PAGE = 456_000
 NEEDS = 'cdscript needs node 18 or later'
 # The paths of modules can occur in the output, so esbuild finds all of them under fixed names. It would also use web/tsconfig.json.
 EVERY = ['--bundle', '--charset=utf8', '--legal-comments=none', '--log-level=warning', '--log-limit=0', '--loader:.gz=base64',
@@ -57,7 +58,7 @@ STYLE = '<link rel="stylesheet" href="style.css">'
 DATA = '<plaintext hidden id="data">\n'
 END = f'<script type="module" src="main.js"></script>\n{DATA}'
 # The text of a key in english.js, which may continue in indented lines.
-TEXT = r'''^export const {} = (['"].*(?:\n    .*)*);$'''
+TEXT = r'''^export const {} = (['"].*(?:\n +.*)*);$'''
 POLICY_TAG = '<meta http-equiv="Content-Security-Policy" content="'
 # The policy has the hashes of two scripts: the loader, which is in the page, and the script that it inflates and starts.
 POLICY = ("default-src 'none'; script-src '{scripts}' 'wasm-unsafe-eval'; style-src '{style}'; worker-src blob:; img-src data: blob:; "
@@ -65,19 +66,8 @@ POLICY = ("default-src 'none'; script-src '{scripts}' 'wasm-unsafe-eval'; style-
           "trusted-types cdpatch cdpatch-script")
 
 
-def esbuild(*words: str, at: Path = TOOLS) -> str:
-    """Runs esbuild and returns its output. A warning is an error."""
-    try:
-        ran = subprocess.run(['esbuild', *words], stdout=subprocess.PIPE, stderr=subprocess.PIPE, check=False, cwd=at)
-    except FileNotFoundError:
-        sys.exit("pack.py: there is no esbuild (Debian's package esbuild)")
-    if ran.returncode or ran.stderr:
-        sys.exit(f'pack.py: {ran.stderr.decode().strip()}')
-    return ran.stdout.decode()
-
-
 def versions() -> list[str]:
-    return [f'esbuild {esbuild("--version").strip()}', f'zlib {zlib.ZLIB_RUNTIME_VERSION}']
+    return [f'esbuild {esbuild("--version", at=TOOLS).strip()}', f'zlib {zlib.ZLIB_RUNTIME_VERSION}']
 
 
 def read(path: Path) -> bytes:
@@ -88,8 +78,8 @@ def read(path: Path) -> bytes:
 
 
 def packed(content: bytes) -> bytes:
-    """The content gzipped. Blocks that end sooner than by default suit base64 beside text: the page is 1.5 KB smaller."""
-    packing = zlib.compressobj(9, zlib.DEFLATED, 16 + zlib.MAX_WBITS, memLevel=6)
+    """The content gzipped. Blocks that end sooner than by default suit base64 beside text: the page is 1 KB smaller."""
+    packing = zlib.compressobj(9, zlib.DEFLATED, 16 + zlib.MAX_WBITS, memLevel=7)
     return packing.compress(content) + packing.flush()
 
 
@@ -175,9 +165,9 @@ def main() -> None:
     words.add_argument('module', type=Path, help='the WebAssembly module')
     words.add_argument('out', type=Path)
     words.add_argument('--notices', type=Path)
-    words.add_argument('--web', type=Path, default=TOOLS.parent / 'web')
+    words.add_argument('--web', type=Path)
     given = words.parse_args()
-    text = packed_interface(given.interface, given.web, given.module, given.notices or given.module.with_name('NOTICES'))
+    text = packed_interface(given.interface, given.web or stripped(), given.module, given.notices or given.module.with_name('NOTICES'))
     given.out.write_text(text, 'utf-8', newline='\n')
     if given.interface == 'command':
         given.out.chmod(0o755)

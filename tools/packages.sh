@@ -33,6 +33,7 @@ install() {
 }
 
 if [ "${1-}" = --install ]; then
+    [ -n "$(missing "${@:2}")" ] || exit 0
     log=$(mktemp)
     trap 'rm -f "$log"' EXIT
     timeout 120 apt-get -qq update

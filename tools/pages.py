@@ -21,7 +21,7 @@ HEADLINE = ('crates/cd_image/src/applying.rt', 'crates/cd_stream/src/source.rt',
 THEOREM = ('crates/cd_memory/src/run.rt',)
 
 # The marks of a file's first comment: at each line, or at both ends. Files of other types have no row.
-LINES = {'.rt': '//[/!]', '.antt': '--', '.js': '//', '.mjs': '//', '.rs': '//!', '.sh': '#', '': '#'}
+LINES = {'.rt': '//[/!]', '.antt': '--', '.js': '//', '.ts': '//', '.mjs': '//', '.rs': '//!', '.sh': '#', '': '#'}
 C_COMMENT = r'/\*', r'\*/'
 ENDS = {'.py': ('"""', '"""'), '.c': C_COMMENT, '.h': C_COMMENT, '.css': C_COMMENT, '.map': C_COMMENT}
 
@@ -214,8 +214,8 @@ def figures() -> list[str]:
         ('wrong bodies of functions that the prover refuses (`crates/*/must-fail` and `wrong-bodies`)',
          str(len(list(TOP.glob('crates/*/must-fail/*.edit'))) + blocks('crates/*/wrong-bodies/*.edits'))),
         ('wrong definitions that a worked case refuses (`tests/wrong/definitions`)', str(blocks('tests/wrong/definitions/*.wrong'))),
-        ('lines of definitions to read for the headline of `apply`; more for the whole theorem',
-         f'{sum(map(lines_of, headline))}; {sum(map(lines_of, rest))}'),
+        ('lines of definitions to read for the headline of `apply`', str(sum(map(lines_of, headline)))),
+        ('more lines for the whole theorem', str(sum(map(lines_of, rest)))),
     ])
 
 
@@ -223,7 +223,7 @@ def audit_page() -> list[str]:
     """The files to read in order to know what is promised, each after those that it uses."""
     (headline, rest), types = reading()
     return ['# What to read', '', 'docs/TRUST.md says what the theorem is. `make contracts` prints what each crate promises.', *figures(),
-            '', '## For the headline of `apply`', '', f'Its contract stands in `{HEADLINE[0]}`.', *reading_table(headline),
+            '', '## For the headline of `apply`', '', f'Its contract is in `{HEADLINE[0]}`.', *reading_table(headline),
             '', '## For the whole theorem', '', f'It is the contract of `run_on_files` in `{THEOREM[0]}`, and adds these.',
             *reading_table(rest),
             '', '## Types and constants of the code that both name', '', *(f'- `{name}`' for name in types), '',

@@ -1,9 +1,9 @@
-"""Generates web/core/encodings/pairs.js, the decoding of pairs of bytes by browsers: `pairs.py > web/core/encodings/pairs.js`.
+"""Generates web/core/encodings/pairs.ts, the decoding of pairs of bytes by browsers: `pairs.py > web/core/encodings/pairs.ts`.
 
 It compares three decoders that share no code: Python's, node's (ICU), and Chromium's, which follows the Encoding Standard's index. Runs of
 codes that all decode alike are left to the engine; the standard's other characters are written out. Characters for private use are left
 out, and so are Hong Kong's characters before A1 and after F9 in Big5. EUC-KR's syllables before A1A1 follow a rule, in
-web/core/encodings/euc_kr.js.
+web/core/encodings/two_bytes.ts.
 """
 
 import html
@@ -97,8 +97,8 @@ def main() -> None:
     codes = {label: [lead << 8 | trail for lead in leads for trail in trails] for label, _, leads, trails in SETS}
     node, standard = node_texts(json.dumps(codes)), chromium_texts(json.dumps(codes))
     print('// Made by tools/pairs.py: of pairs of bytes, runs that each engine reads alike, from one code to another, and what runs of others mean.\n')
-    print('/** @type {Record<string, { same: [number, number][], own: [number, string][] }>} by the labels of the Encoding Standard */')
-    print('export const PAIRS = {')
+    print('/** By the labels of the Encoding Standard. */')
+    print('export const PAIRS: Record<string, { same: [number, number][], own: [number, string][] }> = {')
     for label, codec, _, _ in SETS:
         print(f"    '{label}': {{\n{table(codes[label], python_texts(codec, codes[label]), node[label], standard[label])}    }},")
     print('};')

@@ -11,23 +11,24 @@ from pathlib import Path
 
 TOP = Path(__file__).resolve().parent.parent
 FILES = ('README.md', 'tools/README.tarball.md', 'web/npm/README.md', 'docs/MODULES.md', 'man/cdpatch.1', 'man/cdscript.1', 'man/libcdpatch.3',
-         'debian/control', 'web/page/texts/english.js')
+         'debian/control', 'web/page/texts/english.ts')
 # Here a comment would be read too, so these are only compared.
 COMPARED = {'python/cdpatch/__init__.py': 'the Python package', 'include/cdpatch.h': 'the library', 'tools/README.windows.txt': 'Windows'}
-SENTENCE = re.compile(r'(?ms)^(\W*trust: ([\w ]+)\b.*?\n)(.*?)(^\W*end of trust)')
+SENTENCE = re.compile(r'(?ms)^(( *)\W*trust: ([\w ]+)\b.*?\n)(.*?)(^\W*end of trust)')
 
 
-def formatted(sentence: str, file: str, old: str) -> str:
-    """A sentence as the lines of a file, in place of old ones."""
+def formatted(sentence: str, file: str, old: str, indent: str) -> str:
+    """A sentence as the lines of a file, in place of old ones, with the indent of the mark before them."""
     plain = sentence.replace('`', '')
-    if file.endswith('.js'):
+    if file.endswith('.ts'):
         name = old.partition(' =')[0]
         lines = textwrap.wrap(plain, 120, drop_whitespace=False)
         return f'{name} =\n    ' + ' +\n    '.join(f"'{line}'" for line in lines) + ';\n'
     if file.endswith('control'):
         return textwrap.fill(plain, 78, initial_indent=' ', subsequent_indent=' ') + '\n'
     if file.endswith('.md'):
-        return textwrap.fill(sentence, 100 if 'tarball' in file else 140, break_on_hyphens=False) + '\n'
+        return textwrap.fill(sentence, 100 if 'tarball' in file else 140, initial_indent=indent, subsequent_indent=indent,
+                             break_on_hyphens=False) + '\n'
     return textwrap.fill(plain, 76, break_on_hyphens=False) + '\n'
 
 
@@ -38,7 +39,7 @@ def main(job: str, tree: str = str(TOP)) -> int:
     for file in FILES:
         path = Path(tree, file)
         text = path.read_text(encoding='utf-8')
-        made, count = SENTENCE.subn(lambda found: found[1] + formatted(sentences[found[2]], file, found[3]) + found[4], text)
+        made, count = SENTENCE.subn(lambda found: found[1] + formatted(sentences[found[3]], file, found[4], found[2]) + found[5], text)
         wrong += [file] if made != text or count == 0 else []
         if job == 'pages':
             path.write_text(made, encoding='utf-8')

@@ -22,7 +22,7 @@ The calls; help(cdpatch.patch) describes one in full:
     patch(reader, script, writer)    patches an image that is read from a file or a pipe, in little memory
     apply(image, script)             patches an image in memory or in a mapped file
     check(image, script)             reports what apply would do; with an empty image, it only raises Failed if the script is invalid
-    audit(image)                     the damaged sectors of an image, as `cdpatch audit` prints them
+    audit(image)                     the damaged sectors of an image, as `cdpatch audit` prints them, and their number
     listing(image)                   the runs of sectors of one kind, as `cdpatch list` prints them
 
     survey(sectors)                  a Record for each sector, with what audit and listing report
@@ -33,6 +33,7 @@ The calls; help(cdpatch.patch) describes one in full:
 
     kind(sector)                     one of KINDS
     address(block)                   the three bytes of a block's address
+    block(address)                   the block with an address
     is_consistent(sector)            whether it is a Mode 1 sector without any damage
     defect(sector)                   what is wrong with it: Intermediate field, EDC, parity
     broken(sector)                   which code words are broken
@@ -64,18 +65,18 @@ from ._errors import Damaged, Failed, NotMode1, OutOfRange, Refused
 from ._images import Patched, apply, audit, check, listing
 from ._library import Record, library
 from ._lines import audit_end, audit_line, listing_end, listing_line
-from ._numbers import LAST_BASE, SECTOR_SIZE, USER_SIZE
+from ._numbers import LAST_BASE, SECTOR_SIZE, USER_SIZE, Result
 from ._patching import Reader, Writer, patch
-from ._reports import Report
-from ._sectors import (FITS, KINDS, Broken, Choice, Defect, address, broken, correct_sector, defect, edc, encode, is_consistent, kind,
+from ._reports import Audit, Outcome, Report
+from ._sectors import (FITS, KINDS, Broken, Choice, Defect, address, block, broken, correct_sector, defect, edc, encode, is_consistent, kind,
                        merge_sector, rebuild, survey, with_address, with_parity, with_user)
 
 __version__ = '2.0.0'
 __all__ = [
-    'FITS', 'KINDS', 'LAST_BASE', 'SECTOR_SIZE', 'USER_SIZE', 'Broken', 'Choice', 'Damaged', 'Defect', 'Failed', 'NotMode1', 'OutOfRange',
-    'Patched', 'Reader', 'Record', 'Refused', 'Report', 'Writer', 'address', 'apply', 'audit', 'audit_end', 'audit_line', 'broken', 'check',
-    'correct_sector', 'defect', 'edc', 'encode', 'is_consistent', 'kind', 'library_version', 'listing', 'listing_end', 'listing_line',
-    'merge_sector', 'patch', 'rebuild', 'survey', 'with_address', 'with_parity', 'with_user',
+    'FITS', 'KINDS', 'LAST_BASE', 'SECTOR_SIZE', 'USER_SIZE', 'Audit', 'Broken', 'Choice', 'Damaged', 'Defect', 'Failed', 'NotMode1',
+    'OutOfRange', 'Outcome', 'Patched', 'Reader', 'Record', 'Refused', 'Report', 'Result', 'Writer', 'address', 'apply', 'audit', 'audit_end',
+    'audit_line', 'block', 'broken', 'check', 'correct_sector', 'defect', 'edc', 'encode', 'is_consistent', 'kind', 'library_version',
+    'listing', 'listing_end', 'listing_line', 'merge_sector', 'patch', 'rebuild', 'survey', 'with_address', 'with_parity', 'with_user',
 ]
 
 

@@ -4,7 +4,7 @@ from __future__ import annotations
 
 import ctypes
 import re
-from typing import Optional, Type
+from typing import Callable, Optional, Type
 
 from ._library import library
 from ._numbers import LINE_SIZE, Result
@@ -40,8 +40,13 @@ class OutOfRange(Refused):
 _REFUSALS: dict[int, Type[Refused]] = {Result.NOT_MODE1: NotMode1, Result.DAMAGED: Damaged, Result.OUT_OF_RANGE: OutOfRange}
 
 
+def text_of(call: Callable[..., int], *arguments: object) -> str:
+    """The text that a call writes to its last argument."""
+    text = ctypes.create_string_buffer(LINE_SIZE)
+    size = call(*arguments, text)
+    return text.raw[:size].decode()
+
+
 def refusal(result: int) -> Refused:
     """Converts the result of a change to an error with the library's message."""
-    text = ctypes.create_string_buffer(LINE_SIZE)
-    size: int = library.cdpatch_result_text(result, text)
-    return _REFUSALS[result](text.raw[:size].decode())
+    return _REFUSALS[result](text_of(library.cdpatch_result_text, result))

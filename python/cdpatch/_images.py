@@ -3,72 +3,102 @@
 from __future__ import annotations
 
 import ctypes
-from typing import TYPE_CHECKING, Callable, NamedTuple, Optional, overload
+import re
+from typing import TYPE_CHECKING, NamedTuple, Optional, Sequence, Tuple, overload
 
-from ._errors import Failed
-from ._library import library
+from ._errors import Failed, text_of
+from ._library import Record, library, records_type
+from ._lines import audit_end, audit_line, listing_end, listing_line
 from ._memory import Held
-from ._numbers import SECTOR_SIZE, Status
-from ._reports import Report, checked_base
-from ._running import run
+from ._numbers import MOST_SECTORS, SECTOR_SIZE, Failure, RecordStruct, SectorKind
+from ._reports import Audit, Outcome, Report, checked_base
+from ._running import Job
+from ._sectors import KINDS
 
 if TYPE_CHECKING:
     from _typeshed import ReadableBuffer, WriteableBuffer
 
+_MOST_SIZE = MOST_SECTORS * SECTOR_SIZE
+_RECORD_SIZE = ctypes.sizeof(RecordStruct)
+_TRIED = 27  # sectors of which `check` has a copy
+
 
 class Patched(NamedTuple):
-    """The result of `apply`: the new image, what `cdpatch apply` prints, and whether a patch was refused."""
+    """The result of `apply`: the new image, what `cdpatch apply` prints, whether a patch was refused, and the outcome of each patch."""
     image: bytearray
     text: str
     found: bool
+    outcomes: Tuple[Outcome, ...]
 
 
-class _InMemory:
-    """An image in memory, and the new image, if one is written. Both may be in the same place."""
-
-    def __init__(self, image: Held, new: Optional[Held]) -> None:
-        self.image = image
-        self.new = new
-
-    def read(self, at: int, size: int, address: int) -> int:
-        ctypes.memmove(address, self.image.place + at, size)
-        return size
-
-    def copy(self, at: int, size: int) -> int:
-        return size if self.new is self.image else self.write(at, size, self.image.place + at)
-
-    def write(self, at: int, size: int, address: int) -> int:
-        if self.new is not None:
-            ctypes.memmove(self.new.place + at, address, size)
-        return size
-
-
-def _reported(call: Callable[..., int], image: ReadableBuffer, base: int) -> Report:
-    """Returns what a command prints about the sectors of an image, and whether its status is 1. The buffer has the size that cdpatch.h
-    gives for the longest text."""
-    with Held(image) as held:
-        text, length = bytearray(100 + 40 * (held.size // SECTOR_SIZE)), ctypes.c_size_t()
-        with Held(text, writable=True) as room:
-            status = call(held, held.size, checked_base(base), room, room.size, ctypes.byref(length))
-    printed = str(memoryview(text)[:length.value], 'ascii')
-    if status == Status.FAILED:
-        raise Failed(printed.rstrip('\n'))
-    return Report(printed, status == Status.FOUND)
+def _surveyed(image: Held, base: int) -> ctypes.Array[Record]:
+    """The records of all sectors. Raises Failed if the image is too long."""
+    count = image.size // SECTOR_SIZE
+    if image.size > _MOST_SIZE:
+        raise Failed(text_of(library.cdpatch_failure_line, Failure.LONG_IMAGE).rstrip('\n'))
+    records = records_type(count)()
+    if not library.cdpatch_survey(image, count, base, records, count):
+        raise RuntimeError('libcdpatch surveyed nothing')
+    return records
 
 
 def listing(image: ReadableBuffer, base: int = 0) -> str:
     """Returns what `cdpatch list` prints: the runs of sectors of one kind, in an image of any size whose first sector is block `base`.
 
     Raises Failed if the base is not 0 to 449849, or if the image has more than 2352000000 bytes, which is 1000000 sectors."""
-    return _reported(library.cdpatch_list, image, base).text
+    base = checked_base(base)
+    with Held(image) as held:
+        kinds, tail = bytes(_surveyed(held, base))[::_RECORD_SIZE], held.size % SECTOR_SIZE
+    runs = re.finditer(rb'(?s)(.)\1*', kinds)
+    lines = [listing_line(base + run.start(), base + run.end() - 1, KINDS[run[1][0]]) for run in runs]
+    return ''.join(lines) + listing_end(len(kinds), tail)
 
 
-def audit(image: ReadableBuffer, base: int = 0) -> Report:
-    """Returns what `cdpatch audit` prints about the Mode 1 sectors of an image of any size whose first sector is block `base`, and whether
-    it reports anything. A wrong address is reported too, but is not damage.
+def _merged(records: bytes, fields: Sequence[str]) -> bytes:
+    """A byte for each record, which is 0 if these fields are 0."""
+    places = [getattr(RecordStruct, field).offset for field in fields]
+    merged = 0
+    for place in places:
+        merged |= int.from_bytes(records[place::_RECORD_SIZE], 'little')
+    return merged.to_bytes(len(records) // _RECORD_SIZE, 'little')
+
+
+def audit(image: ReadableBuffer, base: int = 0) -> Audit:
+    """Returns what `cdpatch audit` prints about the Mode 1 sectors of an image of any size whose first sector is block `base`, whether it
+    reports anything, and its numbers. A wrong address is reported too, but is not damage.
 
     Raises Failed if the base is not 0 to 449849, or if the image has more than 2352000000 bytes, which is 1000000 sectors."""
-    return _reported(library.cdpatch_audit, image, base)
+    base = checked_base(base)
+    with Held(image) as held:
+        records, tail = _surveyed(held, base), held.size % SECTOR_SIZE
+    data = bytes(records)
+    mode1 = data[::_RECORD_SIZE].count(SectorKind.MODE1)
+    damaged = len(records) - _merged(data, ('zeros', 'edc', 'p', 'q')).count(0)
+    found = [it.start() for it in re.finditer(rb'[^\0]', _merged(data, ('address', 'zeros', 'edc', 'p', 'q')))]
+    lines = [audit_line(base + i, records[i]) for i in found]
+    text = ''.join(lines) + audit_end(len(records), mode1, damaged, tail)
+    return Audit(text, bool(found), len(records), mode1, damaged, tail)
+
+
+class _Window:
+    """Copies of the sectors that the next patches touch. Sectors stay in it as long as a patch may touch them, with what the patches before
+    it have changed."""
+
+    def __init__(self, image: Held, base: int) -> None:
+        self.image = image
+        self.bytes = ctypes.create_string_buffer(_TRIED * SECTOR_SIZE)
+        self.place = ctypes.addressof(self.bytes)
+        self.base, self.first, self.end = base, base, base
+
+    def move(self, first: int, end: int) -> None:
+        """Moves the window forward to these blocks, or to more of them, if it has more."""
+        kept = max(self.end, first)
+        ctypes.memmove(self.place, self.place + (first - self.first) * SECTOR_SIZE if kept > first else self.place,
+                       (kept - first) * SECTOR_SIZE)
+        if end > kept:
+            ctypes.memmove(self.place + (kept - first) * SECTOR_SIZE, self.image.place + (kept - self.base) * SECTOR_SIZE,
+                           (end - kept) * SECTOR_SIZE)
+        self.first, self.end = first, max(kept, end)
 
 
 def check(image: ReadableBuffer, script: ReadableBuffer, base: int = 0, carry: bool = False) -> Report:
@@ -77,8 +107,16 @@ def check(image: ReadableBuffer, script: ReadableBuffer, base: int = 0, carry: b
     raises nothing, and the report, which refuses each patch, has no meaning.
 
     Raises Failed as `apply` does."""
+    job = Job(script, base, carry)
     with Held(image) as held:
-        return run(_InMemory(held, None), held.size, script, base, carry)
+        window, end = _Window(held, job.base), job.base + min(held.size // SECTOR_SIZE, MOST_SECTORS)
+        is_long = held.size > _MOST_SIZE
+        while (blocks := job.next_blocks(_TRIED)) is not None and not (is_long and blocks[1] > end):
+            window.move(*(min(max(block, job.base), end) for block in blocks))
+            job.apply(window.first, window.place, window.end - window.first, window.end == end and not is_long)
+    if is_long:
+        job.fail(Failure.LONG_IMAGE)
+    return job.report()
 
 
 @overload
@@ -97,14 +135,12 @@ def apply(image: ReadableBuffer, script: ReadableBuffer, base: int = 0, carry: b
     prints, and whether a patch was refused. The new image has all patches that were not refused. With `carry`, patches of damaged sectors
     are applied too, and the damage stays. A `rebuild` removes damage with or without `carry`.
 
-    A line `# base N` in the script is a comment, and has no effect: pass N as `base`.
-
     With `out`, for example a mapped new file, the new image is written to its first bytes, its other bytes do not change, and the result is
-    a Report, which has no image. The call also needs memory for the log (at most 5243080 bytes, twice), 20 bytes for each patch, and a copy
-    of a script that is not `bytes`.
+    a Report, which has no image. The call also needs memory for the log (at most 5243080 bytes, twice), for an entry and an outcome of each
+    patch, and for a copy of a script that is not `bytes`.
 
-    Raises Failed if the base is not 0 to 449849, if the script is invalid or too long, or if the image has more than 2352000000 bytes.
-    `out` then begins with a prefix of the new image, which may be empty.
+    Raises Failed if the base is not 0 to 449849; if the script is invalid, too long, or has a line such as `# base 150` that names another
+    base; or if the image has more than 2352000000 bytes. `out` then begins with a prefix of the new image, which may be empty.
 
     Raises ValueError, and writes nothing, if `out` is smaller than the image, or shares bytes with the image or the script. If `out` is
     read-only, its type decides the error: BufferError, or ValueError for an array of numpy."""
@@ -114,7 +150,17 @@ def apply(image: ReadableBuffer, script: ReadableBuffer, base: int = 0, carry: b
     with Held(image):  # Refuses an object whose bytes are not contiguous, as every other call does; bytearray would copy it.
         made = bytearray(memoryview(image))
     with Held(made, writable=True) as held:
-        return Patched(made, *run(_InMemory(held, held), held.size, script, base, carry))
+        return Patched(made, *_patched(Job(script, base, carry), held))
+
+
+def _patched(job: Job, image: Held, size: Optional[int] = None) -> Report:
+    """Patches an image in place, which has `size` bytes of a larger buffer."""
+    size = image.size if size is None else size
+    is_long = size > _MOST_SIZE
+    job.apply(job.base, image.place, min(size, _MOST_SIZE) // SECTOR_SIZE, not is_long)
+    if is_long:
+        job.fail(Failure.LONG_IMAGE)
+    return job.report()
 
 
 def _applied(image: ReadableBuffer, script: ReadableBuffer, base: int, carry: bool, out: WriteableBuffer) -> Report:
@@ -123,4 +169,6 @@ def _applied(image: ReadableBuffer, script: ReadableBuffer, base: int, carry: bo
             raise ValueError(f'out has {new.size} bytes, and the image {old.size}')
         if new.overlaps(old) or new.overlaps(text):
             raise ValueError('out overlaps the image or the script')
-        return run(_InMemory(old, new), old.size, script, base, carry)
+        job = Job(script, base, carry)
+        ctypes.memmove(new.place, old.place, old.size)
+        return _patched(job, new, old.size)

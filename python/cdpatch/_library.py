@@ -54,7 +54,6 @@ def records_of(data: bytes) -> ctypes.Array[Record]:
 
 _SHORT, _NUMBER, _LONG, _SIZE = ctypes.c_uint16, ctypes.c_uint32, ctypes.c_uint64, ctypes.c_size_t
 _FLAG, _POINTER = ctypes.c_bool, ctypes.c_void_p
-_TEXT_OF_IMAGE = (_POINTER, _SIZE, _NUMBER, _POINTER, _SIZE, _POINTER)
 
 # The types of the result and the arguments of each call that this package uses.
 CALLS = {
@@ -63,6 +62,7 @@ CALLS = {
     'edc': (_NUMBER, _POINTER, _SIZE),
     'kind': (_NUMBER, _POINTER),
     'address': (_FLAG, _NUMBER, _POINTER),
+    'block': (_FLAG, _POINTER, _POINTER),
     'encode': (None, _POINTER, _POINTER, _POINTER),
     'fill_parity': (None, _POINTER),
     'is_consistent': (_FLAG, _POINTER),
@@ -76,14 +76,17 @@ CALLS = {
     'carry_address': (_NUMBER, _POINTER, _POINTER),
     'merge_sector': (_NUMBER, _POINTER, _POINTER, _POINTER, _SIZE, _POINTER),
     'correct_sector': (_FLAG, _POINTER),
-    'run_begin': (_SIZE, _POINTER, _POINTER, _SIZE, _NUMBER, _LONG, _NUMBER, _POINTER, _SIZE),
-    'run_next': (None,),  # Gets only ctypes values: converting Python numbers takes longer than many steps.
+    'index_script': (_NUMBER, _POINTER, _SIZE, _POINTER, _SIZE, _POINTER),
+    'script_base': (_FLAG, _POINTER, _SIZE, _NUMBER, _POINTER),
+    'apply_entries': (_NUMBER, _POINTER, _POINTER, _SIZE, _POINTER, _SIZE, _POINTER),
+    'outcome_line': (_SIZE, _NUMBER, _NUMBER, _NUMBER, _SHORT, _POINTER),
+    'last_line': (_SIZE, _NUMBER, _NUMBER, _POINTER),
+    'fault_line': (_SIZE, _NUMBER, _NUMBER, _POINTER),
+    'failure_line': (_SIZE, _NUMBER, _POINTER),
     'list_line': (_SIZE, _NUMBER, _NUMBER, _NUMBER, _POINTER),
     'list_end': (_SIZE, _NUMBER, _SHORT, _POINTER),
     'audit_line': (_SIZE, _NUMBER, ctypes.POINTER(Record), _POINTER),
     'audit_end': (_SIZE, _NUMBER, _NUMBER, _NUMBER, _SHORT, _POINTER),
-    'list': (_NUMBER, *_TEXT_OF_IMAGE),
-    'audit': (_NUMBER, *_TEXT_OF_IMAGE),
 }
 
 

@@ -4,22 +4,12 @@ from __future__ import annotations
 
 import ctypes
 from operator import index
-from typing import Callable, Union
 
+from ._errors import text_of
 from ._library import LARGEST_NUMBER, Record, library
-from ._numbers import LINE_SIZE
 from ._sectors import KINDS
 
 _LARGEST_TAIL = 2 ** 16 - 1
-
-Argument = Union[int, 'ctypes._Pointer[Record]']
-
-
-def _line(call: Callable[..., int], *given: Argument) -> str:
-    """The line that a call writes, with its line feed, or an empty text if it writes none."""
-    text = ctypes.create_string_buffer(LINE_SIZE)
-    size = call(*given, text)
-    return text.raw[:size].decode()
 
 
 def _number(given: int, most: int = LARGEST_NUMBER) -> int:
@@ -35,7 +25,7 @@ def listing_line(first: int, last: int, kind: str) -> str:
     the kind is not in KINDS, if `last` is less than `first`, or if a block is not 0 to 4294967295."""
     if kind not in KINDS:
         raise ValueError(f'kind must be one of {", ".join(KINDS)}, not {kind!r}')
-    line = _line(library.cdpatch_list_line, _number(first), _number(last), KINDS.index(kind))
+    line = text_of(library.cdpatch_list_line, _number(first), _number(last), KINDS.index(kind))
     if not line:
         raise ValueError(f'there are no blocks from {first} to {last}')
     return line
@@ -44,7 +34,7 @@ def listing_line(first: int, last: int, kind: str) -> str:
 def listing_end(sectors: int, tail: int) -> str:
     """Returns the last line of `listing`, with its line feed: the number of sectors, and the number of bytes after them. Raises
     ValueError if `sectors` is not 0 to 4294967295, or `tail` is not 0 to 65535. No other relation between the numbers is checked."""
-    return _line(library.cdpatch_list_end, _number(sectors), _number(tail, _LARGEST_TAIL))
+    return text_of(library.cdpatch_list_end, _number(sectors), _number(tail, _LARGEST_TAIL))
 
 
 def audit_line(block: int, record: Record) -> str:
@@ -52,11 +42,11 @@ def audit_line(block: int, record: Record) -> str:
     sector is not a Mode 1 sector, or if nothing is wrong with it. Raises ValueError if the block is not 0 to 4294967295."""
     if not isinstance(record, Record):
         raise TypeError(f'record must be a Record of survey, not {type(record).__name__}')
-    return _line(library.cdpatch_audit_line, _number(block), ctypes.pointer(record))
+    return text_of(library.cdpatch_audit_line, _number(block), ctypes.pointer(record))
 
 
 def audit_end(sectors: int, mode1: int, damaged: int, tail: int) -> str:
     """Returns the last line of `audit`, with its line feed: the number of sectors, of Mode 1 sectors, of damaged Mode 1 sectors, and of
     bytes after the sectors. Raises ValueError if `tail` is not 0 to 65535, or if another number is not 0 to 4294967295. No other relation
     between the numbers is checked."""
-    return _line(library.cdpatch_audit_end, _number(sectors), _number(mode1), _number(damaged), _number(tail, _LARGEST_TAIL))
+    return text_of(library.cdpatch_audit_end, _number(sectors), _number(mode1), _number(damaged), _number(tail, _LARGEST_TAIL))

@@ -7,14 +7,15 @@ import os
 import stat
 from typing import TYPE_CHECKING, Callable, Optional, Protocol, Tuple
 
+from ._numbers import MOST_SECTORS, SECTOR_SIZE, Failure
 from ._reports import Report
-from ._running import UNKNOWN_SIZE, run
+from ._running import Job
 
 if TYPE_CHECKING:
     from _typeshed import ReadableBuffer
 
-# The size of a pipe's buffer. Copying sector by sector took four times as long.
-MOST_HELD = 65536
+# As many sectors as the buffer of a pipe holds.
+_PIECE = 65536 // SECTOR_SIZE * SECTOR_SIZE
 
 
 class Reader(Protocol):
@@ -32,11 +33,16 @@ class Writer(Protocol):
 
 
 class _Streams:
-    """Reads an image from a reader, and writes the new image to a writer."""
+    """Reads an image from a reader, applies a script to it piece by piece, and writes the new image to a writer. A piece is in a buffer: the
+    sectors that were kept of the piece before it, which patches may have changed, and then those that were read."""
 
-    def __init__(self, reader: Reader, writer: Writer) -> None:
+    def __init__(self, reader: Reader, writer: Writer, job: Job) -> None:
         self.reader = reader
         self.writer = writer
+        self.job = job
+        self.buffer = ctypes.create_string_buffer(_PIECE)
+        self.place = ctypes.addressof(self.buffer)
+        self.first, self.held = job.base, 0  # the block of the first byte in the buffer, and the number of bytes there
 
     def _some(self, size: int) -> bytes:
         """The bytes of one read, at most `size`."""
@@ -58,23 +64,41 @@ class _Streams:
                 raise OSError(f'the writer took {taken} of {len(data)} bytes')
             data = data[taken:]
 
-    def read(self, at: int, size: int, address: int) -> int:
-        came = 0
-        while came < size and (data := self._some(size - came)):
-            ctypes.memmove(address + came, data, len(data))
-            came += len(data)
-        return came
+    def _fill(self) -> None:
+        while self.held < _PIECE and (data := self._some(_PIECE - self.held)):
+            ctypes.memmove(self.place + self.held, data, len(data))
+            self.held += len(data)
 
-    def copy(self, at: int, size: int) -> int:
-        came = 0
-        while came < size and (data := self._some(min(size - came, MOST_HELD))):
-            self._pass_on(data)
-            came += len(data)
-        return came
+    def _patch(self, is_last: bool) -> None:
+        """Applies the patches that fit to the sectors in the buffer, and writes what comes before the next patch."""
+        count = self.held // SECTOR_SIZE
+        self.job.apply(self.first, self.place, count, is_last)
+        blocks = self.job.next_blocks()
+        sent = count if blocks is None else min(count, blocks[0] - self.first)
+        size = self.held if is_last else sent * SECTOR_SIZE
+        self._pass_on(ctypes.string_at(self.place, size))
+        if size < self.held:
+            ctypes.memmove(self.place, self.place + size, self.held - size)
+        self.first += sent
+        self.held -= size
 
-    def write(self, at: int, size: int, address: int) -> int:
-        self._pass_on(ctypes.string_at(address, size))
-        return size
+    def run(self) -> Report:
+        """Patches the image to its end. If a read fails, the patches of the sectors that were read before it are done, and written."""
+        is_last = False
+        while not is_last:
+            try:
+                self._fill()
+            except Exception:
+                self._patch(False)
+                raise
+            most = (MOST_SECTORS + self.job.base - self.first) * SECTOR_SIZE
+            is_last = self.held < _PIECE and self.held <= most
+            if self.held > most:
+                self.held = most
+                self._patch(False)
+                self.job.fail(Failure.LONG_IMAGE)
+            self._patch(is_last)
+        return self.job.report()
 
 
 def _regular_file(stream: object) -> Optional[Tuple[int, int]]:
@@ -108,7 +132,7 @@ def _assert_different_files(reader: object, writer: object, log: object) -> None
 def patch(reader: Reader, script: ReadableBuffer, writer: Writer, base: int = 0, carry: bool = False, *,
           log: Optional[Callable[[str], object]] = None) -> Report:
     """Reads an image whose first sector is block `base`, applies a script to it, and writes the new image, which has the same size.
-    Returns what `cdpatch apply` prints, and whether a patch was refused. The new image has all patches that were not refused. With
+    Returns what `cdpatch apply` prints, whether a patch was refused, and the outcome of each patch. The new image has all patches that were not refused. With
     `carry`, patches of damaged sectors are applied too, and the damage stays. A `rebuild` removes damage with or without `carry`.
 
     `log`, for example `sys.stdout.write`, gets each line of the output as soon as it is known: the line of a patch before any sector from
@@ -122,11 +146,11 @@ def patch(reader: Reader, script: ReadableBuffer, writer: Writer, base: int = 0,
     is read or written, if both are the same object with a position or the same regular file, or if `log` is a method of one of these
     files.
 
-    Raises Failed, before anything is read or written, if the base is not 0 to 449849, or if the script is invalid or too long. To avoid an
-    empty file if the script is invalid, call `check(b'', script)` before you open `writer`.
+    Raises Failed, before anything is read or written, if the base is not 0 to 449849, or if the script is invalid, too long, or has a line
+    such as `# base 150` that names another base. To avoid an empty file if the script is invalid, call `check(b'', script)` before you open `writer`.
 
     Other errors can occur after a prefix of the new image was written: Failed, with the log so far, if the image has more than 2352000000
     bytes; OSError if the writer writes nothing; BlockingIOError if the reader has no bytes yet; ValueError if it returns more bytes than
     requested; and whatever `reader`, `writer`, and `log` raise."""
     _assert_different_files(reader, writer, log)
-    return run(_Streams(reader, writer), UNKNOWN_SIZE, script, base, carry, log)
+    return _Streams(reader, writer, Job(script, base, carry, log)).run()

@@ -85,6 +85,12 @@ def address(block: int) -> Optional[bytes]:
     return made.raw if has_one else None
 
 
+def block(address: ReadableBuffer) -> Optional[int]:
+    """Returns the block that has an address of 3 bytes, or None if no block has it. Raises ValueError for a different size."""
+    found = ctypes.c_uint32()
+    return found.value if library.cdpatch_block(lent(address, ADDRESS_SIZE), ctypes.byref(found)) else None
+
+
 def encode(address: ReadableBuffer, user: ReadableBuffer) -> bytes:
     """Returns the one consistent Mode 1 sector, 2352 bytes, that has any 3 bytes as its address and 2048 bytes of user data. Raises
     ValueError for other sizes."""
@@ -179,9 +185,10 @@ def merge_sector(address: ReadableBuffer, sector: ReadableBuffer, copies: Iterab
 
 
 def correct_sector(sector: ReadableBuffer) -> Optional[bytes]:
-    """Returns a damaged Mode 1 sector of 2352 bytes as its own P and Q parity corrects it, or None if that is not possible: Intermediate
-    field, EDC, and all parity are then right. The header and the EDC field are never changed, so the EDC confirms the result. Returns None
-    for a sector without damage, too, which is_consistent recognises. Raises ValueError for a different size.
+    """Returns a damaged Mode 1 sector of 2352 bytes as its own P and Q parity corrects it, or a sector with its sync field restored if
+    nothing else is wrong. Returns None if neither is possible. Intermediate field, EDC, and all parity are right in the result. The header
+    and the EDC field are never changed, so the EDC confirms the result. Returns None for a sector without damage, too, which is_consistent
+    recognises. Raises ValueError for a different size.
 
     Damage may be deliberate, so ask before you correct it."""
     made = _copied(sector)

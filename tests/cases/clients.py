@@ -181,7 +181,7 @@ class Python(Coat):
             stream = io.BytesIO()
             if [*package.patch(io.BytesIO(image), text, stream, base, carry), stream.getvalue()] != [*report, out]:
                 raise ValueError('by streams another image or log came')
-        printed, found = report
+        printed, found, *_ = report
         return int(found), printed.encode(), out and bytes(out)
 
     def edc(self, digits):

@@ -86,7 +86,7 @@ test('a cue sheet finds files in directories below it, and never outside', () =>
     assert.deepEqual((await scanned(room, 'set/old.cue'))[1], ['set/beside.bin']);
     for (const name of ['out', 'link', 'whole']) {
         const [status, names, errors] = await scanned(room, `set/${name}.cue`);
-        assert.deepEqual([status, names], [2, []]);
+        assert.deepEqual([status, names], [1, []]);
         assert.match(errors, /, which is not in the directory of the cue sheet\.\n$/);
     }
 }));
@@ -102,4 +102,43 @@ test('- is standard input for scan too', () => inDirectory(async room => {
     const image = imageOf(room, 20);
     const { status, stdout } = spawnSync(process.execPath, [command, 'scan', '-'], { input: image, cwd: room, encoding: 'utf8' });
     assert.deepEqual([status, stdout.split('\t').slice(0, 2), stdout.split('\t').slice(7)], [0, ['-', 'mode1 20'], [`${image.length}`, '-', '-', '-\n']]);
+}));
+
+/** Runs cdscript without threads. Returns its status, and how many bytes of files it read by their places. */
+function bytesRead(room, words) {
+    write(room, { 'count.cjs': `require('node:worker_threads').Worker = class { constructor() { throw new Error('EAGAIN'); } };
+        const fs = require('node:fs');
+        const { readSync } = fs;
+        let bytes = 0;
+        fs.readSync = (...given) => {
+            const length = readSync(...given);
+            if (typeof given[4] === 'number') bytes += length;
+            return length;
+        };
+        process.on('exit', () => fs.writeFileSync('bytes', String(bytes)));` });
+    const { status, stderr } = spawnSync(process.execPath, ['-r', './count.cjs', command, ...words], { cwd: room, encoding: 'utf8' });
+    assert.equal(stderr, '', words.join(' '));
+    return [status, Number(read(room, 'bytes'))];
+}
+
+test('an image is tested and hashed once, however many sheets, links, and tracks lead to it', () => inDirectory(async room => {
+    const image = imageOf(room, 8000);
+    const shapes = {
+        sheets: (set, count) => Array.from({ length: count }, (_, i) => write(set, { [`${i}.cue`]: sheet('z.bin') })),
+        links: (set, count) => Array.from({ length: count }, (_, i) => symlinkSync('z.bin', join(set, `${i}.bin`))),
+        tracks: (set, count) => write(set, { 'a.cue': `FILE "z.bin" BINARY\n${Array.from({ length: count }, (_, i) =>
+            ` TRACK ${String(i + 1).padStart(2, '0')} MODE1/2352\n INDEX 01 00:0${i}:00\n`).join('')}` }),
+    };
+    for (const [shape, make] of Object.entries(shapes)) {
+        const costs = [1, 8].map(count => {
+            const set = join(room, `${shape}${count}`);
+            mkdirSync(set);
+            write(set, { 'z.bin': image });
+            make(set, count);
+            return bytesRead(room, ['scan', `${shape}${count}`]);
+        });
+        assert.deepEqual(costs.map(([status]) => status), [0, 0], shape);
+        // To open a sheet reads samples of the image.
+        assert.ok(costs[1][1] < 3 * costs[0][1], `${shape}: ${costs}`);
+    }
 }));

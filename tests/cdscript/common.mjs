@@ -12,7 +12,10 @@ export const top = fileURLToPath(new URL('../..', import.meta.url));
 export const command = process.env.COMMAND ?? join(top, 'cdscript');
 export const program = process.env.PROGRAM ?? join(top, 'cdpatch');
 export const vectors = readFileSync(join(top, 'crates/cd_low_tests/data/cdrkit-8.bin'));
-const { main } = createRequire(import.meta.url)(command);
+
+// Loaded before a test replaces functions of node: in node 18, a module that is required later gives all importers those of that moment.
+const load = createRequire(import.meta.url);
+load(command);
 
 /** The table of encodings, in the order of their list; tests/core/common.mjs explains it. */
 export const ENCODINGS_KNOWN = JSON.parse(readFileSync(join(top, 'tests/encodings.json'), 'utf8'));
@@ -20,9 +23,18 @@ export const ENCODINGS_KNOWN = JSON.parse(readFileSync(join(top, 'tests/encoding
 /** The result of a process or a call: its status, and its standard streams as text and as bytes. */
 const ended = (status, out, errors) => ({ status, out: out.toString(), errors: errors.toString(), bytes: out });
 
+/** Writes a copy of cdscript whose threads begin at 8000 sectors: an image that is long enough for them is too large for most tests. */
+export function earlyCommand(directory) {
+    const text = readFileSync(command, 'utf8');
+    const early = text.replace(/\bSECTORS_FOR_THREADS ?= ?[\de]+/, 'SECTORS_FOR_THREADS=8000');
+    assert.notEqual(early, text);
+    write(directory, { early });
+    return join(directory, 'early');
+}
+
 /** Runs cdscript as a process. */
-export function runProcess(words, { cwd = '.', input } = {}) {
-    const done = spawnSync(process.execPath, [command, ...words], { cwd, input, maxBuffer: 1 << 28 });
+export function runProcess(words, { cwd = '.', input, file = command } = {}) {
+    const done = spawnSync(process.execPath, [file, ...words], { cwd, input, maxBuffer: 1 << 28 });
     return ended(done.signal ?? done.status, done.stdout, done.stderr);
 }
 
@@ -35,7 +47,8 @@ export function tool(name, words, { cwd = '.', input } = {}) {
 }
 
 /** Calls `main` in this process, with files of a directory as its standard streams. Calls `before` first and `after` last. */
-export async function call(directory, words, before = () => {}, after = () => {}) {
+export async function call(directory, words, before = () => {}, after = () => {}, file = command) {
+    const { main } = load(file);
     const names = ['stdout', 'stderr'].map(name => join(directory, name));
     const streams = { input: openSync('/dev/null', 'r'), output: openSync(names[0], 'w'), errors: openSync(names[1], 'w') };
     before();

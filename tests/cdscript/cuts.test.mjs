@@ -34,6 +34,11 @@ test('an image that is cut by whole sectors is no sound one', { skip }, () => in
         const line = `${sectors - less}-${sectors - 1} not in the image, though the volume has ${sectors} blocks${UNSURE}`;
         assert.deepEqual(await said(room, 'cut.bin'), { info: [line], status: 0, columns: [`mode1 ${sectors - less},short ${less} 0 0 0`], scanned: 0 });
     }
+    // Sectors are missing in the middle, so that those after them are at earlier blocks.
+    const image = read(room, 'disc.bin');
+    write(room, { 'hole.bin': Buffer.concat([image.subarray(0, 2352 * (big.block + 3)), image.subarray(2352 * (big.block + 13))]) });
+    const hole = `${sectors - 10}-${sectors - 1} not in the image, because the sectors after the missing ones are at earlier blocks`;
+    assert.deepEqual((await said(room, 'hole.bin')).info, [hole]);
     // A file continues beyond the end.
     const half = big.block + 10;
     const missing = `${half}-${sectors - 1} not in the image: /BIG.BIN continues there`;

@@ -31,7 +31,7 @@ test('an engine without vectors is refused by a sentence, here and in the npm pa
     const due = 'this JavaScript engine has no WebAssembly SIMD, which cdpatch needs, or the processor has no SSE4.1\n';
     const { status, stdout, stderr } = withoutVectors([command, 'info', 'image']);
     assert.deepEqual([status, stdout, stderr], [2, '', `cdscript: ${due}`]);
-    const load = `import(${JSON.stringify(new URL('../../web/npm/cdpatch.js', import.meta.url).href)}).then(({ load }) => load())`;
+    const load = `import(${JSON.stringify(new URL('../../out/web/npm/cdpatch.js', import.meta.url).href)}).then(({ load }) => load())`;
     assert.equal(withoutVectors(['-e', `${load}.catch(error => console.log(error.name, error.message))`]).stdout, `Fault ${due}`);
 }));
 

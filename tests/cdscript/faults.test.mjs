@@ -11,7 +11,7 @@ import { fileURLToPath } from 'node:url';
 
 // Must run before cdscript is loaded, which binds the calls.
 const faults = createRequire(import.meta.url)('./faulty.cjs');
-const { call, command, damaged, imageOf, inDirectory, program, read, run, sameFile, tool, write } = await import('./common.mjs');
+const { call, command, damaged, earlyCommand, imageOf, inDirectory, program, read, run, sameFile, tool, write } = await import('./common.mjs');
 const { makeDisc, skip } = await import('./discs.mjs');
 
 const preload = fileURLToPath(new URL('./faulty.cjs', import.meta.url));
@@ -34,10 +34,10 @@ async function makeRoom(room) {
 }
 
 /** Calls `main` with the files of a room. `hit` decides which calls fail. */
-async function faultyCall(room, streams, words, hit) {
+async function faultyCall(room, streams, words, hit, copy = undefined) {
     const named = words.map(word => existsSync(join(room, word)) && word !== '' ? join(room, word) : word === 'OUT' ? join(room, 'out') : word);
     const there = new Set(readdirSync(room));
-    const came = await call(streams, named, () => { faults.hit = hit; }, () => { faults.hit = () => null; });
+    const came = await call(streams, named, () => { faults.hit = hit; }, () => { faults.hit = () => null; }, copy);
     const left = readdirSync(room).filter(name => !there.has(name));
     const file = read(room, 'out');
     rmSync(join(room, 'out'), { force: true });
@@ -177,7 +177,7 @@ test('want of memory is said so, in a thread too', () => inDirectory(room => {
     const sector = imageOf(room, 1);
     write(room, { image: Buffer.concat(Array.from({ length: 9000 }, () => sector)) });
     const env = { ...process.env, NO_MEMORY: '1' };
-    const { status, stderr } = spawnSync(process.execPath, ['-r', preload, command, 'rebuilds', '--base', '0', 'image'], { cwd: room, env, encoding: 'utf8' });
+    const { status, stderr } = spawnSync(process.execPath, ['-r', preload, earlyCommand(room), 'rebuilds', '--base', '0', 'image'], { cwd: room, env, encoding: 'utf8' });
     assert.deepEqual([status, stderr], [2, 'cdscript: no memory\n']);
 }));
 
@@ -210,12 +210,13 @@ test('threads read for themselves, and what they can not read is read without th
     const image = imageOf(room, 9000);
     const hurt = damaged(image, 0, [3, 100], [8999, 2300]);
     write(room, { image, hurt });
+    const early = earlyCommand(room);
     const lengths = [];
-    const due = await faultyCall(room, streams, ['rebuilds', 'hurt'], (name, given) => void (name === 'readSync' && lengths.push(given[3])));
+    const due = await faultyCall(room, streams, ['rebuilds', 'hurt'], (name, given) => void (name === 'readSync' && lengths.push(given[3])), early);
     assert.equal(due.out, 'cdpatch 1\nrebuild 3\nrebuild 8999\n');
     assert.ok(Math.max(...lengths) < 100000, 'large reads are for threads');
     const withPreload = (words, env) => {
-        const { status, stdout, stderr } = spawnSync(process.execPath, ['-r', preload, command, ...words],
+        const { status, stdout, stderr } = spawnSync(process.execPath, ['-r', preload, early, ...words],
             { cwd: room, env: { ...process.env, ...env }, encoding: 'utf8' });
         return [status, stdout + stderr];
     };
@@ -260,11 +261,11 @@ test('a signal leaves no half file', () => inDirectory(async room => {
     for (const [signal, words] of [['SIGINT', ['apply', 'image', 'script', 'out']], ['SIGTERM', ['user', 'image', 'out']],
         ['SIGHUP', ['merge', 'image', 'image', 'out']]]) {
         const there = readdirSync(room);
-        const child = spawn(process.execPath, ['-r', preload, command, ...words], { cwd: room, env: { ...process.env, SLOW: '1000' }, stdio: 'ignore' });
+        const child = spawn(process.execPath, ['-r', preload, command, ...words], { cwd: room, env: { ...process.env, SLOW: '3000' }, stdio: 'ignore' });
         const ended = new Promise(resolve => child.on('exit', (_, by) => resolve(by)));
         const isBegun = await begun(room, there, 1);
         child.kill(signal);
-        const late = setTimeout(() => child.kill('SIGKILL'), 6000); // Writing the rest would take longer.
+        const late = setTimeout(() => child.kill('SIGKILL'), 20000); // Writing the rest would take longer.
         assert.deepEqual([isBegun, await ended], [true, signal]);
         clearTimeout(late);
         assert.deepEqual(readdirSync(room), there, signal);

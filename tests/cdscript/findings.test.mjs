@@ -3,12 +3,12 @@
 
 import assert from 'node:assert/strict';
 import { spawnSync } from 'node:child_process';
-import { mkdirSync, readdirSync, writeFileSync } from 'node:fs';
+import { mkdirSync, readdirSync, truncateSync, writeFileSync } from 'node:fs';
 import { join } from 'node:path';
 import { test } from 'node:test';
 import { harmlessVolume, recordOf, volumeOf } from '../core/strangers.mjs';
 import { MESSAGES } from '../lib/messages.mjs';
-import { command, damaged, imageOf, inDirectory, program, read, run, runProcess, sameFile, tool, write } from './common.mjs';
+import { command, damaged, earlyCommand, imageOf, inDirectory, program, read, run, runProcess, sameFile, tool, write } from './common.mjs';
 import { skip } from './discs.mjs';
 
 /** A copy of an image with blocks that a dumper has filled with one byte. */
@@ -47,13 +47,16 @@ test('a track of audio between tracks of data is no hole', () => inDirectory(asy
     assert.equal((await run(['merge', 'image.cue', 'image', 'out'], { cwd: room })).status, 0);
 }));
 
-test('a file that the sheet names and that is not there is a finding of info', () => inDirectory(async room => {
+test('a file that the sheet names and that is not there is a finding of info and scan', () => inDirectory(async room => {
     write(room, { 'one.bin': imageOf(room, 20), 'set.cue': 'FILE "one.bin" BINARY\n TRACK 01 MODE1/2352\n INDEX 01 00:00:00\n' +
         'FILE "two.bin" BINARY\n TRACK 02 AUDIO\n INDEX 01 00:00:00\n' });
     const { status, out } = await run(['info', 'set.cue'], { cwd: room });
     assert.equal(status, 1);
     assert.match(out, /\ntrack 2 AUDIO in the missing file two.bin\n/);
-    assert.match((await run(['scan', 'set.cue'], { cwd: room })).errors, /^cdscript: track 2 of set\.cue is in the missing file two\.bin$/m);
+    write(room, { 'gone.cue': 'FILE "gone.bin" BINARY\n TRACK 01 MODE1/2352\n INDEX 01 00:00:00\n' });
+    const due = ['cdscript: gone.cue names gone.bin, which is not in the directory of the cue sheet.', 'cdscript: track 2 of set.cue is in the missing file two.bin'];
+    const scan = await run(['scan', 'set.cue', 'gone.cue'], { cwd: room });
+    assert.deepEqual([scan.status, scan.errors.split('\n').filter(Boolean).sort()], [1, due]);
 }));
 
 test('diff --partial leaves out what no script can make', () => inDirectory(async room => {
@@ -125,9 +128,9 @@ test('a file that only seems to be empty is read', () => inDirectory(async room 
 }));
 
 /** Runs a job with this class in place of node's threads. */
-function withThreads(room, name, maker, words, input) {
+function withThreads(room, name, maker, words, { input, file = command } = {}) {
     write(room, { [name]: `require('node:worker_threads').Worker = ${maker};` });
-    const { status, stdout, stderr } = spawnSync(process.execPath, ['-r', `./${name}`, command, ...words], { cwd: room, encoding: 'utf8', timeout: 90000, input });
+    const { status, stdout, stderr } = spawnSync(process.execPath, ['-r', `./${name}`, file, ...words], { cwd: room, encoding: 'utf8', timeout: 90000, input });
     return [status, stdout, stderr];
 }
 
@@ -139,25 +142,29 @@ test('without threads a job is done all the same', () => inDirectory(room => {
         constructor() { super(); setTimeout(() => this.emit('error', ${why}), 20); }
         terminate() {} postMessage() {} }` };
     const due = [0, 'cdpatch 1\nrebuild 3\nrebuild 8999\n'];
+    const file = earlyCommand(room);
     for (const [name, maker] of Object.entries(MAKERS)) {
-        assert.deepEqual(withThreads(room, name, maker, ['rebuilds', 'image', '--base', '0']), [...due, ''], name);
-        assert.deepEqual(withThreads(room, name, maker, ['rebuilds', '-', '--base', '0'], read(room, 'image')), [...due, ''], name);
+        assert.deepEqual(withThreads(room, name, maker, ['rebuilds', 'image', '--base', '0'], { file }), [...due, ''], name);
+        assert.deepEqual(withThreads(room, name, maker, ['rebuilds', '-', '--base', '0'], { input: read(room, 'image'), file }), [...due, ''], name);
     }
 }));
 
 test('a job that waits for what never comes fails, and leaves no file', () => inDirectory(room => {
     const sector = imageOf(room, 1);
     write(room, { image: Buffer.concat(Array.from({ length: 9000 }, () => sector)) });
+    const file = earlyCommand(room);
     const there = readdirSync(room);
     const maker = "class extends require('node:events') { terminate() {} postMessage() {} }";
     const due = [2, '', 'cdscript: internal error: the job has not ended\n'];
-    assert.deepEqual(withThreads(room, 'silent.cjs', maker, ['rebuilds', 'image', '--base', '0', '-o', 'out']), due);
+    assert.deepEqual(withThreads(room, 'silent.cjs', maker, ['rebuilds', 'image', '--base', '0', '-o', 'out'], { file }), due);
     assert.deepEqual(readdirSync(room).sort(), [...there, 'silent.cjs'].sort());
 }));
 
 test('only a long image begins threads', () => inDirectory(room => {
-    const sector = imageOf(room, 1);
-    write(room, { image: Buffer.concat(Array.from({ length: 9000 }, () => sector)), short: imageOf(room, 100) });
+    for (const [name, sectors] of [['image', 160000], ['short', 60000]]) {
+        write(room, { [name]: imageOf(room, 1) });
+        truncateSync(join(room, name), 2352 * sectors);
+    }
     const maker = "class { constructor() { console.log('a thread'); throw new Error('EAGAIN'); } }";
     assert.match(withThreads(room, 'counts.cjs', maker, ['rebuilds', 'short'])[1], /^cdpatch 1\n/);
     assert.match(withThreads(room, 'counts.cjs', maker, ['rebuilds', 'image'])[1], /^a thread\n/);

@@ -5,7 +5,7 @@ import { createHash } from 'node:crypto';
 import { existsSync } from 'node:fs';
 import { join } from 'node:path';
 import { test } from 'node:test';
-import { ENCODINGS_KNOWN, damaged, imageOf, inDirectory, program, read, run, sameFile, tool, top, write } from './common.mjs';
+import { ENCODINGS_KNOWN, damaged, earlyCommand, imageOf, inDirectory, program, read, run, runProcess, sameFile, tool, top, write } from './common.mjs';
 import { files, makeDisc, noise, skip } from './discs.mjs';
 
 const TRY_PARITY = 'cdscript: with --parity, such a sector is corrected by its own P and Q instead, if its EDC confirms the result\n';
@@ -263,10 +263,10 @@ test('a repair takes what the EDC of the damaged sector fits, and names what it 
     // A sector of zeros confirms nothing, although no other dump disputes its copy, and it has no parity to correct it.
     const empty = Buffer.from(good).fill(0, 2352 * 17, 2352 * 18);
     write(room, { empty });
-    for (const [parity, more] of [[[], TRY_PARITY], [['--parity'], '']]) {
+    for (const parity of [[], ['--parity']]) {
         const filled = await run(['merge', 'empty', 'door.bin', `filled${parity}`, '--json', ...parity], { cwd: room });
         assert.deepEqual([filled.status, JSON.parse(filled.out).doubtful, filled.errors], [1, 1,
-            `cdscript: block 17: copied from door.bin, but empty has neither its data nor its EDC: perhaps the dumps are of different versions\n${more}`]);
+            'cdscript: block 17: copied from door.bin; empty was not read there, so it cannot confirm the copy, but 297 of 300 sectors are the same in both\n']);
     }
 }));
 
@@ -382,16 +382,18 @@ test('what no repair takes', () => inDirectory(async room => {
     assert.match((await run(['merge', 'old', 'edited', 'out'], { cwd: room })).out, /\ntaken 1 damaged 0 disputed 0 different 3\n$/);
 }));
 
-test('threads give what one thread gives', () => inDirectory(async room => {
+test('threads give what one thread gives', () => inDirectory(room => {
+    const file = earlyCommand(room);
+    const early = words => runProcess(words, { cwd: room, file });
     const image = imageOf(room, 9000);
     const hurt = damaged(image, 0, [3, 100], [1023, 2000], [1024, 2200], [4500, 77], [8999, 2300]);
     write(room, { image, hurt });
     const audit = tool('sh', ['-c', `"${program}" audit hurt || true`], { cwd: room }).toString().split('\n').slice(0, -2);
     const due = audit.map(line => line.replace(/^(\d+) (.*)$/, '$1-$1 mode1 damaged: $2\n')).join('');
-    assert.ok((await run(['info', 'hurt'], { cwd: room })).out.endsWith(`\nmode1 9000 damaged 5 address 0\n${due}`));
-    assert.equal((await run(['merge', 'hurt', 'image', 'out'], { cwd: room })).status, 0);
+    assert.ok(early(['info', 'hurt']).out.endsWith(`\nmode1 9000 damaged 5 address 0\n${due}`));
+    assert.equal(early(['merge', 'hurt', 'image', 'out']).status, 0);
     sameFile(read(room, 'out'), image, 'the repaired image');
-    assert.equal((await run(['rebuilds', 'hurt'], { cwd: room })).out, 'cdpatch 1\nrebuild 3\nrebuild 1023\nrebuild 1024\nrebuild 4500\nrebuild 8999\n');
+    assert.equal(early(['rebuilds', 'hurt']).out, 'cdpatch 1\nrebuild 3\nrebuild 1023\nrebuild 1024\nrebuild 4500\nrebuild 8999\n');
 }));
 
 test('a file that exists stays', () => inDirectory(async room => {

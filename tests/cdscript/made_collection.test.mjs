@@ -10,7 +10,7 @@ import { gzipSync } from 'node:zlib';
 import { diceOf } from '../lib/dice.mjs';
 import { damaged, imageOf, inDirectory, run, tool, top, write } from './common.mjs';
 
-const { KINDS } = await import('../../web/sentences/kinds.js');
+const { KINDS } = await import('../../out/web/sentences/english.js');
 
 const RAW = 2352;
 const FILES = 300;

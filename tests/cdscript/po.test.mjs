@@ -132,18 +132,21 @@ test('--check says which texts do not fit, without an image, and which it has no
     assert.deepEqual([named.status, named.out], [1, 'texts 1 left out 0 not tested 1 fuzzy 0\n']);
 }));
 
-/** PO files of 100 MB, and what `replace --check` says of them last. */
+// Bytes. Only the files of the gate would exceed the memory if they were kept.
+const LARGE = process.env.GATE ? 100e6 : 10e6;
+
+/** Large PO files, and what `replace --check` says of them last. */
 const LONG_FILES = {
-    comments: [`${ENTRY}${'# a comment\n'.repeat(100e6 / 12)}`, 0, 'texts 1 left out 0 not tested 0 fuzzy 0'],
-    extracted: [`${ENTRY}#. room 9 bytes, CP932\n${'#. a\n'.repeat(20e6)}#: 29+0\nmsgid "a"\nmsgstr "b"\n`, 0, 'texts 2 left out 0 not tested 0 fuzzy 0'],
-    string: [`${ENTRY}msgid "${'a'.repeat(100e6)}`, 2, 'line 5 of the list has more than 524288 characters'],
-    strings: [`${ENTRY}#: 29+0\nmsgid "x"\nmsgstr ""\n${'"ab"\n'.repeat(20e6)}`, 1, 'line 6 (29+0): a text has more than 65536 characters'],
+    comments: [`${ENTRY}${'# a comment\n'.repeat(LARGE / 12)}`, 0, 'texts 1 left out 0 not tested 0 fuzzy 0'],
+    extracted: [`${ENTRY}#. room 9 bytes, CP932\n${'#. a\n'.repeat(LARGE / 5)}#: 29+0\nmsgid "a"\nmsgstr "b"\n`, 0, 'texts 2 left out 0 not tested 0 fuzzy 0'],
+    string: [`${ENTRY}msgid "${'a'.repeat(LARGE)}`, 2, 'line 5 of the list has more than 524288 characters'],
+    strings: [`${ENTRY}#: 29+0\nmsgid "x"\nmsgstr ""\n${'"ab"\n'.repeat(LARGE / 5)}`, 1, 'line 6 (29+0): a text has more than 65536 characters'],
     escapes: [`${ENTRY}#: 29+0\nmsgid "x"\nmsgstr ""\n${`"${'\\n'.repeat(2e5)}"\n`.repeat(250)}`, 1, 'line 6 (29+0): a text has more than 65536 characters'],
     'references on one line': [`${ENTRY}#:${' 1+1'.repeat(1e6)}\nmsgid "x"\nmsgstr "y"\n`, 2, 'line 5 of the list has more than 524288 characters'],
     references: [`${ENTRY}${'#: 1+1 1+1 1+1 1+1 1+1 1+1 1+1 1+1 1+1 1+1 1+1 1+1\n'.repeat(2e6)}msgid "x"\nmsgstr "y"\n`, 2, 'has more than 1000000 references'],
 };
 
-test('a PO file of 100 MB is read in bounded memory', () => inDirectory(room => {
+test('a large PO file is read in bounded memory', () => inDirectory(room => {
     for (const [name, [list, status, message]] of Object.entries(LONG_FILES)) {
         write(room, { list });
         const done = spawnSync(process.execPath, ['--max-old-space-size=600', command, 'replace', '--check', 'list'], { cwd: room, encoding: 'utf8', maxBuffer: 1 << 26 });

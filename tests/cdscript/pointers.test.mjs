@@ -36,15 +36,16 @@ const english = (text, i) => `The hero found herb number ${/\d+/.exec(text)[0]}$
 /** A directory with the disc and the lists of its texts and pointers; null if genisoimage or iconv is not installed. */
 async function madeDisc(room, files) {
     if (skip || encoded('', 'CP932') === null) return null;
-    const contents = Object.fromEntries(Array.from({ length: files }, (_, i) => [`EVENT${i}.DAT`, eventFile(i)]));
-    await discOf(room, contents, { options: ['-R', '-J'] });
+    const events = Object.fromEntries(Array.from({ length: files }, (_, i) => [`EVENT${i}.DAT`, eventFile(i)]));
+    await discOf(room, { ...events, 'MAIN.EXE': Buffer.alloc(1_300_000), 'FILM.STR': Buffer.alloc(3_000_000) }, { options: ['-R', '-J'] });
     return run(['texts', 'disc.bin', '-o', 'texts.tsv', '--pointers', 'pointers.tsv'], { cwd: room });
 }
 
 test('a translation of 300 texts that are longer than their room is on the patched disc, and undo takes it back', async context => inDirectory(async room => {
     const listed = await madeDisc(room, FILES);
     if (listed === null) return context.skip("Debian's packages genisoimage and libc-bin are needed");
-    assert.deepEqual([listed.status, listed.errors], [0, `cdscript: texts ${FILES * TEXTS}\ncdscript: tables of pointers ${FILES}\n`]);
+    const notSearched = 'cdscript: not searched for pointers: /MAIN.EXE (1.3 MB), 1 more\n';
+    assert.deepEqual([listed.status, listed.errors], [0, `cdscript: texts ${FILES * TEXTS}\ncdscript: tables of pointers ${FILES}\n${notSearched}`]);
     const lines = read(room, 'texts.tsv').toString().split('\n').slice(0, -1);
     const rows = lines.map((line, i) => i === 0 ? line : line + english(line.split('\t')[6], i));
     write(room, { 'new.tsv': `${rows.join('\n')}\n` });

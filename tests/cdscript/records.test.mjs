@@ -96,6 +96,8 @@ test('options of records that do not fit together are refused', () => inDirector
         [[...file, '--every', '24', '--length', '16', '--min', '2'], 2, '--every and --min cannot be used together'],
         [['texts', 'names.dat', '--every', '24', '--length', '16'], 2, '--every needs one --in PATH, or --file FILE'],
         [['texts', 'names.dat', '--every', '24', '--length', '16', '--in', 'A', '--in', 'B'], 2, '--every needs one --in PATH'],
+        [['texts', 'names.dat', '--any'], 2, '--any needs --in PATH, or --file FILE'],
+        [[...file, '--every', '24', '--length', '16', '--any'], 2, '--any and --every cannot be used together'],
         [[...file, '--every', '24', '--length', '16', '--limit', '0'], 1, 'texts 0'],
         [[...file, '--every', '24', '--length', '16', '--skip', '1000000000000'], 1, 'texts 0'],
         [[...file, '--every', '1048576', '--length', '4096'], 1, 'texts 0'],

@@ -2,9 +2,13 @@
 
 import assert from 'node:assert/strict';
 import { mkdirSync } from 'node:fs';
+import { createRequire } from 'node:module';
 import { join } from 'node:path';
 import { test } from 'node:test';
-import { damaged, imageOf, inDirectory, read, run, runProcess, write } from './common.mjs';
+
+// Must run before cdscript is loaded, which binds the calls.
+const faults = createRequire(import.meta.url)('./faulty.cjs');
+const { damaged, imageOf, inDirectory, read, run, runProcess, write } = await import('./common.mjs');
 
 const track = (number, name) => `FILE "${name}" BINARY\n TRACK ${String(number).padStart(2, '0')} MODE1/2352\n INDEX 01 00:00:00\n`;
 const linesIn = text => text.toString().split('\n').filter(Boolean);
@@ -42,6 +46,29 @@ test('a list that is continued is put in order, and is the list of one run', () 
     const due = linesIn((await run(['scan', 'a.bin', 'b', 'b.d', 'c.bin', 'notes.txt', 'z\t.bin'], { cwd: room })).out);
     for (const words of [['z\t.bin', 'c.bin', 'notes.txt'], ['b/x.bin', 'b.d'], ['b', 'a.bin'], ['b']]) await run(['scan', ...words, '--resume', 'list'], { cwd: room });
     assert.deepEqual(linesIn(read(room, 'list')), due);
+}));
+
+test('two runs on one list keep the lines of both', () => inDirectory(async room => {
+    const [image, other] = await sized(20, 8);
+    const names = ['0.bin', 'a.bin', 'b.bin', 'c.bin', 'm.bin'];
+    const due = async () => linesIn((await run(['scan', ...names], { cwd: room })).out);
+    const isOf = { writeSync: ([, bytes]) => bytes.includes(0x09), fsyncSync: () => true };
+    // If a.bin has changed, the first write and the first replacement are those of the list without its old line.
+    for (const [call, at, more, changed] of [['writeSync', 2, [], true], ['writeSync', 1, [], false], ['fsyncSync', 1, ['b.bin', 'a.bin'], true], ['fsyncSync', 2, [], true]]) {
+        write(room, Object.fromEntries(names.map(name => [name, image])));
+        write(room, { list: (await run(['scan', 'a.bin', 'b.bin'], { cwd: room })).out, ...changed && { 'a.bin': other } });
+        let [left, atEnd] = [at, []];
+        // Before this call of a run that examines a.bin and c.bin, a second run examines 0.bin and m.bin.
+        faults.hit = (name, given) => {
+            if (name === 'fsyncSync') atEnd = namesIn(read(room, 'list'));
+            if (name === call && isOf[call](given) && (left -= 1) === 0) assert.equal(runProcess(['scan', ...more, 'm.bin', '0.bin', '--resume', 'list'], { cwd: room }).errors, '');
+            return null;
+        };
+        const { status, errors } = await run(['scan', 'c.bin', 'a.bin', '--resume', 'list'], { cwd: room });
+        faults.hit = () => null;
+        assert.deepEqual([left <= 0, status, errors, linesIn(read(room, 'list'))], [true, 0, '', await due()], `${call} ${at}`);
+        if (changed) assert.ok(atEnd.includes('c.bin'), `${call} ${at}: the next line is in the list before the end`);
+    }
 }));
 
 test('a file that its sheets leave out has its own line, in its place', () => inDirectory(async room => {

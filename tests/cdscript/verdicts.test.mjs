@@ -33,9 +33,7 @@ test('info and scan give the verdict of the table', () => inDirectory(async room
         const files = objects(json.out);
         assert.deepEqual(findings(files), due, name);
         assert.ok(files.some(it => it.verdict === level), `${name}: ${files.map(it => it.verdict)}`);
-        assert.deepEqual([text.status, json.status], [IS_WRONG[level], IS_WRONG[level]], name);
-        // A track in a missing file is an error of scan, which cannot examine it.
-        assert.equal(scan.status, 'missing' in due ? 2 : IS_WRONG[level], name);
+        assert.deepEqual([text.status, json.status, scan.status], Array(3).fill(IS_WRONG[level]), name);
         assert.deepEqual(objects(scan.out).map(it => it.verdict), files.filter(it => it.kind !== 'missing').map(it => it.verdict), name);
         for (const code of Object.keys(due)) assert.match(text.out.split('\n').filter(line => line.startsWith('verdict')).join(), SAYS[code], name);
     }

@@ -4,7 +4,7 @@ import assert from 'node:assert/strict';
 import { test } from 'node:test';
 import { ENCODINGS_KNOWN, core, diceOf, tableOf } from './common.mjs';
 
-const { LOOKED_BACK, bytesInside, charactersFrom } = await core('texts/boundaries.js');
+const { LOOKED_BACK, bytesInside, charactersFrom } = await core('texts/codes.js');
 const { encodingOf } = await core('encodings/encodings.js');
 const { encodeText } = await core('encodings/encoding.js');
 

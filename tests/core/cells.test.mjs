@@ -5,11 +5,10 @@ import { test } from 'node:test';
 import { calls, core, readerOf, tableOf } from './common.mjs';
 import { listedRows, replacedRows } from './lists.mjs';
 
-const { MARKS, Table, rowText } = await core('texts/cells.js');
+const { MARKS, Table, rowText, longTextOf } = await core('texts/cells.js');
 const { assertMeant, cellOf, codesLeftOut, controlsTyped, shownCell, unitsOfCell } = await core('texts/codes.js');
 const { fillingAfter, withEnd } = await core('encodings/encoding.js');
 const { encodingOf, textOfFile } = await core('encodings/encodings.js');
-const { longTextOf } = await core('texts/long_file.js');
 
 const rowsOf = (text, mark = MARKS.find(it => text.includes(it)) ?? '\t') => [...new Table(text, mark).rows()];
 const cells = (text, mark) => rowsOf(text, mark).map(row => row.cells);

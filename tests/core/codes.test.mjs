@@ -22,9 +22,16 @@ test('the limits are those of the man page', () => {
     assert.ok(!imageTooLong(MOST_SECTORS * SECTOR_SIZE));
 });
 
+test('the version is that of the header', () => {
+    assert.equal(calls.version(), header.match(/CDPATCH_VERSION "(.*)"/)[1]);
+});
+
+// The interfaces patch by steps, not by pieces.
+const BY_PIECES = /^cdpatch_(index_script|apply_entries|script_base|block|failure_line)$/;
+
 test('each call of cdpatch.h that takes no memory has a method', () => {
-    const names = header.match(/\bcdpatch_\w+(?=\()/g).filter(name => !/^cdpatch_(check|apply)$/.test(name));
-    const files = ['web/core/module/calls.js', 'web/core/module/sector_calls.js', 'tests/core/calls.mjs'];
+    const names = header.match(/\bcdpatch_\w+(?=\()/g).filter(name => !/^cdpatch_(check|apply)$/.test(name) && !BY_PIECES.test(name));
+    const files = ['out/web/core/module/calls.js', 'tests/core/calls.mjs'];
     const code = files.map(file => readFileSync(join(top, file), 'utf8')).join('');
     for (const name of names) assert.match(code, new RegExp(`\\b${name}\\b`));
 });

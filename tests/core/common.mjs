@@ -1,4 +1,4 @@
-// Shared by the tests of the core: the core itself (CORE, by default web/core), images, readers, and comparisons of bytes.
+// Shared by the tests of the core: the core itself (CORE, by default out/web/core), images, readers, and comparisons of bytes.
 
 import assert from 'node:assert/strict';
 import { readFileSync } from 'node:fs';
@@ -9,7 +9,7 @@ import { withAllCalls } from './calls.mjs';
 export { diceOf } from '../lib/dice.mjs';
 
 export const top = fileURLToPath(new URL('../..', import.meta.url));
-const folder = process.env.CORE ?? join(top, 'web/core');
+const folder = process.env.CORE ?? join(top, 'out/web/core');
 
 /** @param {string} name a module of the core, where it is imported from */
 export const coreFile = name => pathToFileURL(join(folder, name)).href;
@@ -17,7 +17,7 @@ export const coreFile = name => pathToFileURL(join(folder, name)).href;
 /** @param {string} name a module of the core */
 export const core = name => import(coreFile(name));
 
-const codes = { ...await core('module/calls.js'), ...await core('module/sector_calls.js') };
+const codes = { ...await core('module/calls.js') };
 const Calls = withAllCalls(codes.Calls, codes.sized);
 export const module = new WebAssembly.Module(readFileSync(process.env.MODULE ?? join(top, 'library/cdpatch.wasm')));
 

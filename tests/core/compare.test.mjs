@@ -6,7 +6,7 @@ import { calls, core, diceOf, readerOf, sameBytes, someImage } from './common.mj
 import { localPool, withThreads } from './pools.mjs';
 import { CHANGES, RAW, blocksOf, changedImage, countOf, patchedBy, sectorAt, sound, soundImage, textOf, trackOf } from './pairs.mjs';
 
-const { SECOND_STATE, compareTrack, diffRange, differRange, findDifferences } = await core('tasks/compare.js');
+const { SECOND_STATE, compareTrack, diffRange, differRange, findDifferences } = await core('tasks/scripts.js');
 const { ScriptParts } = await core('script/script_writer.js');
 const { MOST_SCRIPT_BYTES, RESULT, STATUS, STEP } = await core('module/records.js');
 
@@ -304,13 +304,21 @@ test('lines that the module does not take, or that give other sectors, are not g
     const dice = diceOf(13);
     const old = soundImage(dice, 6, BASE);
     const fresh = changedImage(dice, old, ['bytes'], 1);
-    const step = change => ({ runNext: (run, done) => change(calls.runNext(run, done)) });
+    const step = change => ({
+        runNext(run, done) {
+            return change(calls.runNext.call(this, run, done));
+        },
+    });
     const wrongs = [
         step(it => ({ ...it, result: it.kind === STEP.LOG ? RESULT.DIFFERS : it.result, block: BASE + 9 })),
         step(it => ({ ...it, status: STATUS.FAILED })),
         step(it => ({ ...it, status: STATUS.FOUND })),
         step(it => ({ ...it, at: it.kind === STEP.WRITE ? it.at + RAW : it.at })),
-        { stepBytes: it => it.kind === STEP.WRITE ? new Uint8Array(RAW) : calls.stepBytes(it) },
+        {
+            stepBytes(it) {
+                return it.kind === STEP.WRITE ? new Uint8Array(RAW) : calls.stepBytes.call(this, it);
+            },
+        },
     ];
     for (const wrong of wrongs) {
         const broken = Object.assign(Object.create(calls), wrong);

@@ -4,7 +4,7 @@ import { test } from 'node:test';
 import { core, diceOf, encoded, readerOf, tableOf } from './common.mjs';
 import { rawOf } from './discs.mjs';
 
-const { FilesAlong, anyBegins, contextOf, contextsOf, filesWith } = await core('texts/context.js');
+const { FilesAlong, anyBegins, contextOf, contextsOf, filesWith } = await core('texts/all_texts.js');
 const { encodeText } = await core('encodings/encoding.js');
 const { encodingOf } = await core('encodings/encodings.js');
 

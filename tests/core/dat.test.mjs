@@ -170,13 +170,15 @@ test('a list is read no further than its fault', async () => {
     assert.strictEqual(read, 0);
 });
 
-test('a list of 100 MB is read in bounded memory', async () => {
+test('a large list is read in bounded memory', async () => {
+    // Bytes. Only the list of the gate would exceed the memory if it were kept.
+    const most = process.env.GATE ? 1e8 : 1e7;
     const games = encoded(rom('Game.bin').repeat(5000));
     async function* large() {
         yield encoded('<datafile>');
-        for (let size = 0; size < 1e8; size += games.length) yield games;
+        for (let size = 0; size < most; size += games.length) yield games;
         yield encoded('<!--');
-        for (let size = 0; size < 1e8; size += games.length) yield games;
+        for (let size = 0; size < most; size += games.length) yield games;
         yield encoded('-->');
         yield encoded('</datafile>');
     }

@@ -38,13 +38,13 @@ test('an image without a base by its addresses, or with one before block 0', asy
 
 test('each file is recognised once, and a cue sheet is read once', async () => {
     const bin = file('game.bin', soundImage(diceOf(40), 20, 0));
-    const cue = sheet('FILE "game.bin" BINARY', ' TRACK 01 MODE1/2352', '  INDEX 01 00:00:00');
+    const cue = sheet('FILE "game.bin" BINARY', ' TRACK 01 MODE1/2352', '  INDEX 01 00:00:00', `REM ${'longer than a beginning '.repeat(5)}`);
     const { kinds, disc } = await openChosen(calls, [cue], async ({ name }, [{ files }]) => {
         assert.deepEqual([name, files.map(it => it.name)], ['game.cue', ['game.bin']]);
         return [bin];
     });
     assert.deepEqual([kinds, disc.sheetText.split('\r\n')[0], dataTrack(disc).number], [['cue'], 'FILE "game.bin" BINARY', 1]);
-    const begins = ({ reader: { reads } }) => reads.filter(({ at, length }) => at === 0 && length === 16).length;
+    const begins = ({ reader: { reads } }) => reads.filter(({ at, length }) => at === 0 && length === 96).length;
     assert.deepEqual([begins(cue), begins(bin), cue.reader.reads.filter(({ length }) => length === cue.reader.size).length], [1, 1, 1]);
     const other = await openChosen(calls, [file('a.7z', encoded('7z\xBC\xAF\x27\x1C'))]);
     assert.deepEqual([other.kinds.length, other.disc], [1, null]);
@@ -146,6 +146,9 @@ test('tracks of several sizes of sectors in one file, and files that do not belo
     const sizes = { code: 'disc/sector-size', facts: { track: 2, name: 'a.bin', size: 2048 } };
     await assert.rejects(opened(cue, file('a.bin', whole)), sizes);
     await assert.rejects(opened(file('a.bin', whole), file('b.bin', whole)), { code: 'disc/no-image' });
+    const patch = file('a.ppf', encoded('PPF30\x02'));
+    await assert.rejects(opened(file('a.bin', whole), patch), { code: 'disc/other-file', facts: { name: 'a.ppf', kind: 'patch' } });
+    await assert.rejects(opened(file('a.bin', whole), file('read.me', encoded('a line\n'.repeat(20)))), { code: 'disc/no-image' });
     await assert.rejects(opened(), { code: 'disc/no-image' });
     await assert.rejects(opened(cue, { ...cue, name: 'b.cue' }), { code: 'disc/two-sheets', facts: { one: 'game.cue', other: 'b.cue' } });
 });

@@ -6,7 +6,7 @@ import { calls, core, decoded, diceOf, readerOf, sameBytes } from './common.mjs'
 
 const { fileOrder } = await core('iso/file_order.js');
 const { wholeFile } = await core('iso/files.js');
-const { replaceBytes } = await core('tasks/replace_bytes.js');
+const { replaceBytes } = await core('tasks/replace.js');
 const { SECTOR_SIZE } = await core('module/numbers.js');
 const { sectorOf } = await core('sectors/sector.js');
 

@@ -6,9 +6,9 @@ import { POOL, WITHOUT_EDC, at } from './dumps.mjs';
 import { localPool } from './pools.mjs';
 
 const { sliceOf, watchedReader } = await core('readers/index.js');
-const { baseByAddresses } = await core('disc/base.js');
+const { baseByAddresses } = await core('disc/disc.js');
 const { kindOfFile } = await core('disc/file_type.js');
-const { isOneTrack } = await core('disc/one_track.js');
+const { isOneTrack } = await core('disc/cue.js');
 const { CONVERTIBLE, convertToRaw } = await core('tasks/convert.js');
 
 const RAW = 2352;
@@ -179,6 +179,17 @@ test('other files are known by how they begin', async () => {
     files.push(['text', 'a line\n'.repeat(20)], ['text', '魔\r\n'.repeat(2000)], ['text', 'a line\n'.repeat(RAW / 7)], ['unknown', 'words '.repeat(100)],
         ['unknown', 'a line\n'.repeat(9)], ['unknown', 'a line\0\n'.repeat(20)], ['unknown', Buffer.from('Gerät\n'.repeat(20), 'latin1')]);
     for (const [due, bytes] of files) assert.strictEqual(await kind(bytes), due);
+});
+
+test('patches of other tools, workbooks, and GDIs are known, also by their last bytes', async () => {
+    const zip = (...names) => `PK\x03\x04${names.map(it => `${'\0'.repeat(26)}${it}${'x'.repeat(40000)}`).join('')}PK\x01\x02${names.join('PK\x01\x02')}`;
+    const ods = `PK\x03\x04${'\0'.repeat(26)}mimetypeapplication/vnd.oasis.opendocument.spreadsheet${'x'.repeat(40000)}`;
+    const gdi = '3\r\n1 0 4 2352 track01.bin 0\r\n2 756 0 2352 track02.raw 0\r\n3 45000 4 2352 "track 03.bin" 0\r\n';
+    const patches = ['PPF10\0', 'PPF20\x01', 'PPF30\x02', '\xD6\xC3\xC4\0', '%XDZ004%', '%XDELTA%', 'PATCH\0\0\x01EOF', 'PATCHEOF\0\x10\0', 'BPS1', 'UPS1'];
+    const files = [...patches.map(it => ['patch', `${it}${it.endsWith('EOF') || it.startsWith('PATCHE') ? '' : 'x'.repeat(5000)}`]),
+        ['workbook', zip('[Content_Types].xml', 'xl/workbook.xml')], ['workbook', ods], ['archive', zip('[Content_Types].xml', 'word/document.xml')],
+        ['gdi', gdi], ['gdi', gdi.replaceAll('\r', '')], ['unknown', 'PATCH NOTES'], ['unknown', 'PPF4'], ['unknown', '3\n4 5\n'], ['unknown', '1 1 4 4 5\n']];
+    for (const [due, bytes] of files) assert.strictEqual(await kind(Buffer.from(bytes, 'latin1')), due, bytes.slice(0, 20));
 });
 
 test('the base of an image is what its addresses agree in', async () => {

@@ -9,7 +9,7 @@ const { Fault } = await core('faults.js');
 const { passUser } = await core('tasks/convert.js');
 const { Pool, UNREAD, localWorker, serving, transfersOf } = await core('pool/pool.js');
 const { JOBS } = await core('jobs/jobs.js');
-const { addToRuns } = await core('sectors/runs.js');
+const { addToRuns } = await core('sectors/sector.js');
 const { findIn, joinFound, sectorsBeyond } = await core('texts/find.js');
 
 const BASE = 40;

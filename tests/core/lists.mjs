@@ -3,10 +3,9 @@
 import { calls, core, encoded, readerOf } from './common.mjs';
 
 const { ScriptParts } = await core('script/script_writer.js');
-const { fittedRows } = await core('tasks/fitted_lists.js');
+const { fittedRows, placeInImage } = await core('tasks/list_fitting.js');
 const { rowsOfLists } = await core('tasks/list_rows.js');
-const { replaceBytes } = await core('tasks/replace_bytes.js');
-const { placeInImage } = await core('tasks/rows_in_image.js');
+const { replaceBytes } = await core('tasks/replace.js');
 
 /** The rows of a list that have a new text, or that `isAlso` selects. */
 export async function listedRows(list, isAlso, signal) {

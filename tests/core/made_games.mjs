@@ -108,14 +108,20 @@ function fields(dice, texts, filler) {
     return { name: `fields filled with ${filler}`, encoding: 'CP932', bytes, places: read(bytes), read, least: 0 };
 }
 
-/** A program: texts that end with 00, at places that 4 divides, among code. */
-function program(dice, language, encoding) {
-    const all = sentencesOf(language, dice, 40).map(text => Buffer.concat([bytesOf(encoding, text), Buffer.of(0)]));
+/** A program: texts that end with 00, at places that 4 divides, among code. `changed` returns a sentence as it is in the program. */
+function program(dice, language, encoding, kind = '', changed = text => text) {
+    const all = sentencesOf(language, dice, 40).map((text, i) => Buffer.concat([bytesOf(encoding, changed(text, i)), Buffer.of(0)]));
     const padded = all.map(bytes => Buffer.concat([bytes, Buffer.alloc(-bytes.length & 3)]));
     let at = 400;
     const places = padded.map((it, i) => [at, (at += it.length) - it.length + all[i].length - 1]);
     const bytes = Buffer.concat([others(dice, 396), Buffer.alloc(4), ...padded, others(dice, 3000)]);
-    return { name: `${language} in ${encoding}`, encoding, bytes, places, options: { encoding }, read: file => places.map(([from]) => [from, file.indexOf(0, from)]) };
+    return { name: `${language} in ${encoding}${kind}`, encoding, bytes, places, options: { encoding }, read: file => places.map(([from]) => [from, file.indexOf(0, from)]) };
+}
+
+/** A text in capitals, or with its end in capitals. */
+function withCapitals(text, i) {
+    const from = i % 2 === 0 ? 0 : text.length >> 1;
+    return text.slice(0, from) + text.slice(from).toUpperCase();
 }
 
 /** A game whose texts, in an encoding that must be named, have control codes before them, and a byte after them. */
@@ -172,5 +178,6 @@ export function madeGames(seed) {
         ...OF_EUROPE.flatMap(([language, encoding]) => linesOfText(dice, language, encoding)),
         ...OF_EUROPE.filter(([, , isLetter]) => !isLetter).map(([language, encoding]) => endedByFF(dice, sentencesOf(language, dice, 60), encoding)),
         endedByFF(dice, Array.from({ length: 60 }, () => NAMES[dice(NAMES.length)]), 'Windows-1252'),
+        ...OF_EUROPE.map(([language, encoding]) => program(dice, language, encoding, ', in capitals', withCapitals)),
     ];
 }

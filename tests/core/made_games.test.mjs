@@ -7,8 +7,7 @@ import { localPool } from './pools.mjs';
 import { madeGames } from './made_games.mjs';
 
 const { SEARCHED, encodingOf } = await core('encodings/encodings.js');
-const { importIntoFile, openPlainFile } = await core('tasks/plain_file.js');
-const { exportTable } = await core('tasks/table.js');
+const { importIntoFile, openPlainFile, exportTable } = await core('tasks/list_tables.js');
 
 /** The rows of the table of a file. */
 async function rowsOf(bytes, options) {
@@ -69,4 +68,28 @@ test('no encoding of Europe finds texts in noise, in whatever order its bytes co
         assert.deepEqual(await rowsOf(noise, { encoding }), [], encoding);
         assert.ok(encodingOf(encoding).isSingle);
     }
+});
+
+test('a sentence with words in capitals is one row', async () => {
+    for (const [encoding, text] of [
+        ['Windows-1252', 'la clause ENCODING doit venir avant XML-DECLARATION'],
+        ['CP437', 'advertencia: %B: GNU_PROPERTY_TYPE corrupto (%ld) tipo (0x%x) datosz: 0x%x'],
+    ]) {
+        const rows = await rowsOf(Buffer.from(`\0${text}\0`, 'latin1'), { encoding });
+        assert.deepEqual(rows.map(it => it.text), [text]);
+    }
+});
+
+test('with any, each run of characters of the encoding that ends as texts do is a row, and nothing else is', async () => {
+    const words = ['NEW GAME', 'HP', '#', 'Lv. 7', 'xqzj'];
+    for (const [encoding, end, broken] of [['Windows-1252', 0, [1, 2]], ['CP932', 0, [0x85, 0]], ['CP932', 3, [0xFD]], ['UTF-16LE', 0, [0, 0xDC]]]) {
+        const [mark, ...all] = ['\0', ...words].map(text => Buffer.from(text.replace('\0', String.fromCharCode(end)), encoding === 'UTF-16LE' ? 'utf16le' : 'latin1'));
+        const game = Buffer.concat([Buffer.from(broken), mark, ...all.flatMap(text => [Buffer.from(broken), text, mark])]);
+        const rows = await rowsOf(game, { encoding, end, any: true, least: 1 });
+        assert.deepEqual(rows.map(it => it.text), words, `${encoding}, then ${end}`);
+        assert.ok((await rowsOf(game, { encoding, end })).length < words.length);
+    }
+    const game = madeGames(3).find(({ name }) => name === 'words, then 3');
+    const rows = await rowsOf(game.bytes, { encoding: game.encoding, any: true });
+    assert.ok(game.places.every(([from, to]) => rows.some(({ at, end }) => at <= from && end === to)), 'the end is found');
 });

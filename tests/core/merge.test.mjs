@@ -7,13 +7,12 @@ import { localPool, withThreads } from './pools.mjs';
 import { FORM1, WITHOUT_EDC, addressOf, at, dueOf, someDumps } from './dumps.mjs';
 import { CHANGES, RAW, blocksOf, changedImage, imageOf as imageWith, sectorAt, sound, soundImage, trackIn } from './pairs.mjs';
 
-const { baseByAddresses } = await core('disc/base.js');
+const { baseByAddresses } = await core('disc/disc.js');
 const { RECORD, RECORD_SIZE, SECTOR_KIND } = await core('module/index.js');
 const { blocksIn, surveyRange } = await core('sectors/index.js');
-const { applyInMemory } = await core('tasks/apply.js');
-const { correctionOf } = await core('tasks/correct.js');
-const { repairTrack } = await core('tasks/repair.js');
-const { commonPart, firstBlock, isSameRange, rangesOf } = await core('tasks/common_part.js');
+const { applyInMemory } = await core('tasks/scripts.js');
+const { correctionOf, repairTrack } = await core('tasks/repair.js');
+const { commonPart, firstBlock, isSameRange, rangesOf } = await core('tasks/inform.js');
 
 /** The number of random merges. */
 const CASES = Number(process.env.MERGE_CASES ?? 200);
@@ -122,8 +121,10 @@ test('of sound sectors that differ that one is taken whose EDC stands in the dam
     assert.deepEqual([blocksOf(one.doubtful), blocksOf(one.disputed).length], [[{ block: BASE + 4, other: 0 }], 4]);
     const odd = await merged([old, other]);
     assert.deepEqual(blocksOf(odd.doubtful), [1, 2, 3, 4].map(i => ({ block: BASE + i, other: 0 })));
-    // Nothing in a filled sector confirms its copy, although no other dump disputes it.
-    assert.deepEqual(blocksOf((await merged([old, image])).doubtful), [{ block: BASE + 4, other: 0 }]);
+    // Nothing in a filled sector confirms its copy, although no other dump disputes it; and nothing in it could.
+    const unread = [{ block: BASE + 4, other: 0 }];
+    assert.deepEqual([await merged([old, image]), one, odd].map(it => blocksOf(it.unread)), [unread, unread, unread]);
+    assert.deepEqual(blocksOf((await merged([old, image])).doubtful), unread);
 });
 
 /** The result of a repair that may correct sectors by their own parity, or not. */
@@ -199,7 +200,8 @@ test('the lines that correct a sector make it as its parity does, and there are 
         const old = image.slice();
         const [first, most] = [dice(RAW), [1, 4, 24, 80, 200][dice(5)]];
         for (let k = 0; k < most; k++) old[RAW + (dice(2) === 0 ? dice(RAW) : Math.min(first + k, RAW - 1))] ^= 1 + dice(255);
-        const [sector, due] = [sectorAt(old, 1), calls.correctedSector(sectorAt(old, 1))];
+        const sector = sectorAt(old, 1);
+        const due = calls.kind(sector) === SECTOR_KIND.MODE1 ? calls.correctedSector(sector) : null;
         const correction = correctionOf(calls, BASE + 1, sector);
         counts[Number(due !== null)] += 1;
         assert.equal(correction === null, due === null, `seed ${seed}`);

@@ -4,11 +4,8 @@ import assert from 'node:assert/strict';
 import { test } from 'node:test';
 import { calls, core, decoded, diceOf, newCalls } from './common.mjs';
 
-const { ScriptModel, lastBlockOf, writersIn } = await core('script/model.js');
-const { firstLinesOf } = await core('script/block_lines.js');
-const { faultyWord, lacksDigit, wordsOf } = await core('script/line_words.js');
-const { linesUnder, mergedInTurns } = await core('script/merge_lines.js');
-const { isMeantAsScript, isScript } = await core('script/script_start.js');
+const { ScriptModel, lastBlockOf, writersIn, firstLinesOf, linesUnder, mergedInTurns } = await core('script/model.js');
+const { faultyWord, lacksDigit, wordsOf, isMeantAsScript, isScript } = await core('script/language.js');
 const { CONTENT, VERB } = await core('module/records.js');
 
 const modelOf = text => new ScriptModel(calls, text);

@@ -8,7 +8,7 @@ import { recordOf } from './strangers.mjs';
 
 const { OpenedTrack, openTrack } = await core('tasks/index.js');
 const { openDisc } = await core('disc/disc.js');
-const { basesNamed, scriptForBase } = await core('script/base_comment.js');
+const { basesNamed, scriptForBase } = await core('script/language.js');
 const { MOST_SCRIPT_BYTES } = await core('module/index.js');
 
 const USER = 2048;

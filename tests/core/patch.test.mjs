@@ -4,11 +4,9 @@ import assert from 'node:assert/strict';
 import { test } from 'node:test';
 import { calls, core, decoded, diceOf, encoded, joinedPieces, newCalls, readerOf, sameBytes, someBytes, someImage } from './common.mjs';
 
-const { Refusal, readScript } = await core('script/script.js');
-const { Part, readLines } = await core('script/long_script.js');
+const { Refusal, readScript, Part, readLines } = await core('script/script.js');
 const { STEP } = await core('module/records.js');
-const { BETWEEN_WRITTEN } = await core('script/patch_run.js');
-const { applyPatches, passPatched } = await core('script/patches.js');
+const { BETWEEN_WRITTEN, applyPatches, passPatched } = await core('script/patches.js');
 const { PieceKeeper, bytesOfPieces } = await core('bytes.js');
 const { ReadAhead, pieceReader } = await core('readers/index.js');
 const { MOST_SECTORS } = await core('module/numbers.js');

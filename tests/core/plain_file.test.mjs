@@ -7,8 +7,8 @@ import { localPool } from './pools.mjs';
 import { TEXT, openedDisc } from './opened.mjs';
 
 const { checkLists, exportTable, findText, importIntoFile, importTable, newTextsOf, openPlainFile } = await core('tasks/index.js');
-const { sectorsOfFile } = await core('tasks/plain_file.js');
-const { contextOf } = await core('texts/context.js');
+const { sectorsOfFile } = await core('tasks/list_tables.js');
+const { contextOf } = await core('texts/all_texts.js');
 const { encodingOf } = await core('encodings/encodings.js');
 const { encodeText } = await core('encodings/encoding.js');
 

@@ -7,9 +7,8 @@ import { localPool } from './pools.mjs';
 import { listedRows } from './lists.mjs';
 import { TEXT, openedDisc } from './opened.mjs';
 
-const { entriesOfPo, isPo } = await core('texts/po_reader.js');
-const { PoFile } = await core('texts/po_writer.js');
-const { Glyphs } = await core('texts/glyphs.js');
+const { entriesOfPo, isPo, PoFile } = await core('texts/po.js');
+const { Glyphs } = await core('texts/codes.js');
 const { rowsOfLists } = await core('tasks/list_rows.js');
 const { checkLists, exportTable, importIntoFile, importTable, newTextsOf, openPlainFile } = await core('tasks/index.js');
 const { encodeText } = await core('encodings/encoding.js');

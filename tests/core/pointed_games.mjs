@@ -123,7 +123,60 @@ function counted(dice, name, texts) {
 function measured(dice, name, texts) {
     const made = tabled(dice, name, texts, { width: 4, distance: 8, before: 12, beside: (i, all) => number(4, all[i].length), numberOf: place => place, targetOf: value => value });
     const read = ({ 'TEXT.BIN': now }) => made.pointers.map(({ at }) => now.subarray(now.readUInt32LE(at), now.readUInt32LE(at) + now.readUInt32LE(at + 4)));
-    return { ...made, read, isMoving: false };
+    return { ...made, read, beside: 4 };
+}
+
+/** Numbers of two-byte characters beside pointers; such texts have no codes. */
+function counting(dice, name) {
+    const texts = linesOf(dice, 40).map(japanese).filter(({ length }) => length % 2 === 0);
+    const beside = (i, all) => Buffer.of(all[i].length / 2);
+    const made = tabled(dice, name, texts, { width: 2, distance: 3, before: 12, beside, numberOf: place => place, targetOf: value => value });
+    const read = ({ 'TEXT.BIN': now }) => made.pointers.map(({ at }) => now.subarray(now.readUInt16LE(at), now.readUInt16LE(at) + 2 * now[at + 2]));
+    return { ...made, read, beside: 1 };
+}
+
+/** Offsets of texts and of the end of the last one: the length of a text is the difference of two. */
+function between(dice, name, texts) {
+    const { body, places } = bodyOf(texts, 0, 4 + 2 * texts.length);
+    const all = [...places, places[0] + body.length];
+    const bytes = Buffer.concat([number(2, texts.length), ...all.map(place => number(2, place)), body, others(dice, 300)]);
+    const pointers = texts.map((_, text) => ({ at: 2 + 2 * text, text }));
+    const read = ({ 'TEXT.BIN': now }) => pointers.map(({ at }) => now.subarray(now.readUInt16LE(at), now.readUInt16LE(at + 2)));
+    return { ...gameOf(name, bytes, pointers, { width: 2, targetOf: value => value }), read, beside: 2 };
+}
+
+/** Texts in which the code 06 has an argument, mostly 00, which does not end the text. */
+function argued(dice, name) {
+    const texts = linesOf(dice, 40).map((line, i) => i % 3 > 0 ? japanese(line)
+        : Buffer.concat([japanese(line), Buffer.of(6, 0), japanese(linesOf(dice, 1)[0])]));
+    const made = tabled(dice, name, texts, { width: 2, before: 2, numberOf: place => place, targetOf: value => value });
+    const read = ({ 'TEXT.BIN': now }) => made.pointers.map(({ at }) => {
+        const first = now.readUInt16LE(at);
+        let end = first;
+        while (now[end] !== 0) end += now[end] === 6 ? 2 : 1;
+        return now.subarray(first, end);
+    });
+    return { ...made, read };
+}
+
+/** Banks of texts, each with its table. A game sees one bank at a time. */
+function banked(dice, name) {
+    const size = 0x2000;
+    const banks = [0, 1, 2].map(() => {
+        const { body, places } = bodyOf(codedLines(dice, 30), 0, 2 * 30);
+        const bank = Buffer.alloc(size, 0xFF);
+        Buffer.concat([...places.map(place => number(2, 0x8000 + place)), body]).copy(bank);
+        return bank;
+    });
+    const pointers = banks.flatMap((_, bank) => Array.from({ length: 30 }, (_, i) => ({ at: size * bank + 2 * i, text: 30 * bank + i })));
+    const targetOf = (value, at) => value - 0x8000 + size * Math.floor(at / size);
+    const made = gameOf(name, Buffer.concat(banks), pointers, { width: 2, targetOf });
+    const read = ({ 'TEXT.BIN': now }) => pointers.map(({ at }) => {
+        const bank = now.subarray(size * Math.floor(at / size)).subarray(0, size);
+        const first = now.readUInt16LE(at) - 0x8000;
+        return bank.subarray(first, bank.indexOf(0, first));
+    });
+    return { ...made, read };
 }
 
 /** Two tables that lead to the same texts. */
@@ -201,18 +254,23 @@ export function pointedGames(seed, most = 40) {
         split(dice, 'low and high bytes apart', lines()), records(dice, 'records with numbers like places'),
         pointless(dice, 'texts in a row', Buffer.concat([others(dice, 3000), rows.body, others(dice, 4000)]), rows.places),
         pointless(dice, 'texts and noise', Buffer.concat([others(dice, 3000), rows.body, noise]), rows.places),
+        between(dice, 'lengths as differences', lines()), counting(dice, 'numbers of characters beside pointers'),
+        argued(dice, 'a code with the argument 00'), banked(dice, 'banks'),
+        tabled(dice, 'short words in any order', words(80).map((word, i) => i % 7 === 0 ? word.subarray(0, 2) : word), { width: 2, before: 2, isMixed: true, ...file }),
     ];
 }
 
-/** A disc with the files of a game. */
-export async function discOf(files) {
+/** A disc with the files of a game. `names` are more names of the first file. */
+export async function discOf(files, names = []) {
     let block = FIRST;
     const placed = Object.entries(files).map(([name, bytes]) => {
         const first = block;
         block += Math.ceil(bytes.length / USER) + 1;
         return { name, bytes, first };
     });
-    const records_ = placed.map(({ name, bytes, first }) => recordOf(name, first, bytes.length, { flags: 0 }));
+    const [{ bytes: own, first: at }] = placed;
+    const named = [...placed, ...names.map(name => ({ name, bytes: own, first: at }))];
+    const records_ = named.map(({ name, bytes, first }) => recordOf(name, first, bytes.length, { flags: 0 }));
     const user = volumeOf(block + 1, sector => sector === 18 ? records_ : []);
     for (const { bytes, first } of placed) user.set(bytes, first * USER);
     const reader = readerOf(calls.encodeBlocks(0, user));

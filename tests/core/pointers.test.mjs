@@ -11,8 +11,8 @@ import { discOf, pointedGames } from './pointed_games.mjs';
 
 const { ListedSpans, PointedTexts, applyInMemory, exportTable, findPointers, importMoving, patchedTexts, textLines } = await core('tasks/index.js');
 const { TextStarts, findPointerTables, pointerList, tablesOfList, placesOf } = await core('pointers/index.js');
-const { checkMoved } = await core('tasks/check_moved.js');
-const { openPointedFiles } = await core('tasks/pointed_file.js');
+const { checkMoved } = await core('tasks/moving_script.js');
+const { openPointedFiles } = await core('tasks/moving_pointers.js');
 const { Table, unitsOfCell } = await core('texts/index.js');
 const { readScript } = await core('script/index.js');
 const { ScriptModel } = await core('script/model.js');
@@ -32,9 +32,9 @@ async function listed(opened) {
     let text = '';
     for await (const piece of exportTable(engine, opened, { seen: some => spans.add(some) })) text += piece.text;
     const [names, ...rows] = [...new Table(text, '\t').rows()].map(({ cells }) => cells);
-    const { text: pointers, count } = await findPointers(opened, spans);
+    const { text: pointers, count, unsearched } = await findPointers(opened, spans);
     const numbered = rows.map((cells, i) => ({ ...Object.fromEntries(names.map((name, k) => [name, cells[k]])), number: i + 2 }));
-    return { rows: numbered.map(row => ({ ...row, bytes: Number(row.bytes), at: Number(row.file.split('+')[1]) })), pointers, count };
+    return { rows: numbered.map(row => ({ ...row, bytes: Number(row.bytes), at: Number(row.file.split('+')[1]) })), pointers, count, unsearched };
 }
 
 const fileIn = text => ({ name: 'list.tsv', reader: readerOf(encoded(text)) });
@@ -61,7 +61,7 @@ async function filesAfter(reader, opened, script) {
 function translated(i, { text, bytes }) {
     const [, before, inner, after] = /^((?:\{\w\w\})*)(.*?)((?:\{\w\w\})*)$/s.exec(text);
     const size = i % 3 === 0 ? Math.ceil(bytes * 1.4) : Math.max(3, Math.floor(bytes * 0.6));
-    return inner === '' ? '' : `${before}${`${i}${'The quick brown fox '.repeat(99)}`.slice(0, size)}${after}`;
+    return inner === '' ? '' : `${before}${`${i}${'The quick brown fox '.repeat(99)}`.slice(0, size).trimEnd()}${after}`;
 }
 
 /** The rows in the texts of a game, with new texts. */
@@ -72,7 +72,7 @@ function withNewTexts(game, rows) {
     return rows.map((row, i) => ({ ...row, new: isOf(row) ? translated(i, row) : '' }));
 }
 
-const withoutFilling = text => text.replace(/[ \x00\xFF]+$/, '').replace(/ +(?=[\x01-\x1F]*$)/, '');
+const withoutFilling = text => text.replace(/[ \x00\xFF]+$/, '').replace(/ +(?=[\x01-\x1F]|$)/g, '');
 
 /** The texts of a game that its reader does not read as they are due, after some rows have changed. */
 function misread(game, files, written) {
@@ -96,7 +96,7 @@ function differingElsewhere(game, files) {
     let count = 0;
     for (const [name, old] of Object.entries(game.files)) {
         const free = new Uint8Array(old.length);
-        if (name === game.table) game.pointers.forEach(({ at }) => free.fill(1, at, at + game.width));
+        if (name === game.table) game.pointers.forEach(({ at }) => free.fill(1, at, at + game.width + (game.beside ?? 0)));
         const olds = game.read(game.files);
         if (name === game.file) {
             game.texts.forEach((first, i) => {
@@ -158,13 +158,16 @@ async function prepared(game) {
 
 test('rows that are kept stay in place, and have to fit there', async () => {
     const game = gameNamed('16 bits from the texts');
-    const { opened, rows, pointers } = await prepared(game);
-    const made = await moved(opened, rows, pointers);
-    const [{ facts: { text: { number } } }] = made.moved;
+    const { reader, opened, rows, pointers } = await prepared(game);
+    const { number } = rows.filter(row => row.new.length > 9).find(row => bytesOfCell(row.new).length > Number(row.room));
     const kept = await moved(opened, rows, pointers, { isKept: row => row.number === number });
     assert.equal(kept.moved.some(({ facts }) => facts.text.number === number), false);
-    assert.deepEqual(kept.left.map(({ text, why: { code, facts: { reason, why } } }) => [text.number, code, reason, why.code]),
-        [[number, 'pointers/stays', 'kept', 'replace/no-room']]);
+    const own = kept.left.filter(({ text }) => text.number === number);
+    assert.deepEqual(own.map(({ why: { code, facts: { reason, why } } }) => [code, reason, why.code]), [['pointers/stays', 'kept', 'replace/no-room']]);
+    // The texts before it have less room.
+    assert.ok(kept.left.every(({ text, why }) => text.number === number || why.code === 'pointers/no-room'));
+    const written = rows.filter(row => row.new !== '' && !kept.left.some(({ text }) => text.number === row.number));
+    assert.deepEqual(misread(game, await filesAfter(reader, opened, kept.script), written), []);
     assert.equal((await moved(opened, rows, pointers, { isKept: row => row.number === number, partial: false })).script, null);
 });
 
@@ -191,19 +194,22 @@ test('a text goes to the free end of the last sector, and the directory has the 
     assert.deepEqual(misread(game, files, [{ ...long, new: 'x'.repeat(long.bytes + 40) }]), []);
 });
 
-test('equal texts have one place', async () => {
-    const game = gameNamed('words');
+test('equal texts of a table without an order have one place', async () => {
+    const game = gameNamed('32 bits in any order');
     const { reader, opened, rows, pointers } = await prepared(game);
     const size = Math.max(...rows.map(({ room }) => Number(room))) + 1;
-    const same = rows.map(row => ({ ...row, new: row.new === '' ? '' : 'x'.repeat(size) }));
+    // A text with codes before it is not equal.
+    const same = rows.map(row => ({ ...row, new: row.new !== '' && game.texts.includes(row.at) ? 'x'.repeat(size) : '' }));
     const { script, left, moved: all } = await moved(opened, same, pointers);
-    assert.deepEqual([left, new Set(all.map(({ facts }) => facts.to)).size], [[], 1]);
-    assert.deepEqual(misread(game, await filesAfter(reader, opened, script), same.filter(row => row.new !== '')), []);
+    assert.ok(left.every(({ why }) => why.facts.reason === 'doubtful') && all.length > 8);
+    assert.equal(new Set(all.map(({ facts }) => facts.to)).size, 1);
+    const written = same.filter(row => row.new !== '' && !left.some(({ text }) => text.number === row.number));
+    assert.deepEqual(misread(game, await filesAfter(reader, opened, script), written), []);
 });
 
 test('a range is not free if an unlisted text, a pointer, or a row is in it', async () => {
-    // Before each word is one of a single character, which is not a row, and which its pointers do not make a part of the next text.
-    const game = gameNamed('words of a character');
+    // Words of a single character are not rows. In a table without an order they stay.
+    const game = gameNamed('short words in any order');
     const { reader, opened, rows, pointers } = await prepared(game);
     const short = game.texts.filter(first => !rows.some(({ at }) => at === first));
     assert.ok(short.length > 5);
@@ -282,7 +288,7 @@ test('a script that is not as it was planned is refused before it is written', a
     const files = await openPointedFiles(opened, await tablesOfList(readerOf(encoded(pointers))));
     const [file] = files.files;
     const now = (await filesAfter(reader, opened, made.script))[game.file];
-    const movable = made.moved.map(({ facts: { from, to } }) => ({ first: from, after: from + 2, bytes: now.subarray(to, now.indexOf(0, to) + 1), pointers: file.leadingTo(from, from + 1) }));
+    const movable = made.moved.map(({ facts: { from, to } }) => ({ first: from, after: from + 2, bytes: now.subarray(to, now.indexOf(0, to) + 1), pointers: file.leadingTo(from, from + 1), rows: [], lengths: [] }));
     const places = made.moved.map(({ facts: { to } }) => to);
     const planned = (texts, places_, free) => ({
         files, inPlace: free.map(([first, after]) => ({ file, first, after })),
@@ -320,10 +326,47 @@ test('a text with fewer pointers than both its neighbours is named', async () =>
     // A person has listed all first pointers, and of the second ones those of the texts 2 and 4.
     const parts = [[0, texts], [2 * texts - 1 - 4, 1], [2 * texts - 1 - 2, 1]];
     const list = [head, ...parts.map(([first, count]) => [path, Number(at) + 2 * first, count, ...more].join('\t'))].join('\n');
-    const long = rows.map(row => ({ ...row, new: row.at === game.texts[3] ? 'x'.repeat(row.bytes + 9) : '' }));
-    const others = rows.map(row => [2, 4].some(i => row.at === game.texts[i]) ? { ...row, new: 'x' } : row);
-    const { few, left } = await moved(opened, long.map((row, i) => row.new === '' && others[i].new === 'x' ? others[i] : row), list);
-    assert.deepEqual([few.map(({ facts: { text, pointers: own, beside } }) => [rows[text.number - 2].at, own, beside]), left], [[[game.texts[3], 1, 2]], []]);
+    // The text 2 grows and moves the text 3, which the short text 4 leaves room.
+    const [grown, few, short] = [2, 3, 4].map(i => rows.find(row => row.at >= game.texts[i]));
+    const news = new Map([[grown, 'x'.repeat(grown.bytes + 9)], [few, 'y'], [short, 'z']]);
+    const made = await moved(opened, rows.map(row => ({ ...row, new: news.get(row) ?? '' })), list);
+    assert.deepEqual([made.few.map(({ facts: { text, pointers: own, beside } }) => [text.number, own, beside]), made.left], [[[few.number, 1, 2]], []]);
+});
+
+/** How many bytes the search of a disc for pointers reads, and how many sectors it counts. */
+async function costOf(files, names) {
+    const { reader, opened } = await discOf(files, names);
+    const { rows } = await listed(opened);
+    const spans = new ListedSpans();
+    spans.add(rows);
+    const { read } = reader;
+    let bytes = 0;
+    reader.read = (at, size, ...more) => {
+        bytes += size;
+        return read.call(reader, at, size, ...more);
+    };
+    let sectors = 0;
+    const { count } = await findPointers(opened, spans, { progress: (_, all) => { sectors = all; } });
+    return { bytes, sectors, count };
+}
+
+test('the same bytes are searched once for pointers, whatever names them', async () => {
+    const { files } = gameNamed('16 bits from the file');
+    const names = Array.from({ length: 20 }, (_, i) => `NAME${i}.BIN`);
+    const once = await costOf(files, []);
+    assert.ok(once.bytes > 0 && once.sectors > 0 && once.count > 0);
+    assert.deepEqual(await costOf(files, names), once);
+});
+
+test('files that are too large are not searched for pointers, and one of them is named', async () => {
+    const { files } = gameNamed('16 bits from the file');
+    const unsearchedOf = async others => {
+        const { opened } = await discOf({ ...files, ...others });
+        return (await listed(opened)).unsearched;
+    };
+    assert.equal(await unsearchedOf({ 'MAIN.EXE': new Uint8Array(1 << 20) }), null);
+    const others = { 'FILM.STR': new Uint8Array(5 << 20), 'MAIN.EXE': new Uint8Array((1 << 20) + 1) };
+    assert.deepEqual(await unsearchedOf(others), { code: 'pointers/unsearched', facts: { path: '/MAIN.EXE', size: (1 << 20) + 1, more: 1 } });
 });
 
 /** After this many turns the search is cancelled. */
@@ -373,10 +416,10 @@ function madeMo(seed) {
     return Buffer.concat([...head, table(olds), table(news), ...[...olds, ...news].flatMap(text => [text, Buffer.of(0)])]);
 }
 
-test('the tables of MO files are found, and their texts stay, because the lengths are beside the pointers', async () => {
+test('the tables of MO files are found, and their texts move, with the lengths beside the pointers', async () => {
     const sums = { named: 0, found: 0, false: 0 };
     for (const bytes of moFiles()) {
-        const { opened } = await discOf({ 'A.MO': bytes });
+        const { opened, reader } = await discOf({ 'A.MO': bytes });
         const { rows, pointers, count } = await listed(opened);
         const places = count === 0 ? [] : (await tablesOfList(readerOf(encoded(pointers)))).flatMap(placesOf);
         const [all, first] = [bytes.readUInt32LE(8), bytes.readUInt32LE(16)];
@@ -389,7 +432,16 @@ test('the tables of MO files are found, and their texts stay, because the length
         const news = rows.map(row => ({ ...row, new: row.text.length > 3 && row.encoding === 'UTF-8' ? `${row.text}!` : '' }));
         if (places.length === 0 || news.every(row => row.new === '')) continue;
         const made = await moved(opened, news, pointers);
-        assert.deepEqual([made.moved.length, made.left.every(({ why }) => why.code.startsWith('pointers/'))], [0, true]);
+        assert.equal(made.left.every(({ why }) => why.code.startsWith('pointers/')), true);
+        if (made.script === null) continue;
+        const now = (await filesAfter(opened.reader ?? reader, opened, made.script))['A.MO'];
+        const isLeft = new Set(made.left.map(({ text }) => text.number));
+        for (const at of own) {
+            const [place, size] = [now.readUInt32LE(at), now.readUInt32LE(at - 4)];
+            const row = news.find(it => it.at === bytes.readUInt32LE(at));
+            if (row === undefined || row.new === '' || row.new.includes('{') || isLeft.has(row.number)) continue;
+            assert.deepEqual([now.subarray(place, place + size).toString().trimEnd(), now[place + size]], [row.new, 0]);
+        }
     }
     assert.ok(sums.found >= 0.9 * sums.named && sums.false <= 0.01 * sums.found, JSON.stringify(sums));
 });

@@ -7,7 +7,7 @@ import { core, diceOf, encoded, tableOf } from './common.mjs';
 const { TextRecogniser } = await core('texts/recognising.js');
 const { BAD, allScores, endedScores, tableScores } = await core('texts/scores.js');
 const { cellOf } = await core('texts/codes.js');
-const { keptOf } = await core('texts/overlap.js');
+const { keptOf } = await core('texts/candidates.js');
 const { encodingOf } = await core('encodings/encodings.js');
 const { encodeText } = await core('encodings/encoding.js');
 

@@ -7,8 +7,7 @@ import { localPool, withThreads } from './pools.mjs';
 import { isoOf } from './discs.mjs';
 import { CHANGES, RAW, countOf, patchedBy, sectorAt, sound, soundImage, textOf } from './pairs.mjs';
 
-const { filledUp, replaceBytes } = await core('tasks/replace_bytes.js');
-const { replaceFile } = await core('tasks/replace_file.js');
+const { filledUp, replaceBytes, replaceFile } = await core('tasks/replace.js');
 const { filesOf, wholeFile } = await core('iso/files.js');
 
 const BASE = 70;

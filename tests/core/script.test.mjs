@@ -5,8 +5,7 @@ import { test } from 'node:test';
 import { MESSAGES } from '../lib/messages.mjs';
 import { calls, core, cutAt, cutBy, decoded, encoded, newCalls } from './common.mjs';
 
-const { Refusal, readScript } = await core('script/script.js');
-const { readLines, scriptParts } = await core('script/long_script.js');
+const { Refusal, readScript, readLines, scriptParts } = await core('script/script.js');
 const { MOST_PATCHES, MOST_SCRIPT_BYTES, VERB } = await core('module/records.js');
 
 const SCRIPTS = [

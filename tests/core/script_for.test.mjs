@@ -28,7 +28,7 @@ test('a script for another base is refused, with its line', async () => {
 });
 
 test('a script with a fault is refused with the line of cdpatch', async () => {
-    const facts = { line: `script line 3: ${MESSAGES.word_count}`, tooLong: false };
+    const facts = { line: `script line 3: ${MESSAGES.word_count}`, tooLong: false, kind: null };
     const refused = { name: 'Fault', code: 'script/refused', facts };
     await assert.rejects(validScript(calls, [encoded('cdpatch 1\n# base 150\nset\n')]), refused);
 });

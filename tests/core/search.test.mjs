@@ -7,7 +7,7 @@ import { rawOf } from './discs.mjs';
 const { findIn, joinFound, sectorsBeyond } = await core('texts/find.js');
 const { encodingOf } = await core('encodings/encodings.js');
 const { encodeText } = await core('encodings/encoding.js');
-const { unitsAlike } = await core('texts/alike.js');
+const { unitsAlike } = await core('texts/matching.js');
 
 const RAW = 2352;
 const USER = 2048;

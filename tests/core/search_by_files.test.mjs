@@ -8,7 +8,7 @@ import { TEXT, openedDisc } from './opened.mjs';
 import { recordOf } from './strangers.mjs';
 
 const { findText, findTextAt, replaceHits, untriedLines } = await core('tasks/index.js');
-const { contextOf } = await core('texts/context.js');
+const { contextOf } = await core('texts/all_texts.js');
 const { encodingOf } = await core('encodings/encodings.js');
 const { Fault } = await core('faults.js');
 

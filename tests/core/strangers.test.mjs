@@ -12,7 +12,7 @@ const { findIn } = await core('texts/find.js');
 const { filesOf } = await core('iso/files.js');
 const { Pool, localWorker } = await core('pool/pool.js');
 const { JOBS } = await core('jobs/jobs.js');
-const { replaceFile } = await core('tasks/replace_file.js');
+const { replaceFile } = await core('tasks/replace.js');
 const { calls } = await import('./common.mjs');
 
 // A processor shared with other tests takes up to twice as long.

@@ -9,7 +9,7 @@ const { ENCODINGS, encodingOf, textOfFile } = await core('encodings/encodings.js
 const { encodeText, fillsOf, spaceIn, usualBytes } = await core('encodings/encoding.js');
 const { cellOf, unitsOfCell } = await core('texts/codes.js');
 const { linesLeftOut } = await core('encodings/table.js');
-const { unitsAlike } = await core('texts/alike.js');
+const { unitsAlike } = await core('texts/matching.js');
 
 /** @param {Uint8Array} bytes */
 const hex = bytes => Buffer.from(bytes).toString('hex').toUpperCase();

@@ -7,8 +7,7 @@ import { calls, core, decoded, diceOf, encoded, joinedPieces, readerOf, sameByte
 import { localPool } from './pools.mjs';
 import { RAW, blocksOf, changedImage, countOf, patchedBy, sectorAt, sound, soundImage, textOf, trackOf } from './pairs.mjs';
 
-const { undoScript } = await core('tasks/undo.js');
-const { compareTrack } = await core('tasks/compare.js');
+const { undoScript, compareTrack } = await core('tasks/scripts.js');
 const { readScript } = await core('script/script.js');
 const { applyPatches } = await core('script/patches.js');
 
@@ -159,7 +158,7 @@ test('undo of diff gives OLD', async () => {
 
 test('a script with a fault, one of a different base, a long one, and a read that fails', async () => {
     const image = soundImage(diceOf(5), 4, BASE);
-    await assert.rejects(undone(image, 'cdpatch 1\nput 1\n'), { code: 'script/refused', facts: { line: `script line 2: ${MESSAGES.unknown_verb}`, tooLong: false } });
+    await assert.rejects(undone(image, 'cdpatch 1\nput 1\n'), { code: 'script/refused', facts: { line: `script line 2: ${MESSAGES.unknown_verb}`, tooLong: false, kind: null } });
     const facts = { line: 3, base: BASE + 1, begins: BASE };
     await assert.rejects(undone(image, `${head(1)}# base ${BASE + 1}\nset ${BASE} 0 01\n`), { code: 'script/other-base', facts });
     const long = `cdpatch 1\n${`rebuild ${BASE}\n`.repeat(65536)}`;

@@ -8,7 +8,8 @@ import { deflateSync } from 'node:zlib';
 import { readerOf, tableOf } from '../core/common.mjs';
 import { diceOf } from '../lib/dice.mjs';
 import { calls, core, page } from '../page/page.mjs';
-import { GROWTH, growthOf } from './growth.mjs';
+import { growthOf } from './costs.mjs';
+import { GROWTH } from './growth.mjs';
 import { INVARIANTS } from './invariants.mjs';
 
 const { Fault } = await core('faults.js');

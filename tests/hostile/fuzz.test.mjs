@@ -4,7 +4,6 @@ import assert from 'node:assert/strict';
 import { readFileSync, readdirSync } from 'node:fs';
 import { test } from 'node:test';
 import { KINDS, bytesOf, defectOf } from './fuzz.mjs';
-import { GROWTH, growthOf } from './growth.mjs';
 
 const CORPUS = new URL('corpus/', import.meta.url);
 
@@ -28,8 +27,3 @@ for (const kind of Object.keys(KINDS)) {
     });
 }
 
-for (const shape of Object.keys(GROWTH)) {
-    test(`twice as much takes at most three times as long and as much memory: ${shape}`, async () => {
-        assert.equal((await growthOf(shape)).defect, null);
-    });
-}

@@ -1,12 +1,11 @@
-// The growth of processor time and memory: twice the input may take three times as much, so four times the input nine times, which is easier
-// to tell from quadratic growth. Each shape returns, for a size, the call to be measured. PAIRS are of two inputs that a job reads together:
-// the work for one of them must not be repeated for each part of the other. Both grow, and in each direction one is larger.
+// Inputs that grow. Each shape returns, for a size, the call to be measured: growth.test.mjs counts its work, and `make fuzz` measures time and
+// memory. Twice the input may take three times as much, so four times the input nine times, which is easier to tell from quadratic growth.
+// PAIRS are of two inputs that a job reads together: the work for one of them must not be repeated for each part of the other. Both grow,
+// and in each direction one is larger.
 
-import { mkdtempSync, readFileSync, rmSync, writeFileSync } from 'node:fs';
+import { mkdtempSync, rmSync, writeFileSync } from 'node:fs';
 import { tmpdir } from 'node:os';
 import { join } from 'node:path';
-import { setFlagsFromString } from 'node:v8';
-import { runInNewContext } from 'node:vm';
 import { tableOf } from '../core/common.mjs';
 import { listedRows, replacedRows } from '../core/lists.mjs';
 import { recordOf, volumeOf } from '../core/strangers.mjs';
@@ -20,36 +19,27 @@ const { fileOrder } = await core('iso/file_order.js');
 const { filesOf } = await core('iso/files.js');
 const { Pool, localWorker } = await core('pool/pool.js');
 const { JOBS } = await core('jobs/jobs.js');
-const { replaceFile } = await core('tasks/replace_file.js');
+const { replaceFile } = await core('tasks/replace.js');
 const { importMoving, openTrack } = await core('tasks/index.js');
 const { TextStarts, findPointerTables, tablesOfList } = await core('pointers/index.js');
 const { readScript } = await core('script/script.js');
 const { codesLeftOut } = await core('texts/codes.js');
 const { encodingOf } = await core('encodings/encodings.js');
 const { rowsOfLists } = await core('tasks/list_rows.js');
-const { ScriptModel } = await core('script/model.js');
-const { mergedInTurns } = await core('script/merge_lines.js');
+const { ScriptModel, mergedInTurns } = await core('script/model.js');
 const { openDisc } = await core('disc/disc.js');
-const { FilesAlong } = await core('texts/context.js');
-const { applyScript } = await core('tasks/apply.js');
-const { newTextsOf } = await core('tasks/table.js');
-const { Games, gameLines } = await command('games.js');
-const { LinesInOrder, unitsOf } = await command('scan_order.js');
-const { pathsOfSheet } = await command('sheet_files.js');
+const { FilesAlong } = await core('texts/all_texts.js');
+const { applyScript } = await core('tasks/scripts.js');
+const { newTextsOf } = await core('tasks/list_tables.js');
+const { Games, gameLines } = await command('hashes.js');
+const { LinesInOrder, unitsOf } = await command('scan_list.js');
+const { pathsOfSheet } = await command('opening.js');
 const { readPatcherText } = await page('player/patcher.js');
 
 const USER = 2048;
 const encoded = text => new TextEncoder().encode(text);
 const times = (count, textOf) => Array.from({ length: count }, (_, i) => textOf(i)).join('');
 
-/** Sizes double from the smallest until one takes ENOUGH milliseconds of CPU time, or is the largest. */
-const SMALLEST = 1 << 9;
-const LARGEST = 1 << 14;
-const ENOUGH = 60;
-/** Differences up to this many milliseconds, and megabytes, are ignored. */
-const NOISE = { time: 15, memory: 100 };
-const LARGER = 4;
-const MOST = 9;
 /** Fewer characters than a text may have. */
 const LONGEST_TEXT = 60000;
 /** How many times the larger input of a pair has the size of the smaller one. */
@@ -280,7 +270,7 @@ const dump = i => `<game name="g${i}"><rom name="a${i}.bin" size="2352" sha1="${
 export const GROWTH = {
     'a list of rows': size => listed(HEAD + '1\t2\ta\tb\n'.repeat(size)),
     'a list of empty rows': size => listed(HEAD + '\n'.repeat(8 * size)),
-    'a list of columns and rows': size => listed(`${HEAD.trimEnd()}${'\t'.repeat(size)}\n${'x\n'.repeat(size)}`),
+    'a list of columns and rows': size => listed(`${HEAD.trimEnd()}${'\t'.repeat(size / 16)}\n${'x\n'.repeat(size)}`),
     'a list of columns in each row': size => listed(`${HEAD.trimEnd()}\t\n${`${'x\t'.repeat(900)}\n`.repeat(size / 512)}`),
     'a list of cells in quotes': size => listed(HEAD + '1\t2\t"a\n""b"""\t"x\n1\t2\t\t"\n'.repeat(size)),
     'a list of quotes': size => listed(HEAD + '"'.repeat(8 * size)),
@@ -360,63 +350,11 @@ for (const [[first, second], make] of PAIRS) {
     GROWTH[`${second}, with ${first}`] = size => make(size / SLANT, size);
 }
 
-setFlagsFromString('--expose-gc');
-const collectGarbage = runInNewContext('gc');
-
-/** The memory of this process in megabytes, and its largest value since it was reset; 0 where the system does not report them. */
-function memory() {
+/** Calls a job, which may refuse its input. */
+export async function ended(job) {
     try {
-        const text = readFileSync('/proc/self/status', 'latin1');
-        return ['VmRSS', 'VmHWM'].map(key => Number(new RegExp(`^${key}:\\s*(\\d+) kB$`, 'm').exec(text)[1]) / 1024);
-    } catch {
-        return [0, 0];
-    }
-}
-
-/** Frees what can be freed, and returns the memory that is left. */
-function resetMemory() {
-    collectGarbage();
-    try {
-        writeFileSync('/proc/self/clear_refs', '5');
-    } catch {
-        // Not on this system.
-    }
-    return memory()[0];
-}
-
-/** The CPU time in milliseconds of the fastest of some runs, and their largest memory in megabytes, above the least that was left before one. */
-async function costOf(make, size, runs) {
-    const cost = { time: Infinity, memory: 0 };
-    let least = Infinity;
-    for (let i = 0; i < runs; i++) {
-        const job = make(size);
-        least = Math.min(least, resetMemory());
-        const begun = process.cpuUsage();
-        try {
-            await job();
-        } catch (error) {
-            if (!(error instanceof Fault)) throw error;
-        }
-        const { user, system } = process.cpuUsage(begun);
-        cost.time = Math.min(cost.time, (user + system) / 1000);
-        cost.memory = Math.max(cost.memory, memory()[1] - least);
-    }
-    return cost;
-}
-
-/**
- * Measures a shape. Returns what two sizes cost, and the reason why that grows too fast, or null. An apparent failure is measured again.
- */
-export async function growthOf(name) {
-    const make = GROWTH[name];
-    let size = SMALLEST;
-    while (size < LARGEST && (await costOf(make, size, 2)).time < ENOUGH) size *= 2;
-    for (let runs = 1; ; runs++) {
-        const [small, large] = [await costOf(make, size, runs + 1), await costOf(make, LARGER * size, runs)];
-        const over = ['time', 'memory'].filter(it => large[it] > MOST * small[it] + NOISE[it]);
-        const cost = ({ time, memory: megabytes }) => `${time.toFixed()} ms and ${megabytes.toFixed()} MB`;
-        const found = `size ${size} takes ${cost(small)}, and ${LARGER * size} takes ${cost(large)}`;
-        const twice = Math.sqrt(large.time / small.time).toFixed(1);
-        if (over.length === 0 || runs === 2) return { defect: over.length === 0 ? null : found, found: `twice as much takes ${twice} times as long: ${found}` };
+        await job();
+    } catch (error) {
+        if (!(error instanceof Fault)) throw error;
     }
 }

@@ -3,6 +3,7 @@ table as JSON. The sectors are encoded without any code of cdpatch (mode2_sector
 
 from __future__ import annotations
 
+import functools
 import json
 import random
 import struct
@@ -100,6 +101,7 @@ def sheet(name: str, *tracks: tuple[str, int | None, int]) -> bytes:
     return ('\n'.join(lines) + '\n').encode()
 
 
+@functools.cache
 def images() -> dict[str, bytes]:
     """The files, by their names."""
     one, two, sound = disc1(), disc2(), audio(600)

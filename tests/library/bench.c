@@ -166,6 +166,41 @@ static void run_write(uint8_t n) { text[0] = n; step_again(3); }
 static void run_last_line(uint8_t n) { text[0] = n; step_again(5); }
 static void run_end(uint8_t n) { text[0] = n; step_again(6); }
 
+/* The scripts of one and of 16 patches on the whole image, and on a piece that ends before the first patch. */
+static struct cdpatch_index index_found;
+static struct cdpatch_patch_bytes patch_bytes;
+static struct cdpatch_answer answers[SECTORS];
+
+static void index_script(const uint8_t *text, size_t size) { (void)!cdpatch_index_script(text, size, entries, SECTORS, &index_found); }
+static void apply_entries(const uint8_t *text, size_t size, size_t count, uint32_t flags) {
+    size_t done;
+    struct cdpatch_job job = {text, size, entries, index_found.count, &patch_bytes, index_found.version, 0, 0, flags, {0}};
+    (void)!cdpatch_apply_entries(&job, image, count, answers, SECTORS, &done);
+}
+static void index_16(uint8_t n) { text[0] = n; index_script(many, sizeof many - 1); }
+static void entries_1(uint8_t n) {
+    index_script(script, sizeof script - 1);
+    apply_entries(script, sizeof script - 1, SECTORS, n % 2 + CDPATCH_FLAG_LAST);
+}
+static void entries_16(uint8_t n) {
+    index_script(many, sizeof many - 1);
+    apply_entries(many, sizeof many - 1, SECTORS, n % 2 + CDPATCH_FLAG_LAST);
+}
+static void entries_none(uint8_t n) {
+    index_script(script, sizeof script - 1);
+    apply_entries(script, sizeof script - 1, 0, n % 2);
+}
+static void script_base(uint8_t n) {
+    struct cdpatch_named_base other;
+    text[0] = cdpatch_script_base(many, sizeof many - 1, n, &other);
+}
+static void block_of(uint8_t n) {
+    uint32_t block;
+    address[2] = n % 10;
+    text[0] = cdpatch_block(address, &block);
+}
+static void failure_line(uint8_t n) { cdpatch_failure_line(n % 4, text); }
+
 /* For each row: its name, its rounds, and the call that they make. */
 static const struct row { const char *name; void (*round)(uint8_t n); const char *call; } rows[] = {
     {"version", version, "version"}, {"result_text", result_text, "result_text"}, {"edc", edc, "edc"}, {"kind", kind, "kind"},
@@ -184,6 +219,9 @@ static const struct row { const char *name; void (*round)(uint8_t n); const char
     {"patch_set_1_carried", patch_set_1_carried, "apply_patch"}, {"patch_set_2043", patch_set_2043, "apply_patch"},
     {"patch_set_4096", patch_set_4096, "apply_patch"}, {"patch_rebuild", patch_rebuild, "apply_patch"},
     {"patch_address", patch_address, "apply_patch"}, {"outcome_line", outcome_line, "outcome_line"}, {"last_line", last_line, "last_line"},
+    {"failure_line", failure_line, "failure_line"}, {"block", block_of, "block"}, {"script_base", script_base, "script_base"},
+    {"index_16", index_16, "index_script"}, {"entries_1", entries_1, "apply_entries"}, {"entries_16", entries_16, "apply_entries"},
+    {"entries_none", entries_none, "apply_entries"},
     {"run_begin_1", run_begin_1, "run_begin"}, {"run_begin_16", run_begin_16, "run_begin"}, {"run_copy", run_copy, "run_next"},
     {"run_read", run_read, "run_next"}, {"run_log", run_log, "run_next"}, {"run_write", run_write, "run_next"},
     {"run_last_line", run_last_line, "run_next"}, {"run_end", run_end, "run_next"}, {"fault_line", fault_line, "fault_line"}, {"list_line", list_line, "list_line"},

@@ -82,12 +82,23 @@ static void check_refusals(uint8_t *sector, uint8_t *user, uint8_t *address, uns
     }
 }
 
+/* The block of each address, and no block for bytes that are not an address. */
+static void check_blocks(uint8_t *address) {
+    static const uint8_t others[][4] = {"\x00\x01\x74", "\x00\x02\x75", "\x00\x60\x00", "\x00\x02\x0A", "\xA0\x02\x00", "\xFF\xFF\xFF"};
+    uint32_t block = 7;
+    for (uint32_t n = 0; cdpatch_address(n, address); n++)
+        judge(cdpatch_block(address, &block) && block == n, "the block of an address", n);
+    for (unsigned n = 0; n < sizeof others / sizeof *others; n++)
+        judge(!cdpatch_block(others[n], &block) && block == CDPATCH_LAST_BASE, "no block has such an address", n);
+}
+
 static void check_addresses(uint8_t *address) {
     judge(cdpatch_address(0, address) && !memcmp(address, "\x00\x02\x00", 3), "address of block 0", 0);
     judge(cdpatch_address(449849, address) && !memcmp(address, "\x99\x59\x74", 3), "address of the last block", 0);
     judge(!cdpatch_address(449850, address) && !cdpatch_address(UINT32_MAX, address), "no address", 0);
     judge(!memcmp(address, "\x99\x59\x74", 3), "no address leaves the bytes", 0);
     judge(cdpatch_edc(address, 0) == 0, "EDC of no bytes", 0);
+    check_blocks(address);
 }
 
 /* A null pointer is valid for no bytes. */

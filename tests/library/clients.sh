@@ -2,27 +2,58 @@
 # tests/library/run and examples.sh define the other functions.
 
 # printed_program HEADER: prints the simplest program, with which the header begins.
-printed_program() { sed -n '/by one call:$/,/^ \* A program that reads/s/^ \* \{5\}//p' "$1"; }
+printed_program() { sed -n '/patches an image in memory:$/,/^ \* A program that reads/s/^ \* \{5\}//p' "$1"; }
 
-simplest_as_program() { client=./simplest_program piped_as_program "$@"; }
+# simplest_as_program IMAGE SCRIPT: whether that program makes the image and has the status of `cdpatch apply`, or makes none if the status
+# is not 0.
+simplest_as_program() {
+    local status=0 wanted=0
+    ./simplest_program < "$1" > out || status=$?
+    rm -f wanted.out
+    "$program" apply "$1" "$2" wanted.out > log || wanted=$?
+    [ "$wanted" = 0 ] || : > wanted.out
+    cmp -s out wanted.out && [ "$status" = "$wanted" ]
+}
 
 test_printed_program() {
     printed_program "$header" > simplest.c
     printf 'cdpatch 1\nset 16 40 434452544F4F4C\n' > simplest
     judge 'the simplest program that the header prints compiles as it stands there' \
         gcc -std=c99 -O2 "${strict[@]}" simplest.c library/libcdpatch.a -o simplest_program
-    judge 'it makes and prints what cdpatch does' simplest_as_program long simplest
-    judge 'of an empty image too' simplest_as_program /dev/null simplest
+    { cat "$vectors" "$vectors" "$vectors"; printf 'tail'; } > larger
+    judge 'it makes what cdpatch does' simplest_as_program larger simplest
+    judge 'it makes none of an empty image' simplest_as_program /dev/null simplest
+}
+
+# printed_audit HEADER: prints the function that audits an image in memory.
+printed_audit() { sed -n '/does, and returns its status:$/,/^ \* @{ \*\/$/s/^ \* \{5\}//p' "$1"; }
+
+# audits_as_program IMAGE: whether that function has the output and the status of `cdpatch audit`.
+audits_as_program() {
+    local status=0 wanted=0
+    ./printed_audit < "$1" > log || status=$?
+    "$program" audit "$1" > wanted || wanted=$?
+    cmp -s log wanted && [ "$status" = "$wanted" ]
+}
+
+test_printed_audit() {
+    { printf '#include <cdpatch.h>\n#include <stdio.h>\n' && printed_audit "$header" && printf '%s\n' 'static uint8_t image[1 << 20];' 'int main(void) {' \
+        '    return print_audit(image, fread(image, 1, sizeof image, stdin), 0);' '}'; } > printed_audit.c
+    judge 'the audit that the header prints compiles as it stands there' \
+        gcc -std=c99 -O2 "${strict[@]}" printed_audit.c library/libcdpatch.a -o printed_audit
+    judge 'it prints what cdpatch does' audits_as_program damaged
+    judge 'of an image with a tail too' audits_as_program long
 }
 
 # printed_client HEADER: prints the complete client that the header contains.
-printed_client() { sed -n '/whole client:$/,/^ \* Image, log, and status/s/^ \* \{5\}//p' "$1"; }
+printed_client() { sed -n '/whole client:$/,/^ \* The new image, the log/s/^ \* \{5\}//p' "$1"; }
 
 # compiled_client: compiles header_client with client.inc.
 compiled_client() { gcc -std=c99 -O2 "${strict[@]}" -I . "$tests/library/header_client.c" library/libcdpatch.a -o header_client 2> errors; }
 
 client_as_program() { client=./header_client piped_as_program "$@"; }
 client_reads_a_directory() { ./header_client script < .; }
+client_of_another_base() { ./header_client other_base < damaged; }
 client_writes_to_full() { ./header_client script < damaged > /dev/full; }
 client_logs_to_full() { ./header_client script < damaged 2> /dev/full; }
 
@@ -34,6 +65,7 @@ client_fills_a_disk() {
 
 test_printed_client() {
     test_printed_program
+    test_printed_audit
     printed_client "$header" > client.inc
     judge 'the client that the header prints compiles as it stands there' compiled_client
     judge 'it has status 2 at each byte at which a file of it fails' holds ./header_client
@@ -41,15 +73,13 @@ test_printed_client() {
     judge 'of an image with a tail too' client_as_program long script
     judge 'of an empty image too' client_as_program /dev/null script
     judge 'of a script with an error too' client_as_program damaged invalid
+    judge 'it refuses a script for another base' ends_with 2 client_of_another_base
     judge 'it fails on a failed read' ends_with 2 client_reads_a_directory
     judge 'it fails on a full standard output' ends_with 2 client_writes_to_full
     judge 'it fails on a full standard error' ends_with 2 client_logs_to_full
     judge 'it fails on a full disk' ends_with 2 client_fills_a_disk
     if compiler g++ g++; then
         judge 'as C++20 it compiles without a warning' g++ -x c++ -std=c++20 "${strict[@]}" -I . -c "$tests/library/header_client.c" -o plus.o
-        sed 's/, CDPATCH_SECTORS_IN_HAND = 3,/ }; enum { CDPATCH_SECTORS_IN_HAND = 3,/' "$header" > cdpatch.h
-        judge 'with sizes in two enums it would not' eval '! cmp -s cdpatch.h "$header" && ! g++ -x c++ -std=c++20 -Wall -Werror -I . \
-            -c "$tests/library/header_client.c" -o plus.o 2> errors'
     fi
 }
 
@@ -69,7 +99,10 @@ test_forgotten_results() {
         compiler=(gcc "-std=$language")
         [ "$language" = c99 ] || compiler=(g++ -x c++ "-std=$language")
         for call in 'cdpatch_change_user(bytes, 2047, bytes + 2352, 2)' 'cdpatch_rebuild(bytes)' \
-            'cdpatch_survey(bytes, 1, 0, (struct cdpatch_record *)bytes, 2)' 'cdpatch_list(bytes, 0, 0, bytes, 0, &length)'; do
+            'cdpatch_survey(bytes, 1, 0, (struct cdpatch_record *)bytes, 2)' 'cdpatch_list(bytes, 0, 0, bytes, 0, &length)' \
+            'cdpatch_index_script(bytes, 1, NULL, 0, (struct cdpatch_index *)bytes)' \
+            'cdpatch_script_base(bytes, 1, 0, (struct cdpatch_named_base *)bytes)' \
+            'cdpatch_apply_entries((struct cdpatch_job *)bytes, bytes, 1, NULL, 0, &length)'; do
             forgets "$call"
             judge "a compiler warns if nobody looks at what a call returns: $language: $call" warns_of_it "${compiler[@]}"
             judge 'and does not with -DCDPATCH_NODISCARD=' refuses warns_of_it "${compiler[@]}" -DCDPATCH_NODISCARD=
@@ -105,6 +138,6 @@ test_refused_memory() {
     { echo 'cdpatch 1' && head -c 40000000 /dev/zero | tr '\0' '#'; } > wide
     truncate -s 6000000 sparse
     judge 'examples/patch_pipe.c says so if there is no memory for its script' survives 3000 40 ./patch_pipe wide
-    judge 'examples/audit.c says so if there is none for the image or the text' survives 40 180 ./audit sparse
+    judge 'examples/audit.c says so if there is none for the image' survives 40 180 ./audit sparse
     judge 'examples/patch_map.c says so if there is none for a map' survives 3000 40 ./patch_map --without-old wide sparse
 }

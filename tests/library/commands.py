@@ -1,19 +1,15 @@
-"""Runs the calls of a shared libcdpatch on images as the commands of the program."""
+"""Runs the calls of a shared libcdpatch on images as the commands of the program, and applies scripts in pieces too."""
 
 import ctypes
-from functools import lru_cache
 
-FAILED = 2
-KEPT = b'\xA5'
-MORE = 40  # guard bytes after the memory that a call may write
-ENTRY_SIZE = 20
+from in_pieces import FAILED, KEPT, MORE, opened
+from in_pieces import run as run_in_pieces
+
+PIECES = 3, 4, 446
+ENTRY_SIZE = 24
 BUFFERS_SIZE = 3 * 2352 + 2 * 4096
 MOST_PATCHES = 65535
-
-
-@lru_cache
-def opened(path):
-    return ctypes.CDLL(path)
+LAST_BASE = 449849
 
 
 def sized(data):
@@ -50,4 +46,9 @@ def run(path, command, image, base, carry, script):
     written = len(image) if has_image else 0
     if text.raw[length.value:].strip(KEPT) or out.raw[written:].strip(KEPT):
         raise ValueError('bytes changed that should stay')
-    return status, text.raw[:length.value], out.raw[:written] if has_image else None
+    made = status, text.raw[:length.value], out.raw[:written] if has_image else None
+    if command in ('check', 'apply') and base <= LAST_BASE:
+        for most in (*PIECES, len(image) // 2352 + 1):
+            if run_in_pieces(path, command, image, base, carry, script, most) != made:
+                raise ValueError(f'pieces of {most} sectors make something else')
+    return made

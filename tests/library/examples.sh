@@ -95,7 +95,10 @@ test_pipe_example() {
     judge 'it misses the head line' piped_as_program damaged headless
     : > empty
     judge 'in an empty script too' piped_as_program damaged empty
-    judge 'it holds no image' pipes_in_memory 2000
+    judge 'it holds no image' pipes_in_memory 6000
+    printf 'cdpatch 1\n# base 150\nset 150 0 41\n' > other_base
+    judge 'it refuses a script for another base' ends_with 2 ./patch_pipe other_base
+    judge 'which it says' grep -qx 'patch_pipe: line 2 of the script says base 150, but the image begins with block 0' errors
     judge 'it fails on a full standard output' ends_with 2 pipes_to_full
     judge 'it fails without a script' ends_with 2 ./patch_pipe nothing
     judge 'it fails on a directory' ends_with 2 pipes_a_directory
@@ -114,12 +117,6 @@ later_library() {
     cp right.a later.a
     ar r later.a later.o 2> errors
     gcc -shared -Wl,--whole-archive later.a -Wl,--no-whole-archive -o later.so 2> errors
-}
-
-# names_a_later_line PROGRAM: whether patch_map.c, linked to the later library as this program, continues after `cdpatch 9`.
-names_a_later_line() {
-    printf 'cdpatch 9\naddress 0 12:34:56\n' > later
-    ends_with 2 "$1" later damaged && grep -qx 'patch_map: line 2 of the script names no old bytes' errors
 }
 
 # Tests a client in Python that reads line by line with the later library.
@@ -176,6 +173,7 @@ test_map_example() {
     judge 'and that of one without a head line' maps_as_program 2 long headless
     judge 'it takes an empty image' maps_as_program 1 empty with_old
     judge 'and a script without a patch' maps_as_program 0 empty none
+    judge 'it refuses a script for another base' keeps_the_file other_base mapped
     judge 'it fails without a script' keeps_the_file nothing mapped
     judge 'it fails on a pipe' keeps_the_file <(cat with_old) mapped
     judge 'it fails on other arguments' keeps_the_file --carry with_old mapped
@@ -191,9 +189,7 @@ test_map_example() {
 test_later_library() {
     missing objcopy binutils 'a later library' && return
     later_library
-    gcc -std=c99 -O2 "${strict[@]}" "$top/examples/patch_map.c" later.a -o later_map 2> errors
-    judge 'it reads a later version of the language' names_a_later_line ./later_map
-    judge 'so does a client by lines in Python' takes_a_later_version_by_lines
+    judge 'a client by lines in Python reads a later version of the language' takes_a_later_version_by_lines
 }
 
 test_examples() {

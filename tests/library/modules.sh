@@ -71,7 +71,7 @@ test_numbers() {
     compiler gcc 'gcc and libc6-dev' || return
     judge 'the numbers for JavaScript and Python are made of the header' numbers_of_header
     judge 'those for JavaScript are the numbers of the header, and a compiler lays the structs out so' holds has_the_numbers \
-        made/web/core/module/numbers.js
+        made/web/core/module/numbers.ts
 }
 
 test_modules() {

@@ -1,12 +1,13 @@
-// `numbers.mjs NUMBERS` prints a C program that compiles only if cdpatch.h has the numbers and structs of the JavaScript module NUMBERS.
+// `numbers.mjs NUMBERS` prints a C program that compiles only if cdpatch.h has the numbers and structs of the module NUMBERS, whose
+// code is JavaScript too.
 
-import { pathToFileURL } from 'node:url';
+import { readFileSync } from 'node:fs';
 
 /** @type {Record<string, number | Record<string, number>>} */
-const numbers = await import(pathToFileURL(process.argv[2]).href);
+const numbers = await import(`data:text/javascript,${encodeURIComponent(readFileSync(process.argv[2], 'utf8'))}`);
 
 /** @type {Record<string, string>} the prefix of the members of an enum that has another name */
-const PREFIXES = { SECTOR_KIND: 'KIND', STEP_KIND: 'STEP', RUN_FLAG: 'FLAG' };
+const PREFIXES = { SECTOR_KIND: 'KIND', STEP_KIND: 'STEP', RUN_FLAG: 'FLAG', JOB_FLAG: 'FLAG' };
 
 /** @param {string} fact */
 const holds = fact => console.log(`_Static_assert(${fact}, "");`);

@@ -8,10 +8,11 @@ from pathlib import Path
 TYPES = {'u8': 'uint8_t', 'u16': 'uint16_t', 'u32': 'uint32_t', 'u64': 'uint64_t', 'usize': 'size_t', 'bool': 'bool'}
 NAMES = {'bcd': 'address', 'found': 'defect', 'used': 'length'}  # parameters with different names in C
 NAMES_IN = {('cdpatch_result_text', 'number'): 'result'}
-PREFIXES = {'cdpatch_sector_kind': 'KIND', 'cdpatch_step_kind': 'STEP', 'cdpatch_run_flag': 'FLAG'}  # others are the enum's name
+PREFIXES = {'cdpatch_sector_kind': 'KIND', 'cdpatch_step_kind': 'STEP', 'cdpatch_run_flag': 'FLAG', 'cdpatch_job_flag': 'FLAG'}  # others are the enum's name
 STRUCTS = {'FoundDefect': 'cdpatch_defect', 'SectorRecord': 'cdpatch_record', 'TextLine': 'cdpatch_line',
            'FlatPatch': 'cdpatch_patch', 'Place': 'cdpatch_place', 'DigestState': 'cdpatch_sha1', 'Entry': 'cdpatch_entry',
-           'Rooms': 'cdpatch_rooms', 'Buffers': 'cdpatch_buffers', 'RunStep': 'cdpatch_step'}
+           'Rooms': 'cdpatch_rooms', 'Buffers': 'cdpatch_buffers', 'RunStep': 'cdpatch_step', 'Index': 'cdpatch_index',
+           'Answer': 'cdpatch_answer', 'PatchBytes': 'cdpatch_patch_bytes', 'Job': 'cdpatch_job', 'NamedBase': 'cdpatch_named_base'}
 # A struct with private fields: C sees 64-bit words.
 WORDS = {'ScriptRun': 'cdpatch_run'}
 BYTES = {'u8': 1, 'u16': 2, 'u32': 4, 'u64': 8, 'usize': 8}
@@ -20,6 +21,7 @@ FLAGS = {('FoundDefect', 'zeros'), ('FoundDefect', 'edc'), ('SectorRecord', 'add
          ('SectorRecord', 'edc')}
 # The enum of the number that a call returns.
 ENUMS = {'cdpatch_kind': 'cdpatch_sector_kind', 'cdpatch_read_line': 'cdpatch_content', 'cdpatch_merge_sector': 'cdpatch_fit',
+         'cdpatch_index_script': 'cdpatch_script', 'cdpatch_apply_entries': 'cdpatch_stop',
          **dict.fromkeys(['cdpatch_rebuild', 'cdpatch_change_user', 'cdpatch_carry_user', 'cdpatch_change_address',
                           'cdpatch_carry_address', 'cdpatch_apply_patch'], 'cdpatch_result'),
          **dict.fromkeys(['cdpatch_list', 'cdpatch_audit', 'cdpatch_check', 'cdpatch_apply'], 'cdpatch_status')}
@@ -34,6 +36,8 @@ SIZES = {'CDPATCH_SECTOR_SIZE': ['SECTOR_SIZE'], 'CDPATCH_USER_SIZE': ['USER_SIZ
 # Sizes of arrays that no constant of the sources has as a number.
 COUNTS = {'DIAGONALS': '52', 'DIGEST_LEN': '20'}
 ARRAYS = {'CDPATCH_ADDRESS_SIZE': ['3'], 'CDPATCH_DIAGONALS': ['52'], 'CDPATCH_DIGEST_SIZE': ['20']}
+# Room for the texts of the program, by the limits of a script and of an image.
+ARRAYS |= {'CDPATCH_MOST_LOG_BYTES': [str(200 + 80 * 65536)], 'CDPATCH_MOST_AUDIT_BYTES': [str(100 + 40 * 1000000)]}
 
 
 def spaced(text):
@@ -53,11 +57,12 @@ def of_c(call, parameter, constants):
     changes, target = pointer.groups()
     piece = re.fullmatch(r'\[([^;]*)\]', target)
     item = piece.group(1) if piece else target
+    item = item.replace("<'_>", '')
     array = re.fullmatch(r'\[u8; (\w+)\]', item)
     if item in {**STRUCTS, **WORDS}:
         made, count = f'struct {({**STRUCTS, **WORDS})[item]}', '1'
-    elif item == 'usize':
-        made, count = 'size_t', '1'
+    elif item in ('usize', 'u32'):
+        made, count = TYPES[item], '1'
     elif array or item in ('u8', 'Sector'):
         made, count = 'uint8_t', array.group(1) if array else 'SECTOR_SIZE'
     else:
@@ -76,6 +81,12 @@ def fields_of(struct, body, source):
         if kind.startswith('[Sector; '):
             made.append('uint8_t hand[7056]')
             continue
+        pointer = re.fullmatch(r"&'a (mut )?\[?(\w+)(\])?", kind)
+        if pointer:  # a slice is a pointer and a size, which may have any name
+            target = f'struct {STRUCTS[pointer[2]]}' if pointer[2] in STRUCTS else TYPES[pointer[2]]
+            made.append(('' if pointer[1] else 'const ') + f'{target} *{name}')
+            made += ['size_t'] * bool(pointer[3])
+            continue
         item, _, count = kind.strip('[]').partition('; ')
         count = next((named for named, sources in SIZES.items() if count in sources), count)
         made.append(('bool' if (struct, name) in FLAGS else TYPES[item]) + f' {name}' + (f'[{count}]' if count else ''))
@@ -83,7 +94,7 @@ def fields_of(struct, body, source):
 
 
 def body_of(struct, source):
-    found = re.search(rf'^pub struct {struct} {{\n(.*?)\n}}', source, re.S | re.M)
+    found = re.search(rf"^pub struct {struct}(?:<'a>)? {{\n(.*?)\n}}", source, re.S | re.M)
     return found and found.group(1) + '\n'
 
 
@@ -131,8 +142,10 @@ def exports(source):
     fits = [(name, number) for name, number in re.findall(r'Fit::(\w+) => (\d+),', source)]
     fits += [('NONE', number) for name, number in constants if name == 'NO_FIT']
     numbers = {'result': results, 'content': contents, 'fit': fits}
+    for name, beginning in (('script', 'SCRIPT_'), ('stop', 'STOP_'), ('failure', 'FAILURE_')):
+        numbers[name] = [(each.removeprefix(beginning), number) for each, number in constants if each.startswith(beginning)]
     for name, found in (('status', ('DONE', 'FOUND', 'FAILED')), ('verb', ('SET', 'FILL', 'REBUILD', 'ADDRESS')), ('sector_kind', KINDS),
-                        ('step_kind', ('END', 'READ', 'COPY', 'WRITE', 'LOG')), ('run_flag', ('CARRY', 'NO_COPY', 'WITHOUT_OLD'))):
+                        ('step_kind', ('END', 'READ', 'COPY', 'WRITE', 'LOG')), ('run_flag', ('CARRY', 'NO_COPY', 'WITHOUT_OLD')), ('job_flag', ('LAST',))):
         numbers[name] = [pair for pair in constants if pair[0] in found]
     made.update((f'enum cdpatch_{name}', numbered(f'cdpatch_{name}', pairs)) for name, pairs in numbers.items())
     for name, sources in SIZES.items():
@@ -152,7 +165,9 @@ def declared(header):
         parameters = [spaced(parameter) for parameter in listed.split(',') if parameter != 'void']
         made[name] = [result, *(re.sub(r'^size_t \w+$', 'size_t', parameter) for parameter in parameters)]
     for name, body in re.findall(r'struct (\w+) \{(.*?)\}', code, re.S):
-        made[f'struct {name}'] = [' '.join(field.split()) for field in body.split(';') if field.strip()]
+        fields = [' '.join(field.split()) for field in body.split(';') if field.strip()]
+        made[f'struct {name}'] = ['size_t' if '*' in before and field.startswith('size_t ') else field
+                                  for before, field in zip(['', *fields], fields)]
     for name, body in re.findall(r'enum (\w+) \{(.*?)\}', code, re.S):
         made[f'enum {name}'] = [' '.join(each.split()) for each in body.split(',')]
     for body in re.findall(r'enum \{(.*?)\}', code, re.S):

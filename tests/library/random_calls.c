@@ -10,7 +10,7 @@
 #include <stdlib.h>
 #include <string.h>
 
-enum { SECTOR = CDPATCH_SECTOR_SIZE, MOST_SECTORS = 6, MOST_BYTES = MOST_SECTORS * SECTOR + 5000, MOST_ARGUMENTS = 16, MOST_ENTRIES = 12, CALLS = 35 };
+enum { SECTOR = CDPATCH_SECTOR_SIZE, MOST_SECTORS = 6, MOST_BYTES = MOST_SECTORS * SECTOR + 5000, MOST_ARGUMENTS = 16, MOST_ENTRIES = 12, CALLS = 39 };
 
 static uint64_t state;
 static uint8_t sectors[MOST_BYTES], bytes[MOST_BYTES], old_bytes[MOST_BYTES], out[MOST_BYTES], address[3], address_room[3];
@@ -23,6 +23,8 @@ static struct cdpatch_record records[MOST_SECTORS];
 static struct cdpatch_sha1 sha1;
 static struct cdpatch_entry entries[MOST_ENTRIES];
 static struct cdpatch_buffers buffers;
+static struct cdpatch_index index_found;
+static struct cdpatch_named_base other;
 static size_t length;
 
 /* ---- the record of a call */
@@ -238,6 +240,38 @@ static void on_text(void) {
     input(here, count - from), size(count - from), room(&line, sizeof line);
     end(cdpatch_first_line(here, count - from, &line));
 }
+static void on_script(bool is_index) {
+    size_t count = make_script(), capacity = some(MOST_ENTRIES + 1), at = count;
+    uint32_t base = (uint32_t)(once_in(4) ? some_number() : some(9));
+    if (count < MOST_BYTES - 40)
+        count += (size_t)sprintf((char *)bytes + at, "%s# base %u%s", at && bytes[at - 1] != '\n' ? "\n" : "", (uint32_t)some(12),
+                                 (const char *const[]){"", "\n", " \t\r\n", " x\n"}[some(4)]);
+    uint8_t *from = (uint8_t *)lent(bytes, count);
+    struct cdpatch_entry *to = (struct cdpatch_entry *)lent(entries, capacity);
+    begin(is_index ? "index_script" : "script_base");
+    input(from, count), size(count);
+    if (is_index) {
+        room(to, capacity * sizeof *to), size(capacity), room(&index_found, sizeof index_found);
+        end(cdpatch_index_script(from, count, to, capacity, &index_found));
+    } else {
+        number(base), room(&other, sizeof other);
+        end(cdpatch_script_base(from, count, base, &other));
+    }
+}
+static void on_block(void) {
+    uint32_t block = (uint32_t)some_number();
+    if (!cdpatch_address((uint32_t)some(449850), address_room) || once_in(2))
+        address_room[some(3)] = (uint8_t)some(256);
+    begin("block");
+    input(address_room, 3), room(&block, sizeof block);
+    end(cdpatch_block(address_room, &block));
+}
+static void on_failure(void) {
+    uint32_t failure = (uint32_t)(once_in(5) ? some_number() : some(5));
+    begin("failure_line");
+    number(failure), room(text, CDPATCH_LINE_SIZE);
+    end(cdpatch_failure_line(failure, text));
+}
 static void on_hand(void) {
     size_t count = make_sectors(4);
     bool carry = once_in(2);
@@ -361,7 +395,11 @@ static void make_call(uint64_t which) {
     case 21: case 22: case 23: case 24: on_report_lines(which - 21); break;
     case 25: on_merge(); break;
     case 26: on_correction(); break;
-    default: on_codes(which - 27);
+    case 27: on_script(true); break;
+    case 28: on_script(false); break;
+    case 29: on_block(); break;
+    case 30: on_failure(); break;
+    default: on_codes(which - 31);
     }
 }
 

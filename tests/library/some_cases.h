@@ -6,7 +6,7 @@
 #include <stdlib.h>
 #include <string.h>
 
-enum { SECTOR = CDPATCH_SECTOR_SIZE, MOST_SECTORS = 9, MOST_LINES = 9, SMALL_ROOM = 16, LARGE_EACH = 500 };
+enum { SECTOR = CDPATCH_SECTOR_SIZE, MOST_SECTORS = 9, MOST_LINES = 9, SMALL_ROOM = 16, LARGE_EACH = 500, LARGE_IMAGE = 3000 };
 
 /* `without_old` is the same script without old bytes. */
 struct some_case { uint8_t *image; size_t size; uint8_t *script; size_t script_size; uint8_t *without_old; size_t without_old_size; uint32_t base;
@@ -34,10 +34,10 @@ static void some_bytes(uint64_t *dice, uint8_t *bytes, size_t size) {
         bytes[i] = (uint8_t)roll(dice);
 }
 
-/* Whole sectors, most of them sound, and a tail. A large image has 3000 sectors. */
+/* Whole sectors, most of them sound, and a tail. A large image has LARGE_IMAGE sectors. */
 static void some_image(uint64_t *dice, struct some_case *it, bool large) {
     static const size_t tails[] = {0, 0, 1, 2351, 700};
-    size_t count = large ? 3000 : below(dice, MOST_SECTORS + 1), tail = tails[below(dice, 5)];
+    size_t count = large ? LARGE_IMAGE : below(dice, MOST_SECTORS + 1), tail = tails[below(dice, 5)];
     uint8_t user[CDPATCH_USER_SIZE] = {0}, address[3] = {0, 2, 0};
     it->size = count * SECTOR + tail;
     it->image = more(NULL, it->size);

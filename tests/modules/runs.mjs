@@ -3,6 +3,7 @@
 
 import { Calls } from './calls.mjs';
 import { Input } from '../lib/input.mjs';
+import { sameInPieces } from './pieces.mjs';
 import { runOnce, sameByRuns } from './run.mjs';
 
 /** @typedef {{ base: number, flags: number, status: number, sizes: number[], blank: number, blocks: number[] }} Head */
@@ -63,7 +64,9 @@ function seeLong(head, [sectors, script, log, out]) {
  */
 function seeShort(head, [image, script, text, out]) {
     const { base, flags, status } = head;
-    sameByRuns(calls, { image, script, base, carry: false }, { status, text, out: status === FAILED ? null : out }, flags);
+    const due = { status, text, out: status === FAILED ? null : out };
+    sameByRuns(calls, { image, script, base, carry: false }, due, flags);
+    sameInPieces(calls, { image, script, base, flags }, due);
 }
 
 let [number, differ] = [0, 0];

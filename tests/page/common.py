@@ -62,7 +62,7 @@ def folder(name: str) -> Path:
 def text(key: str, language: str = 'en') -> str:
     """Returns a text of the page by its key, so that a test that only waits for a text does not repeat it. Only texts that players see are in
     other languages."""
-    names = ('english.js', 'player/english.js') if language == 'en' else (f'player/{language.lower().replace("-", "_")}.js',)
+    names = ('english.ts', 'player/english.ts') if language == 'en' else (f'player/{language.lower().replace("-", "_")}.ts',)
     source = ''.join((TOP / 'web/page/texts' / name).read_text('utf-8') for name in names)
     piece = r"'(?:[^'\\\n]|\\[\s\S])*'"
     found = re.search(rf"(?m)^(?:export const {key} =| +'?{key}'?:)\s+((?:{piece} \+\n *)*{piece})[;,]$", source)
@@ -72,7 +72,7 @@ def text(key: str, language: str = 'en') -> str:
 
 def keys_for_players() -> list[str]:
     """The keys of the texts that players see."""
-    return re.findall(r'(?m)^    (\w+):(?! \{)', (TOP / 'web/page/texts/player/english.js').read_text('utf-8'))
+    return re.findall(r'(?m)^    (\w+):(?! \{)', (TOP / 'web/page/texts/player/english.ts').read_text('utf-8'))
 
 
 def encodings() -> list[dict[str, Any]]:

@@ -6,7 +6,7 @@ import { gzipSync } from 'node:zlib';
 
 import { core } from './page.mjs';
 
-const { crc32, joinedCrc } = await core('crc32.js');
+const { crc32, joinedCrc } = await core('bytes.js');
 
 test('the CRC-32 is that of gzip, in whatever parts the bytes come', () => {
     assert.equal(crc32(0, new TextEncoder().encode('123456789')), 0xCBF43926);

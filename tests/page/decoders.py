@@ -13,7 +13,7 @@ OF_TABLES = ('CP437', 'CP850', 'CP852')
 READ = '''const [label, codes] = arguments;
 const decoder = new TextDecoder(label);
 return codes.map(code => decoder.decode(Uint8Array.from(code < 256 ? [code] : [code >> 8, code & 255])));'''
-TABLES = f"""import {{ encodingOf }} from '{common.TOP}/web/core/encodings/encodings.js';
+TABLES = f"""import {{ encodingOf }} from '{common.TOP}/out/web/core/encodings/encodings.js';
 const spelled = name => [...encodingOf(name).table.spellings].flatMap(([text, all]) => all.map(bytes => ({{ bytes, text }})));
 const others = name => spelled(name).filter(({{ bytes }}) => bytes[0] >= 0x80);
 const codeOf = bytes => bytes.reduce((code, byte) => code << 8 | byte);

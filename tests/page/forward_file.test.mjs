@@ -7,7 +7,7 @@ import { core, page, summing } from './page.mjs';
 
 const { forwardOf } = await core('bytes.js');
 const { sumsOf } = await page('app/hashing.js');
-const { fileReader, readByWorkers } = await page('open/file_reader.js');
+const { fileReader, readByWorkers } = await page('open/reading.js');
 
 const MiB = 2 ** 20;
 const bytes = Buffer.alloc(72 * MiB + 7, Uint8Array.from({ length: 65537 }, (_, i) => i ^ i >> 9));

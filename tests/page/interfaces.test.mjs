@@ -12,19 +12,22 @@ import { downloads, withDocument } from './document.mjs';
 import { calls, core, page, pageFile, summing, top } from './page.mjs';
 
 const { openDisc } = await core('disc/index.js');
+const { kindOfFile } = await core('disc/views.js');
 const { encodeText, encodingOf } = await core('encodings/index.js');
 const { App } = await page('app/state.js');
 const { SecondRepair } = await page('second/repair.js');
-const { SearchJob } = await page('text/search_job.js');
+const { SearchJob, linesForAll } = await page('text/search.js');
 const { FilesList } = await page('disc/files_list.js');
 const { TextsTable } = await page('text/texts_table.js');
-const { linesForAll } = await page('text/hits.js');
-const { makeUndo } = await page('script/undo_file.js');
-const { writeScript } = await page('second/script.js');
+const { makeUndo } = await page('script/panel.js');
+const { writeScript } = await page('second/compare.js');
 const { filledUp } = await core('tasks/index.js');
 const { imageOfTrack } = await page('open/open.js');
-const { countedAs, readImage } = await page('open/survey_image.js');
+const { countedAs, readImage } = await page('open/reading.js');
+const { judgeImage } = await page('player/verdict.js');
 const { saveWork, tryWork } = await page('save/patch_job.js');
+const { remarkText } = await page('texts/index.js');
+const { KINDS } = await page('../sentences/english.js');
 const { Cdpatch, ScriptError } = await page('../npm/cdpatch.js');
 
 const [RAW, USER] = [2352, 2048];
@@ -269,15 +272,26 @@ function counted(out) {
     return [mode1, damaged + hurt, elsewhere + moved, lost, lack && lack.slice(1, 3).map(Number)];
 }
 
+/** The findings that a player is told. The script writes one byte near the end of the image, without its old value. */
+async function toldToPlayer(app) {
+    const { base, sectors, opened: track } = app.image;
+    const data = { base, carry: false, script: `cdpatch 1\nset ${base + sectors - 3} 2047 41\n`, image: { size: 0, sha1: '' }, result: '' };
+    const { verdict, findings } = await judgeImage(app, data, track, { signal: new AbortController().signal, progress() {} });
+    return verdict === 'unknown' ? findings : null;
+}
+
 test('an image: survey', { skip }, async t => {
     withDocument(t);
     for (const [name, { files, base, due }] of Object.entries(SURVEYED)) {
-        const { survey: { marks, lacks: [lack = null], verdict } } = await opened(files, { base });
+        const app = await opened(files, { base });
+        const { survey: { marks, lacks: [lack = null], verdict } } = app;
         const missing = lack && [lack.missing.first, lack.missing.last];
         assert.deepEqual([marks.mode1(), marks.damaged(), marks.elsewhere, marks.lost.map(it => [it.first, it.last]), missing], due, name);
         const { out, status } = cdscript('info', ...words(files, { base }));
         assert.deepEqual(counted(out), due, name);
         assert.equal(verdict.status, status, name);
+        // A patch writes only Mode 1.
+        if (due[0] > 0) assert.deepEqual(await toldToPlayer(app), verdict.findings, name);
     }
 });
 
@@ -481,5 +495,38 @@ test('a table of texts: export and import', { skip }, async t => {
         write({ 'list.csv': list });
         assert.equal(app.script.text(), cdscript('replace', ...given, '--list', 'list.csv', '--partial').out, name);
         assert.equal(linesOf(app.script.text()).filter(line => line.startsWith('set ')).length, due, name);
+    }
+});
+
+/** Files that are neither images, nor scripts, nor lists. */
+const OF_OTHER_TOOLS = {
+    'a.ppf': Buffer.from('PPF30\x02'), 'a.xdelta': Buffer.from([0xD6, 0xC3, 0xC4, 0, 1]), 'a.ips': Buffer.from('PATCH\0\0\x01\0\x01xEOF'),
+    'a.bps': Buffer.from('BPS1'), 'a.ups': Buffer.from('UPS1'), 'a.chd': Buffer.from('MComprHD'),
+    'a.xlsx': Buffer.from('PK\x03\x04[Content_Types].xmlPK\x01\x02xl/workbook.xml'), 'a.gdi': Buffer.from('1\n1 0 4 2352 track01.bin 0\n'),
+};
+
+test('a file of another tool: as an image, as a script, and as a list', { skip }, async t => {
+    withDocument(t);
+    const app = await opened({ 'd.bin': raw() });
+    for (const [name, bytes] of Object.entries(OF_OTHER_TOOLS)) {
+        const [what, advice] = KINDS[await kindOfFile(calls, { size: bytes.length, read: async (at, length) => bytes.subarray(at, at + length) })];
+        const due = `${name} is ${what}. ${advice}`;
+        await assert.rejects(opened({ [name]: bytes }), error => remarkText(error) === due);
+        write({ [name]: bytes, 'd.bin': raw(), script: ascii('cdpatch 1\n') });
+        const isBinary = name !== 'a.gdi';
+        if (isBinary) {
+            const table = new TextsTable(app);
+            await table.takeAny(fileOf(name, bytes));
+            assert.ok(table.message.textContent.includes(due), name);
+        }
+        assert.equal(cdscript('info', name).out, `${name}: ${what}\n${advice}\n`);
+        assert.ok(cdscript('scan', name).out.includes(what), name);
+        const asImage = [['check', name, 'script'], ['apply', name, 'script', 'o.bin']];
+        const asOther = [['check', 'd.bin', name], ['apply', 'd.bin', name, 'o.bin'], ['undo', 'd.bin', name], ['replace', 'd.bin', '--list', name]];
+        for (const job of isBinary ? [...asImage, ...asOther] : asImage) {
+            rmSync(join(room, 'o.bin'), { force: true });
+            const { status, errors } = cdscript(...job);
+            assert.deepEqual([status, errors], [2, `cdscript: ${due}\n`], job.join(' '));
+        }
     }
 });

@@ -7,8 +7,7 @@ import { page } from './page.mjs';
 const { ENGLISH: texts } = await page('texts/player/english.js');
 const { LANGUAGES, knownLanguage, playerTexts, setLanguage } = await page('texts/language.js');
 const { counted, format, remarkText } = await page('texts/say.js');
-const { ENGLISH: sentences } = await page('../sentences/english.js');
-const { KINDS } = await page('../sentences/kinds.js');
+const { ENGLISH: sentences, KINDS } = await page('../sentences/english.js');
 
 const OTHERS = LANGUAGES.map(([tag]) => tag).filter(tag => tag !== 'en');
 

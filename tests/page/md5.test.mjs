@@ -5,7 +5,7 @@ import { createHash } from 'node:crypto';
 import { test } from 'node:test';
 import { page } from './page.mjs';
 
-const { Md5 } = await page('app/md5.js');
+const { Md5 } = await page('app/hashing.js');
 
 const bytesOf = length => Uint8Array.from({ length }, (_, i) => (i * 37 + (i >> 5)) & 255);
 

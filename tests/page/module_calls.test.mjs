@@ -5,8 +5,8 @@ import { createHash } from 'node:crypto';
 import { test } from 'node:test';
 import { calls, imageOf, page } from './page.mjs';
 
-const { crossingsOf } = await page('disc/crossings.js');
-const { Sha1 } = await page('app/sha1.js');
+const { crossingsOf } = await page('disc/places.js');
+const { Sha1 } = await page('app/hashing.js');
 
 test('one wrong byte lies where a column and a diagonal cross', () => {
     const sector = imageOf([Uint8Array.of(1, 2, 3)]).bytes;

@@ -5,8 +5,8 @@ import { createHash } from 'node:crypto';
 import { test } from 'node:test';
 import { calls, page } from './page.mjs';
 
-const { OWN } = await page('app/bundle.js');
-const { pageSource, publishedSource } = await page('player/own_text.js');
+const { OWN } = await page('app/pool.js');
+const { pageSource, publishedSource } = await page('player/patcher.js');
 
 const style = 'p { color: black }';
 const policy = `script-src 'sha256-${'A'.repeat(43)}=' 'sha256-${'B'.repeat(43)}='; style-src 'none'`;

@@ -1,4 +1,4 @@
-// Shared by the tests of the page's logic: its modules, from the directory WEB or else web/, and the calls of the module.
+// Shared by the tests of the page's logic: its modules, from the directory WEB or else out/web, and the calls of the module.
 
 import { File } from 'node:buffer';
 import { webcrypto } from 'node:crypto';
@@ -11,7 +11,7 @@ globalThis.File ??= File;
 globalThis.crypto ??= webcrypto;
 
 export const top = fileURLToPath(new URL('../..', import.meta.url));
-const web = process.env.WEB ?? join(top, 'web');
+const web = process.env.WEB ?? join(top, 'out/web');
 
 /** @param {string} name a file or a directory of the page */
 export const pageFile = name => join(web, 'page', name);
@@ -29,7 +29,7 @@ const { Calls } = await core('module/calls.js');
 
 export const calls = new Calls(new WebAssembly.Module(readFileSync(join(top, 'library/cdpatch.wasm'))));
 
-const { Sha1 } = await page('app/sha1.js');
+const { Sha1 } = await page('app/hashing.js');
 
 /** A stand-in for a worker that hashes. */
 class HashWorker {

@@ -173,7 +173,7 @@ class PageTest(unittest.TestCase):
 
     def saved_list(self, form: str, name: str) -> Path:
         """Saves this table with the typed texts as a list."""
-        self.save_list(common.text(f'textAs{form.title()}'))
+        self.save_list({'csv': 'A table for spreadsheets (CSV)', 'tsv': 'A table with tabs (TSV)', 'po': 'A PO file for PO editors'}[form])
         path = self.browser.downloaded(f'{name}.{form}')
         common.waited(path.read_bytes, 'the list is empty')
         return path.rename(common.folder('list') / f'mine.{form}')

@@ -7,8 +7,8 @@ import { MESSAGES } from '../lib/messages.mjs';
 import { calls, imageOf, page, parts, writtenBy } from './page.mjs';
 
 const { checkWork, saveWork } = await page('save/patch_job.js');
-const { saveImage } = await page('save/pieces.js');
-const { fileReader } = await page('open/file_reader.js');
+const { saveImage } = await page('save/save.js');
+const { fileReader } = await page('open/reading.js');
 
 const game = imageOf([new Uint8Array(4), Uint8Array.of(1, 2, 3)]);
 const file = Object.assign(new Blob([game.bytes]), { name: 'game.bin', lastModified: 7 });

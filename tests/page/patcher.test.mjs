@@ -6,9 +6,8 @@ import { test } from 'node:test';
 import { deflateSync, inflateSync } from 'node:zlib';
 import { calls, core, page } from './page.mjs';
 
-const { base64Of, comparedWithPage, patcherText, readPatcherText } = await page('player/patcher.js');
-const { headFault } = await page('player/patcher_head.js');
-const { bytesOfBase64 } = await page('app/bundle.js');
+const { base64Of, comparedWithPage, patcherText, readPatcherText, headFault } = await page('player/patcher.js');
+const { bytesOfBase64 } = await page('app/pool.js');
 const { MOST_SCRIPT_BYTES } = await core('module/records.js');
 
 const data = {

@@ -4,7 +4,7 @@ import assert from 'node:assert/strict';
 import { test } from 'node:test';
 import { page } from './page.mjs';
 
-const { isImageName, plainSheet, takenHead } = await page('player/patcher_head.js');
+const { isImageName, plainSheet, takenHead } = await page('player/patcher.js');
 
 const sheet = (...names) => names.map((name, i) => `FILE "${name}" BINARY\n  TRACK 0${i + 1} MODE1/2352\n    INDEX 01 00:00:00\n`).join('');
 

@@ -5,11 +5,11 @@ import { createHash } from 'node:crypto';
 import { test } from 'node:test';
 import { calls, imageOf, imageOfBytes, page, parts } from './page.mjs';
 
-const { judgeImage } = await page('player/verdict.js');
-const { reasonForPlayer, reasonsOf, refusalForPlayer } = await page('player/reason.js');
+const { judgeImage, reasonForPlayer, reasonsOf, refusalForPlayer } = await page('player/verdict.js');
+const { openDisc } = await page('../core/disc/disc.js');
 const { applyPatches } = await page('../core/script/patches.js');
 const { bytesOfPieces } = await page('../core/bytes.js');
-const { validScript } = await page('../core/tasks/index.js');
+const { openTrack, validScript } = await page('../core/tasks/index.js');
 const { isPatched } = await page('save/patch_job.js');
 const { Pool, localWorker } = await page('../core/pool/pool.js');
 const { JOBS } = await page('../core/jobs/jobs.js');
@@ -34,9 +34,13 @@ function changed(image, at, sectors = image.sectors) {
     return imageOfBytes(bytes);
 }
 
-function judged(image, script, more = {}) {
-    const data = { base: 0, carry: false, script, image: { size: image.bytes.length, sha1: '' }, result: '', ...more };
-    return judgeImage(app, data, image, { signal: { aborted: false }, progress() {} });
+/** The data of a patcher for an image, without a cue sheet. */
+const dataFor = (image, script, more) => ({ base: 0, carry: false, script, image: { size: image.bytes.length, sha1: '' }, result: '',
+    cue: '', name: 'game.bin', ...more });
+
+async function judged(image, script, more = {}) {
+    const opened = openTrack(await openDisc(calls, [{ name: image.name, reader: image.reader }]));
+    return judgeImage(app, dataFor(image, script, more), opened, { signal: { aborted: false }, progress() {} });
 }
 
 const isDone = (image, script) => isPatched(app, { reader: image.reader, base: 0, script });
@@ -85,7 +89,7 @@ globalThis.document = { createElement: () => ({ text: '', append(...more) { this
 /** A verdict and the explanation under it. */
 async function said(image, script, more = {}) {
     const it = await judged(image, script, more);
-    const reason = reasonForPlayer(it, image.bytes.length, (more.image ?? { size: image.bytes.length }).size);
+    const reason = reasonForPlayer(it, image.bytes.length, dataFor(image, script, more));
     return [it.verdict, reason && reason.text];
 }
 
@@ -127,10 +131,27 @@ test('an image fits only if it is as long as the author’s and all that is writ
     assert.equal((await said(other, 'cdpatch 2\naddress 1 00:02:05\n', { image }))[0], 'unknown');
 });
 
-test('how much of an image that fits is damaged is counted', async () => {
-    const script = 'cdpatch 1\nset 0 0 4A was 68\n';
-    const image = { size: game.bytes.length, sha1: '' };
-    const sound = imageOf([ascii('hello'), ascii('earth'), ascii('again')]);
-    assert.match((await said(sound, script, { image }))[1], /differs from the author’s: perhaps its music is shifted\.$/);
-    assert.match((await said(changed(changed(sound, 2352 + 20), 2 * 2352 + 20), script, { image }))[1], / 2 sectors of your image are damaged\. The game may stop there: another dump is better\.$/);
+const SCRIPT = 'cdpatch 1\nset 0 0 4A was 68\n';
+/** An image that fits, with a different sector. */
+const sound = imageOf([ascii('hello'), ascii('earth'), ascii('again')]);
+
+test('music is perhaps shifted only if the author’s cue sheet lists some in the file of the image', async () => {
+    const data = 'FILE "game.bin" BINARY\n  TRACK 01 MODE1/2352\n    INDEX 01 00:00:00\n';
+    const audio = '  TRACK 02 AUDIO\n    INDEX 01 00:00:02\n';
+    for (const cue of ['', data, `${data}FILE "music.bin" BINARY\n${audio}`]) {
+        assert.equal((await said(sound, SCRIPT, { cue }))[1], 'The place matches. The rest of the disc differs from the author’s.');
+    }
+    assert.match((await said(sound, SCRIPT, { cue: data + audio }))[1], /differs from the author’s: perhaps its music is shifted\.$/);
+    assert.doesNotMatch((await said(changed(sound, 2352 + 20), SCRIPT, { cue: data + audio }))[1], /music/);
+});
+
+test('the damaged, lost, and missing sectors of an image that fits are counted', async () => {
+    const after = ' The game may stop there: another dump is better.';
+    const words = async bytes => (await said(imageOfBytes(bytes), SCRIPT))[1].split('author’s. ')[1];
+    assert.equal(await words(changed(changed(sound, 2352 + 20), 2 * 2352 + 20).bytes), `2 sectors of your image are damaged.${after}`);
+    assert.equal(await words(sound.bytes.slice().fill(0, 2352, 2 * 2352)), `1 data sector of your image is lost.${after}`);
+    const long = imageOf(Array.from({ length: 60 }, () => ascii('hello'))).bytes;
+    const shifted = Buffer.concat([long.subarray(0, 20 * 2352), long.subarray(23 * 2352), long.subarray(57 * 2352)]);
+    assert.equal(await words(shifted), `Sectors are missing or extra in 1 place of your image.${after}`);
+    assert.equal(await words(sound.bytes.subarray(0, 3 * 2352 - 1)), `The file is probably incomplete.${after}`);
 });

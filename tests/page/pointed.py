@@ -28,9 +28,10 @@ def texts_in(data: bytes) -> list[str]:
 
 
 @functools.cache
-def game(files: int = 2) -> bytes:
-    """An image of a disc with event files."""
-    return common.image_of(common.iso_of({f'EVENT{file}.DAT': event_file(file) for file in range(files)}))
+def game(files: int = 2, program: int = 0) -> bytes:
+    """An image of a disc with event files, and with a program of this size."""
+    events = {f'EVENT{file}.DAT': event_file(file) for file in range(files)}
+    return common.image_of(common.iso_of({**events, 'MAIN.EXE': bytes(program)} if program > 0 else events))
 
 
 @functools.cache

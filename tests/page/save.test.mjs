@@ -4,7 +4,7 @@ import assert from 'node:assert/strict';
 import { test } from 'node:test';
 import { page, writtenBy } from './page.mjs';
 
-const { Pace } = await page('ui/pace.js');
+const { Pace } = await page('ui/progress.js');
 const { blobOfPieces, patchedName, saveToSink } = await page('save/save.js');
 
 const old = Uint8Array.from({ length: 50 }, (_, i) => i);

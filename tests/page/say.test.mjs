@@ -34,7 +34,7 @@ test('want of memory is said as that, whichever browser or worker has met it', c
     assert.equal(messageOf('a text'), 'a text');
 });
 
-const { shownName, shownPaths, stemOf } = await page('ui/names.js');
+const { shownName, shownPaths, stemOf } = await page('ui/notices.js');
 
 /** The text of nodes, with that of elements in angle brackets. */
 const textOf = list => list.map(it => typeof it === 'string' ? it : `<${it.text}>`).join('');

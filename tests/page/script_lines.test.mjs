@@ -5,11 +5,9 @@ import { test } from 'node:test';
 import { MESSAGES } from '../lib/messages.mjs';
 import { calls, core, page } from './page.mjs';
 
-const { linesUnder } = await core('script/merge_lines.js');
-const { modelInParts } = await core('script/model.js');
-const { mergeOf } = await page('app/merging.js');
+const { linesUnder, modelInParts } = await core('script/model.js');
+const { mergeOf, ScriptLines } = await page('app/script_lines.js');
 const { ReplacedFiles } = await page('app/replaced_files.js');
-const { ScriptLines } = await page('app/script_lines.js');
 
 function linesOf(text) {
     return new ScriptLines(calls, text);

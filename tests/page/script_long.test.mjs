@@ -1,17 +1,22 @@
-// Scripts that are too long for their lines to be shown.
+// Scripts that are longer than the module takes.
 
 import assert from 'node:assert/strict';
 import { test } from 'node:test';
 import { MESSAGES } from '../lib/messages.mjs';
-import { calls, page } from './page.mjs';
+import { calls, imageOfBytes, page } from './page.mjs';
 
-const { ScriptLines } = await page('app/script_lines.js');
-const { hasTooMany, isLong } = await page('app/script_long.js');
-const { MOST_HELPED, chosenHelps } = await page('script/helps.js');
+const { ScriptLines, hasTooMany, isLong } = await page('app/script_lines.js');
+const { ReplacedFiles } = await page('app/replaced_files.js');
+const { MOST_HELPED, chosenHelps } = await page('script/editor.js');
+const { putIntoScript } = await page('text/generated_script.js');
+const { KnownTexts } = await page('text/known_texts.js');
+const { openDisc } = await page('../core/disc/disc.js');
+const { encodingOf } = await page('../core/encodings/encodings.js');
+const { openTrack } = await page('../core/tasks/index.js');
 
-test('a script is too long above 4 MB, or 150,000 lines', () => {
-    assert.equal(isLong(`cdpatch 1\n${'#'.repeat(3999990)}`), false);
-    assert.equal(isLong(`cdpatch 1\n${'#'.repeat(3999991)}`), true);
+test('a script is too long above 64 MB, or 150,000 lines', () => {
+    assert.equal(isLong('#'.repeat(1 << 26)), false);
+    assert.equal(isLong('#'.repeat((1 << 26) + 1)), true);
     assert.equal(isLong('\n'.repeat(149999)), false);
     assert.equal(isLong('\n'.repeat(150000)), true);
 });
@@ -32,7 +37,59 @@ test('a script that is too long to be shown has too many patches above 65,535, a
     }
 });
 
-test('after a script that is too long to be shown, the lines and edits before it return, and the base is that of the open image', () => {
+/** Whether an edit is refused, which then changes nothing. */
+function isRefused(lines, edit) {
+    const [text, { length }] = [lines.text(), lines.done];
+    try {
+        edit();
+        return false;
+    } catch (error) {
+        assert.match(error.message, /more than cdpatch accepts/);
+        assert.deepEqual([lines.text() === text, lines.done.length, lines.long, [...lines.made]], [true, length, null, []]);
+        return true;
+    }
+}
+
+test('what would make a script longer than the module takes is refused where it is added or typed', () => {
+    const patches = new ScriptLines(calls);
+    patches.replace(`cdpatch 1\n${'rebuild 7\n'.repeat(65534)}`, '');
+    assert.equal(isRefused(patches, () => patches.add(['rebuild 8', 'rebuild 9'], '')), true);
+    assert.equal(isRefused(patches, () => patches.add(['rebuild 8'], 'bytes')), false);
+    assert.equal(isRefused(patches, () => patches.add(['rebuild 9'], 'bytes')), true);
+    const files = new ReplacedFiles();
+    assert.equal(isRefused(patches, () => files.replace(patches, {}, '/A', ['rebuild 9'])), true);
+    assert.equal(isRefused(patches, () => files.replace(patches, {}, '/A', ['rebuild 9', 'rebuild 10'], ['rebuild 8'])), true);
+    const lines = new ScriptLines(calls);
+    lines.replace(`cdpatch 1\n${'#\n'.repeat(149998)}`, '');
+    assert.equal(isRefused(lines, () => lines.add(['rebuild 8'], 'bytes')), true);
+    assert.deepEqual([lines.hasRoom(1, 1, ['#', '#']), lines.hasRoom(1, 1, ['# other']), lines.hasRoom(1, 2, ['#', '#'])], [false, true, true]);
+    const bytes = new ScriptLines(calls);
+    bytes.replace(`cdpatch 1\n#${'x'.repeat((1 << 26) - 12)}`, '');
+    assert.deepEqual([bytes.hasRoom(0, 1, ['cdpatch 12']), bytes.hasRoom(0, 1, ['cdpatch 123'])], [true, false]);
+});
+
+test('the lines of many texts do not take the place of a script that is too long', async () => {
+    const text = 'An old sentence.';
+    const user = Uint8Array.from(Buffer.from(text.padEnd(32, '\0').repeat(320), 'latin1'));
+    const { reader } = imageOfBytes(calls.encodeBlocks(0, user));
+    const opened = openTrack(await openDisc(calls, [{ name: 'game.bin', reader }]));
+    const known = new KnownTexts();
+    const listed = Array.from({ length: 320 }, (_, i) => ({ block: Math.floor(i / 64), offset: i % 64 * 32, bytes: 16, room: 16, encoding: 'CP932', text }));
+    await known.add(listed, { aborted: false });
+    known.begin((await opened.contents()).part);
+    const script = new ScriptLines(calls);
+    const long = `cdpatch 1\n${'#\n'.repeat(150000)}`;
+    script.take(long, 'long.txt');
+    const image = { opened };
+    const app = { calls, script, image, closing: new AbortController(), changeScript: change => change(script) };
+    const list = { image, texts: known, options: { encodings: [encodingOf('CP932')], isAsked: false }, read: async () => true };
+    known.translation.seen = script.lines;
+    known.translation.change([...known.translation.places.values()].map(place => ({ place, fresh: 'New' })));
+    await assert.rejects(putIntoScript(app, list), /more than cdpatch accepts/);
+    assert.equal(script.text(), long);
+});
+
+test('after a script that is too long, the lines and edits before it return, and the base is that of the open image', () => {
     const lines = new ScriptLines(calls);
     lines.add(['rebuild 7'], '');
     const before = lines.text();

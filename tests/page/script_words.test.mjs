@@ -5,7 +5,7 @@ import { test } from 'node:test';
 import { calls, page } from './page.mjs';
 
 const { ScriptLines } = await page('app/script_lines.js');
-const { helpOfFault, helpOfRefusal, patchInWords } = await page('script/plain_words.js');
+const { helpOfFault, helpOfRefusal, patchInWords } = await page('script/explain.js');
 
 function said(line, where = '') {
     const lines = new ScriptLines(calls, `cdpatch 2\n${line}`);

@@ -12,7 +12,7 @@ const { encodingOf } = await core('encodings/encodings.js');
 
 test('the page finds what the task finds, in the order of the files', async t => {
     withDocument(t);
-    const { SearchJob } = await page('text/search_job.js');
+    const { SearchJob } = await page('text/search.js');
     const { App } = await page('app/state.js');
     const { opened } = await openedDisc();
     const app = new App(calls, localPool(), null);

@@ -5,7 +5,7 @@ import { test } from 'node:test';
 import { calls, imageOf, page } from './page.mjs';
 
 const { ScriptLines } = await page('app/script_lines.js');
-const { sectorBytes } = await page('disc/sector_bytes.js');
+const { sectorBytes } = await page('disc/sector_edit.js');
 const image = imageOf(Array.from({ length: 6 }, () => new Uint8Array(4)));
 
 async function userAfter(script, block) {

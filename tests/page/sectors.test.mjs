@@ -4,8 +4,7 @@ import assert from 'node:assert/strict';
 import { test } from 'node:test';
 import { calls, imageOf, page } from './page.mjs';
 
-const { byteOfCodes, crossingsOf } = await page('disc/crossings.js');
-const { isAllOver, otherBase, placeGuess, placesOf } = await page('disc/places.js');
+const { byteOfCodes, crossingsOf, isAllOver, otherBase, placeGuess, placesOf } = await page('disc/places.js');
 const { MARK, SurveyMarks, shadesOf } = await page('app/marks.js');
 
 test('bytes are named at which broken columns and diagonals cross', () => {
@@ -43,6 +42,17 @@ test('a place ends if 700 sectors follow without a finding', () => {
     for (const i of [10, 709, 1409, 2109]) marks[i] = MARK.EDC;
     assert.deepEqual(placesOf({ marks, known: 2000 }).map(({ first, last, sectors }) => [first, last, sectors.length]), [[10, 709, 2], [1409, 1409, 1]]);
     assert.equal(placesOf({ marks, known: 5000 }).length, 3);
+});
+
+test('lost sectors in a row are a place of their own', () => {
+    const marks = new Uint8Array(3000).fill(MARK.MODE1);
+    for (const i of [100, 650, 700, 900]) marks[i] = MARK.EDC;
+    marks.fill(MARK.LOST, 400, 410);
+    marks.fill(MARK.LOST, 410 + 690, 412 + 690);
+    marks[800] = MARK.LOST;
+    const places = placesOf({ marks, known: 3000 });
+    assert.deepEqual(places.map(({ first, last, sectors }) => [first, last, sectors.length]), [[100, 900, 5], [400, 409, 10], [1100, 1101, 2]]);
+    assert.deepEqual(places.map(place => placeGuess(place, false, 3000)), ['single sectors', '10 in a row: perhaps not read by the drive', '2 sectors in a row']);
 });
 
 /** The survey of ten sectors with these addresses, some of which are damaged. */

@@ -5,7 +5,7 @@ import { createHash } from 'node:crypto';
 import { test } from 'node:test';
 import { page } from './page.mjs';
 
-const { sha256Of } = await page('app/sha256.js');
+const { sha256Of } = await page('app/hashing.js');
 
 test('the SHA-256 is that of others, and none where a browser has no digest', async () => {
     const bytes = new TextEncoder().encode('page'.repeat(1000));

@@ -4,7 +4,7 @@ import assert from 'node:assert/strict';
 import { test } from 'node:test';
 import { page } from './page.mjs';
 
-const { otherFiles, sheetNaming } = await page('save/cue_rewrite.js');
+const { otherFiles, sheetNaming } = await page('save/sheet.js');
 
 test('a file is named anew in the lines that name it, and all else stays', () => {
     const rows = {

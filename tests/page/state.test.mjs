@@ -5,7 +5,7 @@ import { test } from 'node:test';
 import { calls, imageOf, page } from './page.mjs';
 
 const { App } = await page('app/state.js');
-const { Typing } = await page('disc/typing.js');
+const { Typing } = await page('disc/sector_edit.js');
 
 test('a byte that is typed twice keeps what was there first', () => {
     const app = new App(calls, null, null);

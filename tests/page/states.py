@@ -462,10 +462,11 @@ class States(PageTest):
         self.browser.click('#let-move')
         self.browser.click('.all-texts tbody tr[aria-rowindex="2"] input')
         self.browser.press('The hero found the herb in the tower of the north, and took it home.', Keys.ENTER)
+        self.browser.press('A villager', Keys.ENTER)
         self.press('Make the script')
         self.browser.wait('[aria-labelledby=pointers-title] .say.good')
-        self.browser.click('.all-texts tbody tr[aria-rowindex="3"] input')
-        self.browser.press('A villager', Keys.ENTER)
+        self.browser.click('.all-texts tbody tr[aria-rowindex="4"] input')
+        self.browser.press('A knight', Keys.ENTER)
         self.browser.wait('[aria-labelledby=pointers-title] .moved li')
 
     # ---- publishing, and the page of a patcher
@@ -574,9 +575,9 @@ class States(PageTest):
         self.browser.click('#proved summary')
 
 
-def each_state(kind: type[States], judge: Callable[[Any, str], None], step: int = 1) -> None:
-    """Adds to a class a test for each state, or for every `step`-th one."""
-    for name in list(all_states())[::step]:
+def each_state(kind: type[States], judge: Callable[[Any, str], None], step: int = 1, part: str = '') -> None:
+    """Adds to a class a test for each state whose name begins with `part`, or for every `step`-th one."""
+    for name in [it for it in all_states() if it.startswith(part)][::step]:
         setattr(kind, f'test_{name}', lambda self, name=name: judge(self, name))
 
 

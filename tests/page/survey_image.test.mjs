@@ -7,9 +7,9 @@ import { calls, core, imageOf, page, summing } from './page.mjs';
 
 const { MARK } = await page('app/marks.js');
 const { App } = await page('app/state.js');
-const { addressWords } = await page('disc/sector_text.js');
+const { addressWords } = await page('disc/sector_fault.js');
 const { imageOfTrack } = await page('open/open.js');
-const { readImage } = await page('open/survey_image.js');
+const { readImage } = await page('open/reading.js');
 const { openDisc } = await core('disc/index.js');
 
 /** A file of a disc. */

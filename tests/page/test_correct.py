@@ -96,8 +96,8 @@ class Correct(PageTest):
         self.assertIn(f'P and Q give {fresh} in place of {old} at offset 484. The EDC then matches. '
                       f'It is the EDC that was read, {sector[2064:2068].hex(" ").upper()}, and all of P and Q match too.', said)
         self.assertIn('Lines 2 to 3 of the script correct this sector from its own parity.', said)
-        for name in ('sectorCorrectedInScript', 'sectorWhyRebuildFirst'):
-            self.assertIn(text(name), said)
+        self.assertIn('Corrected in the script, but not in this file', said)
+        self.assertIn('Only after a rebuild can a damaged sector be patched.', said)
         self.press(OPEN)
         self.browser.wait('#panel-script .explain', 'Line 2')
 

@@ -153,6 +153,7 @@ class Disc(PageTest):
         iso = b''.join(discs.game()[at + 16:at + 2064] for at in range(0, len(discs.game()), SECTOR_SIZE))
         others = {'game.chd': (b'MComprHD' + bytes(5000), 'chdman extractcd -i "game.chd"'), 'game.iso': (iso, 'an ISO image'),
                   'game.zip': ((place / 'game.zip').read_bytes(), 'an archive'), 'game.ecm': (b'ECM\0' + bytes(99), 'unecm'),
+                  'game.ppf': (b'PPF30\x02', 'a patch of a different tool'),
                   'game.txt': (b'hello', 'choose a raw image'), 'game.bin': (b'', 'an empty file')}
         browser = self.browser
         for name, (data, words) in others.items():
@@ -168,6 +169,10 @@ class Disc(PageTest):
         browser = self.opened(sheet, file_of(discs.game()), file_of(scratched(), 'other.bin'))
         browser.wait('#messages', 'Not opened: other.bin.')
         self.assertIn('The cue sheet does not name it: game.cue.', browser.text('#messages'))
+        self.assertNotIn('is a', browser.text('#messages'))
+        self.setUp()
+        browser = self.opened(sheet, file_of(discs.game()), file_of(b'PPF30\x02', 'game.ppf'))
+        browser.wait('#messages', 'game.ppf is a patch of a different tool')
         self.assertEqual(browser.text('#disc-line .name'), 'game.bin')
 
     def test_a_packed_image_beside_a_script_has_a_command_that_any_shell_takes(self) -> None:

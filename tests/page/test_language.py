@@ -1,5 +1,5 @@
-"""Packs the page with other English texts, in which each letter has a mark, and visits its states (tests/page/states.py): a translation is
-one file. A word without marks is a text in the code, unless it is one of those that no translation changes."""
+"""Packs the page with other English texts, in which each letter has a mark, and visits the states of a patcher (tests/page/states.py): a
+translation for players is one file. A word without marks is a text in the code, unless it is one of those that no translation changes."""
 
 import functools
 import os
@@ -14,14 +14,15 @@ from states import States, all_states, each_state
 
 sys.path.insert(0, str(common.TOP / 'tools'))
 import pack  # noqa: E402
+import strip  # noqa: E402
 
 MARK = '\u0323'
 
 # Tests every `STEP`-th state.
 STEP = int(os.environ.get('LANGUAGE_STEP', '1'))
 
-# Code, lines of a script, commands, tables of bytes, the program's output, and names of files.
-SKIPPED = 'script, style, #data, .src, .line-out, .hex, .log, .report, .notices, bdi'
+# Parts of the full page, code, lines of a script, commands, tables of bytes, the program's output, and names of files.
+SKIPPED = 'main > :not(#player, #messages), [hidden], [popover], script, style, #data, .src, .line-out, .hex, .log, .report, .notices, bdi'
 
 # Complete texts without marks: names, words of a script, commands, and the languages, each by its own name.
 WHOLE = {'cdpatch', 'carry', 'rebuild', 'was', 'cdpatch check', 'cdpatch apply', 'cdpatch audit', 'cdpatch list', 'Big5', 'Shift-JIS (CP932)',
@@ -62,7 +63,7 @@ for (const name of ['querySelector', 'querySelectorAll']) {{
     }};
 }}'''
 
-# All texts of the page, also hidden ones, and names of its parts that contain two lower-case letters in a row, that is without a mark.
+# All texts of the patcher, and names of its parts that contain two lower-case letters in a row, that is without a mark.
 PLAIN = '''const [skipped, found] = [arguments[0], new Set()], named = ['aria-label', 'aria-valuetext', 'title', 'placeholder', 'alt', 'data-l'];
 const note = text => { if (/[a-z]{2}/.test(text)) found.add(text.trim().replace(/\\s+/g, ' ')); };
 note(document.title);
@@ -89,12 +90,12 @@ def in_another_language(page: Path) -> Path:
     """The page in another language, packed from the sources beside this page, or else from this tree."""
     web, room = page.with_name('web'), common.folder('language')
     shutil.copytree(web if web.is_dir() else common.TOP / 'web', room / 'web')
-    for name in ('english.js', 'player/english.js'):
+    for name in ('english.ts', 'player/english.ts'):
         english = room / 'web/page/texts' / name
         english.write_text(marked(english.read_text('utf-8')), 'utf-8')
     made, most = room / 'cdpatch.html', pack.LARGEST_PAGE
     pack.LARGEST_PAGE = 2 * most
-    made.write_text(pack.packed_interface('page', room / 'web', common.TOP / 'library/cdpatch.wasm', Path('/dev/null')), 'utf-8')
+    made.write_text(pack.packed_interface('page', strip.stripped(room / 'web', room / 'js'), common.TOP / 'library/cdpatch.wasm', Path('/dev/null')), 'utf-8')
     pack.LARGEST_PAGE = most
     return made
 
@@ -117,4 +118,4 @@ class Language(States):
         self.assertEqual([text for text in texts if re.search(f'[a-z]{{2}}(?!{MARK})', without_known(text))], [], 'stands in code')
 
 
-each_state(Language, Language.judge, STEP)
+each_state(Language, Language.judge, STEP, 'player')

@@ -94,12 +94,12 @@ class PointersPage(PageTest):
 
 class Pointers(PointersPage):
     def test_tables_are_listed_as_cdscript_lists_them_and_saved_and_opened_again(self) -> None:
-        image = self.open_table(pointed.game())
+        image = self.open_table(pointed.game(program=1_100_000))
         self.find_tables()
         form = '16 bits, little-endian, every 2 bytes, from 0x0'
         found = [[True, str(2 + i), f'/EVENT{i}.DAT, 2', '30', '30', form, f'/EVENT{i}.DAT'] for i in range(2)]
         self.assertEqual(self.browser.run(TABLES), found)
-        self.browser.wait(f'{CARD} .say.good', '2 tables with 60 pointers.')
+        self.browser.wait(f'{CARD} .say.good', 'Not searched for pointers: /MAIN.EXE (1.1 MB).')
         self.browser.click(f'{CARD} header .btn:last-of-type')
         saved = common.waited(self.browser.downloaded('game (pointers).tsv').read_text, 'the list is empty')
         self.assertEqual(saved, self.tables(image).read_text())
@@ -152,7 +152,7 @@ class Pointers(PointersPage):
         for words in ('All 2 translations fit.', '1 translation fits only because texts moved.'):
             self.assertIn(words, said)
         self.browser.wait(f'{CARD} .moved b', '1 text moved')
-        self.browser.wait(f'{CARD} .moved li', 'Row 2: moved in /EVENT0.DAT from 62 to ')
+        self.browser.wait(f'{CARD} .moved li', 'Row 3: moved in /EVENT0.DAT from 100 to ')
         self.browser.wait('#panel-text .meter', '2 of 60 done')
         due = self.moved_by_cdscript(image, {1: LONG, 2: 'A villager'})
         self.assertEqual(self.script_now(), due)
@@ -412,7 +412,9 @@ class NamesBesideTexts(PointersPage):
     def test_a_new_text_over_a_longer_name_is_left_out_with_the_line_of_the_name(self) -> None:
         image, script = self.begin_with_names(b'')
         mine = image.with_name('mine.tsv')
-        mine.write_text(with_new(common.cdscript_prints('texts', '--encoding', 'Windows-1252', image), {3: 'épée'}))
+        table = common.cdscript_prints('texts', '--encoding', 'Windows-1252', image)
+        number = next(i for i, row in enumerate(table.splitlines(), 1) if '/ITEMS.DAT+24' in row)
+        mine.write_text(with_new(table, {number: 'épée'}))
         self.browser.give('#panel-text input[accept^=".tsv"]', [mine])
         self.browser.wait('#panel-text .say.warn', '1 translation does not fit')
         self.browser.wait('#panel-text .two', 'of the script already writes here, and also before or after this text')

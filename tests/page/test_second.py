@@ -168,10 +168,19 @@ class Second(PageTest):
         empty = bytearray(with_faults((40, 9), (40, 2048), (60, 9)))
         empty[80 * SECTOR_SIZE:81 * SECTOR_SIZE] = bytes(SECTOR_SIZE)
         self.pair(bytes(empty), with_faults())
-        self.browser.wait('#second-body .say.warn', 'look at blocks 40 and 80 first')
+        self.browser.wait('#second-body .say.warn', 'look at block 40 first')
+        self.browser.wait('#second-body .say.warn', '1 sector was not read here')
         self.press('Save repaired image')
         self.browser.wait('#second-body .say.warn', '3 sectors repaired. Nothing confirms the copies of 2 sectors: blocks 40 and 80.')
         self.browser.downloaded('game (repaired).bin').unlink()
+
+    def test_a_sector_that_was_not_read_does_not_make_the_other_dump_another_release(self) -> None:
+        game = discs.game()
+        unread = game[:80 * SECTOR_SIZE] + b'\x55' * SECTOR_SIZE + game[81 * SECTOR_SIZE:]
+        self.pair(unread, game)
+        count = len(game) // SECTOR_SIZE
+        self.browser.wait('#second-body', f'But it is the same disc: {count - 1} of {count} sectors are equal')
+        self.assertNotIn('another release', self.browser.text('#second-body'))
 
     def test_a_repair_as_a_script_gives_the_same_image(self) -> None:
         first, second = with_faults((40, 9), (60, 9)), with_faults()

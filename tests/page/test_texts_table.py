@@ -326,7 +326,11 @@ class TextsTable(PageTest):
     def test_a_table_that_is_none_adds_nothing(self) -> None:
         image = self.open_texts(spoken_texts())
         wrong = common.folder('wrong') / 'mine.csv'
-        for text, why in (('a,b\n1,2\n', 'lacks the columns block, offset, text, new'), (self.printed(image).replace('\t', ','), 'o row of the list has a translation')):
+        empty = self.printed(image).replace('\t', ','), 'o row of the list has a translation'
+        for text, why in (('a,b\n1,2\n', 'lacks the columns block, offset, text, new'), empty, ('', ''), empty):
+            if text == '':
+                self.show_texts()
+                continue
             wrong.write_text(text)
             self.browser.drop('#panel-text', [wrong])
             self.browser.wait('#panel-text .say.bad', why)

@@ -202,6 +202,24 @@ class TypedTexts(PageTest):
             self.becomes(1, 2, text)
         self.browser.wait('#panel-text .meter', '0 of 4 done')
 
+    def test_where_an_imported_text_does_not_fit_the_script_keeps_the_earlier_one_and_undo_takes_the_import_back(self) -> None:
+        image = self.open_table(spoken_texts())
+        self.type_in_row(2, 'Save?')
+        self.browser.wait('#count-script', '6')
+        rows = common.cdscript_prints('texts', image)
+        table = common.folder('table') / 'other.tsv'
+        table.write_text(with_new(rows, {number: 'much too long ' * 4 for number, row in enumerate(rows.splitlines(), 1)
+                                         if SENTENCES[1] in row or SENTENCES[2] in row}))
+        self.browser.give('#panel-text input[accept^=".tsv"]', [table])
+        self.browser.wait('#panel-text [aria-pressed]:nth-child(3)', 'Do not fit 2')
+        self.becomes(2, 3, f"18 bytes too many. {common.text('textScriptKeeps')}")
+        self.assertNotIn(common.text('textScriptKeeps'), self.row(3)[3])
+        self.press('Undo')
+        self.browser.wait('#panel-text [aria-pressed]:nth-child(3)', 'Do not fit 0')
+        self.becomes(2, 2, 'Save?')
+        self.becomes(3, 2, '')
+        self.same_lines(self.written(image, {SENTENCES[1]: 'Save?'}))
+
     def test_undo_and_redo_give_each_place_its_own_text_again(self) -> None:
         image = self.open_table(spoken_texts())
         rows = common.cdscript_prints('texts', image)
@@ -280,11 +298,7 @@ class TypedTexts(PageTest):
         self.browser.press('much too long ' * 4, Keys.ENTER)
         self.browser.wait('#panel-text [aria-pressed]:nth-child(3)', 'Do not fit 1')
         self.browser.wait('#count-script', '6')
-        saved: dict[str, str] = {}
-        for form, label in (('csv', 'textAsCsv'), ('tsv', 'textAsTsv'), ('po', 'textAsPo')):
-            self.save_list(common.text(label))
-            path = self.browser.downloaded(f'game (texts).{form}')
-            saved[form] = common.waited(path.read_bytes, 'the list is empty').decode()
+        saved = {form: self.saved_list(form, 'game (texts)').read_bytes().decode() for form in ('csv', 'tsv', 'po')}
         mine = common.folder('table') / 'mine.tsv'
         mine.write_text(saved['tsv'])
         for form in ('csv', 'po'):

@@ -6,6 +6,7 @@ import common
 import discs
 from keys import Keys
 from pages import GATE, HELD, PICKER, PageTest, applied, patcher
+from states import spoken_texts, with_new
 
 
 def repairable() -> tuple[bytes, bytes]:
@@ -91,6 +92,99 @@ class Unsaved(PageTest):
         self.browser.wait('#messages .say.warn', common.text('imageBeingSaved'))
         self.assertEqual(self.browser.text('#disc-line .name'), 'first.bin')
         self.ends_well(discs.game())
+
+    # ---- another image in place of the open one
+
+    LONG = 'much too long ' * 4
+
+    def type_texts(self) -> None:
+        """Types one text that fits and one that does not, which is in no file and not in the script."""
+        self.browser.click('#tab-text')
+        self.show_texts()
+        self.type_in_row(2, 'Save?')
+        self.type_in_row(1, self.LONG)
+        self.browser.wait('#panel-text [aria-pressed]:nth-child(3)', 'Do not fit 1')
+
+    def is_asked(self, name: str, door: str) -> None:
+        """Waits for the question. After Cancel, the image and its table are as before."""
+        self.browser.wait('#sheet[open]', common.text('imageDiscardTexts'))
+        self.browser.answer('Cancel')
+        self.browser.wait('#disc-line .name', name)
+        tab = self.browser.run('return document.querySelector("#tabs [aria-selected=true]").id')
+        self.browser.click('#tab-text')
+        self.browser.wait('#panel-text [aria-pressed]:nth-child(3)', 'Do not fit 1')
+        self.assertEqual(self.browser.run('return document.querySelector(arguments[0]).value', self.field(1)), self.LONG, door)
+        self.browser.click(f'#{tab}')
+
+    def test_no_other_image_takes_the_place_of_typed_texts_without_a_question(self) -> None:
+        image = spoken_texts()
+        files = discs.written(first=image, later=common.image_of([b'later'] * 300, base=900), other=common.damaged(image, 30))
+        cue = files['first'].with_name('disc.cue')
+        cue.write_text(discs.sheet_of(first=discs.DATA, later=discs.DATA))
+        self.open_files(cue, files['first'], files['later'])
+        self.wait_for_hash()
+        self.type_texts()
+        for answer in ('Open it instead', 'Repair other.bin'):
+            self.open_files(files['other'])
+            self.browser.wait('#sheet', 'What do you want to do with other.bin?')
+            self.browser.answer(answer)
+            self.is_asked('first.bin', answer)
+        self.open_files(files['other'])
+        self.browser.answer('Compare')
+        self.press_in('second', 'Open it instead')
+        self.is_asked('first.bin', 'Open it instead on the card')
+        self.browser.click('#tab-disc')
+        self.browser.choose('#disc-line select', '2')
+        self.is_asked('first.bin', 'another track')
+        self.assertEqual(self.browser.run('return document.querySelector("#disc-line select").value'), '1')
+        self.press_in('image', 'Set the base')
+        self.browser.type('#base', '100')
+        self.browser.press(Keys.ENTER)
+        self.is_asked('first.bin', 'Set the base')
+        self.browser.click('#tab-script')
+        self.press_save()
+        self.press('Open the new image')
+        self.is_asked('first.bin', 'Open the new image')
+        # The button is still there.
+        self.press('Open the new image')
+        self.browser.wait('#sheet[open]', common.text('textTypedAreLost'))
+        self.browser.answer('Save a list')
+        saved = common.waited(self.browser.downloaded('first (texts).csv').read_text, 'the list is empty')
+        self.assertIn(self.LONG, saved)
+        self.browser.wait('#disc-line .name', 'first (patched).bin')
+
+    def test_typed_texts_are_asked_about_before_an_image_is_read_again(self) -> None:
+        self.browser.run(HELD)
+        self.open_files(discs.written(game=spoken_texts())['game'])
+        self.browser.wait('#disc-line .lead', 'Reading the disc')
+        self.press('Cancel')
+        self.browser.run('letGo()')
+        self.browser.wait('#disc-line .lead', 'Stopped at')
+        self.type_texts()
+        self.browser.click('#tab-disc')
+        self.press('Read it again')
+        self.is_asked('game.bin', 'Read it again')
+        self.press('Read it again')
+        self.browser.answer('Discard them')
+        self.wait_for_hash()
+        self.browser.click('#tab-text')
+        self.is_gone('.all-texts')
+
+    def test_a_cancelled_import_leaves_the_table_as_it_was(self) -> None:
+        image = self.open_table(spoken_texts())
+        table = image.with_name('mine.tsv')
+        table.write_text(with_new(common.cdscript_prints('texts', image), {2: 'The game starts.', 3: 'Save?'}))
+        # The image is read for the lines, after the list.
+        self.browser.run(f'{GATE} least = 3000')
+        self.browser.give('#panel-text input[accept^=".tsv"]', [table])
+        self.browser.wait('#panel-text .progress')
+        common.waited(lambda: self.browser.run('return reads > 0'), 'the image is not read')
+        self.press('Cancel')
+        self.browser.run('openGate()')
+        self.browser.wait('#panel-text .say', 'Cancelled.')
+        self.browser.wait('#panel-text .meter', '0 of 4 done')
+        self.type_in_row(4, 'The end.')
+        self.browser.wait('#count-script', '6')
 
     def test_a_second_press_does_not_save_twice(self) -> None:
         self.repairs()

@@ -1,15 +1,13 @@
 // Names, numbers, and elements inserted into the page's texts.
 
 import assert from 'node:assert/strict';
-import { cpSync, mkdtempSync, readFileSync, rmSync, writeFileSync } from 'node:fs';
+import { cpSync, mkdtempSync, readFileSync, readdirSync, rmSync, writeFileSync } from 'node:fs';
 import { tmpdir } from 'node:os';
 import { join } from 'node:path';
 import { test } from 'node:test';
 import { page, pageFile } from './page.mjs';
 
 const { say, format } = await page('texts/say.js');
-const english = await page('texts/english.js');
-const { ENGLISH: forPlayers } = await page('texts/player/english.js');
 
 test('names take their places in any order, and numbers are written as counts', () => {
     assert.equal(format('{b} before {a}', { a: 'x', b: 1329 }), '1,329 before x');
@@ -33,17 +31,18 @@ test('each form of another language stands at its place, whatever the engine nam
     writeFileSync(join(place, 'package.json'), '{"type": "module"}');
     const texts = join(place, 'page/texts');
     const english = readFileSync(join(texts, 'english.js'), 'utf8');
-    writeFileSync(join(texts, 'english.js'), english.replace("LANGUAGE = 'en-GB'", "LANGUAGE = 'ru'"));
+    writeFileSync(join(texts, 'english.js'), english.replace('en-GB', 'ru'));
     const russian = await import(join(texts, 'say.js'));
     const forms = [1, 3, 5, 21, 1.5].map(n => russian.format('{n} one|{n} few|{n} many|{n} other', { n }));
     assert.deepEqual(forms, ['1 one', '3 few', '5 many', '21 one', '1,5 other']);
 });
 
 test('a label that TRANSLATE names, in bold, is one of the page', () => {
-    const labels = new Set(Object.values({ ...english, ...forPlayers }).filter(it => typeof it === 'string')
-        .map(it => it.replace(/(?: \(.*| \{n\}|…)$/, '')));
+    const files = readdirSync(pageFile('.'), { recursive: true }).filter(it => it.endsWith('.js'));
+    const strings = files.flatMap(it => [...readFileSync(pageFile(it), 'utf8').matchAll(/(["'`])((?:\\.|(?!\1).)*)\1/g)]);
+    const labels = new Set(strings.map(([, , it]) => it.replace(/(?: \(.*|: \$\{.*| \{n\}|…)$/, '')));
     const guide = readFileSync(new URL('../../docs/TRANSLATE.md', import.meta.url), 'utf8');
-    const named = Array.from(guide.matchAll(/\*\*([^*]+)\*\*/g), ([, it]) => it.replace(/\s+/g, ' ').replace(/…$/, ''));
+    const named = Array.from(guide.matchAll(/\*\*([^*]+)\*\*/g), ([, it]) => it.replace(/\s+/g, ' ').replace(/(?: \d+|…)$/, ''));
     assert.notEqual(named.length, 0);
     assert.deepEqual(named.filter(it => !labels.has(it)), []);
 });

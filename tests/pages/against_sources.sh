@@ -41,12 +41,13 @@ for file in cd_sector/specs/Kind.antt cd_sector/src/encoding.rt; do
 done
 judge 'make audit has each file after those that it names' test "$(grep -n 'cd_sector/specs/Consistent.antt' audit | cut -d : -f 1)" -gt \
     "$(grep -n 'cd_sector/specs/Defect.antt' audit | cut -d : -f 1)"
-mkdir other
-(cd "$top" && find crates -name out -prune -o \( -name '*.rt' -o -name '*.antt' \) -print0 | xargs -0 cp -r --parents -t "$OLDPWD/other" &&
-    cp -r --parents crates.txt tools web tests targets bench examples include python "$OLDPWD/other")
-sed -i '/^ *\/\/[/!]/d' other/crates/cd_sector/src/encoding.rt
+# Directories above the sources may have any name.
+mkdir tests
+(cd "$top" && find crates -name out -prune -o \( -name '*.rt' -o -name '*.antt' \) -print0 | xargs -0 cp -r --parents -t "$OLDPWD/tests" &&
+    cp -r --parents crates.txt tools web tests targets bench examples include python "$OLDPWD/tests")
+sed -i '/^ *\/\/[/!]/d' tests/crates/cd_sector/src/encoding.rt
 for page in map contracts; do
-    judge "make $page refuses a file, or a call, that says nothing" eval '! python3 -B other/tools/pages.py $page > said 2>&1'
+    judge "make $page refuses a file, or a call, that says nothing" eval '! python3 -B tests/tools/pages.py $page > said 2>&1'
     judge 'and names it' grep -q 'cd_sector.*enco' said
 done
 
@@ -69,6 +70,10 @@ while IFS=: read -r page link <&3; do
     done < <(sed -n 's/^##* //p' "$target")
     judge "$page: $link is a heading" $found
 done 3< <(cd "$top" && grep -oE '\]\([^) ]*\)' README.md CONTRIBUTING.md SECURITY.md CHANGELOG.md docs/*.md | sed -e 's/](//' -e 's/)$//' | grep -v ':http')
+
+# A bullet that has only a comment is drawn empty.
+empty=$(cd "$top" && grep -nE '^ *-( <!--[^>]*-->)?$' README.md CONTRIBUTING.md SECURITY.md CHANGELOG.md docs/*.md | paste -sd ';')
+judge "no bullet is empty: ${empty:-none}" test -z "$empty"
 
 # The contract in docs/CONTRACTS.md is that of the sources.
 sed -n 's/^    //p' "$top/docs/CONTRACTS.md" | sed 's/^ *//' > example

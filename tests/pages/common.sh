@@ -74,4 +74,4 @@ missing dash dash 'the examples in dash' || plain="dash"
 # The crates that are libraries of this repository; and below, the source files of a crate, without tests.
 static_crates=(cd_c cd_c_scripts)
 library_crates=(cd_address cd_code cd_lanes cd_sector cd_repair cd_delta cd_script cd_patch cd_line cd_run cd_stream cd_read cd_report cd_image cd_args cd_host cd_program cd_memory)
-sources() { find "$top/crates/$1/src" -name '*.rt' ! -path '*/tests/*' ! -name tests.rt; }
+sources() { find "$top/crates/$1/src" -name tests -prune -o -name '*.rt' ! -name tests.rt -print; }

@@ -67,21 +67,6 @@ data_disc() {
     rm blank format
 }
 
-# game_disc: creates what the examples of cdscript(1) use: the image of a disc with English text, two dumps with a damaged sector, and a DAT.
-game_disc() {
-    mkdir -p files/DATA
-    printf '%s\0' 'Press start' 'New game' 'Continue' 'Options' > files/DATA/TEXT.DAT
-    printf '%-12s   \1' Potion Antidote Shield Lantern Key | tr ' ' '\0' > files/DATA/ITEMS.DAT
-    genisoimage -quiet -no-pad -V GAME -o game.iso files
-    cdscript raw game.iso game.bin
-    for copy in bad other; do cp game.bin "$copy.bin"; done
-    printf '\377' | dd of=bad.bin bs=1 seek=$((2352 * 24 + 16 + 80)) conv=notrunc status=none
-    printf '\377' | dd of=other.bin bs=1 seek=$((2352 * 3 + 16 + 80)) conv=notrunc status=none
-    printf "<datafile><game name='Game'><rom name='Game.bin' size='%s' sha1='%s'/></game></datafile>\n" \
-        "$(wc -c < game.bin)" "$(sha1sum game.bin | cut -d ' ' -f 1)" > known.dat
-    rm -r files
-}
-
 # page NAME PAGE: runs the blocks of a page in one shell, in a new directory, and compares the output of each. A reader of the sources'
 # README has a checkout with a proved program; a reader of the tarball's README has a disc.
 page() {
@@ -126,19 +111,21 @@ page() {
     done
 }
 
-# manual NAME PAGE MAKER: runs the examples of a man page in a new directory, where MAKER creates the images.
+# manual NAME PAGE MAKER..: runs the examples of a man page in a new directory, where MAKER creates the images.
 manual() {
     mkdir "$scratch/$1"
     cd "$scratch/$1" || exit 1
-    "$3"
+    "${@:3}"
     sed -n '/^\.Bd -literal/,/^\.Ed/{/^\./!p}' "$2" | sed 's/\\e/\\/g' > example
     transcript "the man page of $1" < example
 }
 
-# pages NAME DIRECTORY MANUALS: runs all user pages of a directory, and the man pages of another.
+# pages NAME DIRECTORY MANUALS EXAMPLES: runs all user pages of a directory, and the man pages of another with the images of a third. Only the
+# gate runs the guides of the sources, since those of the tarball are the same.
 pages() {
     local name
     page "$1-readme" "$2/README.md"
+    [ "$1" = tarball ] || [ -n "${GATE-}" ] || return 0
     for name in SCRIPTS TRANSLATE-CLI REPAIR COLLECTION FAQ; do
         page "$1-$name" "$2/docs/$name.md"
     done
@@ -146,10 +133,10 @@ pages() {
     for name in node genisoimage jq; do
         ! missing "$name" "$(packaged "$name")" 'the examples of cdscript(1)' || return 0
     done
-    manual "$1-cdscript" "$3/cdscript.1" game_disc
+    manual "$1-cdscript" "$3/cdscript.1" sh "$4/small_images.sh"
 }
 
-pages sources "$top" "$top/man"
+pages sources "$top" "$top/man" "$top/examples"
 judge 'make try can be run again' eval "$scratch/plain/make -s -C $scratch/sources-readme try > again" && rm -f "$scratch/plain/make"
 
 # The image and the scripts of bench/SPEED.md at a hundredth of their length, and the commands in its table.
@@ -183,10 +170,10 @@ for name in awk base64 bash cat cmp cp cut dash date dd diff dirname find grep g
 done
 PATH=$installed/bin:$scratch/named
 judge 'the program is the installed one' test "$(command -v cdpatch)" = "$installed/bin/cdpatch"
-pages tarball "$installed/share/doc/cdpatch" "$installed/share/man/man1"
+pages tarball "$installed/share/doc/cdpatch" "$installed/share/man/man1" "$installed/share/doc/cdpatch/examples"
 # The README's patch fits any disc with ISO 9660, and no others.
 cd "$scratch/tarball-readme" || exit 1
-made='../sources-TRANSLATE-CLI/Game (Track 1).bin'
+made='../tarball-TRANSLATE-CLI/Game (Track 1).bin'
 [ ! -e "$made" ] || judge 'the patch of the README is right for a disc of genisoimage' cdpatch check "$made" changes > log
 cdpatch check "$top/crates/cd_low_tests/data/cdrkit-8.bin" changes > log
 judge 'and refused on a short image' test "$(head -n 1 log)" = 'line 2: refused: no block 16'
@@ -195,7 +182,7 @@ judge 'and where it was applied' test "$(head -n 1 log)" = 'line 2: refused: old
 PATH=$path
 # The installed pages name no command and no file that only the sources have.
 cd "$installed/share/doc/cdpatch" || exit 1
-grep -nE 'crates/cd_low_tests/data|make (check|test|dist|quick)|^ *make( |$)|sources -->' README.md \
+grep -nE 'crates/cd_low_tests/data|make (check|test|dist)|^ *make( |$)|sources -->' README.md \
     docs/{SCRIPTS,TRANSLATE,TRANSLATE-CLI,REPAIR,COLLECTION,FAQ,INSTALL}.md > only
 judge "the installed pages have only what works there: $(head -n 1 only)" test ! -s only
 rm only

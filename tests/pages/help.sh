@@ -1,4 +1,4 @@
-# Tests help, and the parts of the man pages and of the README and the completions that are generated from it.
+# Tests help, and what is generated from it: parts of the man pages, and completions.
 
 enter help
 cdpatch --help > help
@@ -36,14 +36,14 @@ cdpatch "${@/repair/apply}" | sed -e 's/^  -h, --help .*/      --another   Print
 END
 chmod +x wider
 mkdir -p another/tools
-cp -r "$top/man" "$top/README.md" another
+cp -r "$top/man" another
 cp -r "$top/tools/options.py" "$top/tools/completions" another/tools
 judge 'pages of another program are refused' eval '! check check ./wider another > said'
-judge 'by name' cmp -s said <(printf '%s is not as tools/options.py makes it of cdpatch --help\n' man/cdpatch.1 README.md)
+judge 'by name' cmp -s said <(printf '%s is not as tools/options.py makes it of cdpatch --help\n' man/cdpatch.1)
 judge 'and made' eval 'check pages ./wider another && check check ./wider another'
 judge 'with the new option, and what help says of it' \
     test "$(grep -A 1 '^\.It Fl Fl another$' another/man/cdpatch.1 | tail -n 1)" = 'Print nothing.'
-judge 'with the new command' grep -q '^| `cdpatch repair IMAGE SCRIPT OUT` | Repair an image |$' another/README.md
+judge 'with the new command' grep -q '^\.It Cm repair ' another/man/cdpatch.1
 judge 'and all prose as it was' test -z "$(diff "$top/man/cdpatch.1" another/man/cdpatch.1 | grep '^<')"
 if ! missing mandoc mandoc 'the form of a made man page'; then
     mandoc -T lint another/man/cdpatch.1 2> /dev/null | grep -vE 'STYLE: (referenced manual not found|operating system explicitly specified)' > linted

@@ -98,7 +98,7 @@ has_symbols() {
 sources_for_debian() {
     missing git git "Debian's source package" && return
     dpkg-source --extract one/made/*.dsc sources > log 2>&1
-    judge 'the source package has the sources' diff -r -x numbers.js one/web sources/web
+    judge 'the source package has the sources' diff -r -x numbers.ts one/web sources/web
     (cd sources && PATH=/usr/bin:/bin debian/rules override_dh_auto_build) > log 2>&1
     judge 'without the toolchain its build says what it needs' test $? != 0 -a "$(grep -vc '^make' log)" = 1 -a -n \
         "$(grep '^This source package needs rt of the Rattle toolchain' log)"

@@ -1,7 +1,12 @@
-# Checks the rustdoc of the crates: a test of cd_low_tests or cd_example_tests runs each example exactly as it is printed.
+# Runs each example in the rustdoc of the crates, exactly as it is printed.
 
 enter rustdoc
-judge 'the examples of the rustdoc are read' eval 'python3 -B "$top/tests/pages/rustdoc.py" "${library_crates[@]}" > by_crate'
-while read -r crate untested; do
-    judge "a test runs each example of $crate, but ${untested:-none}" test -z "$untested"
-done < by_crate
+# `make check` needs no toolchain.
+if [ -n "${GATE-}" ]; then
+    if command -v rt > /dev/null; then
+        judge 'the examples in the rustdoc of the crates' env -C "$(mktemp -d -p "$PWD")" \
+            python3 -B "$top/tests/pages/rustdoc.py" "${library_crates[@]}"
+    else
+        skip 'the examples in the rustdoc, which need rt of the Rattle toolchain'
+    fi
+fi

@@ -27,7 +27,9 @@ def on_images(image: mmap.mmap, script: bytes, out: mmap.mmap) -> bytearray:
     made: cdpatch.Patched = cdpatch.apply(image, script, 16, carry=True)
     report: cdpatch.Report = cdpatch.apply(image, script, out=out)
     text: str = cdpatch.listing(image) + report.text + cdpatch.audit(image).text + cdpatch.check(image, script).text
-    found: bool = cdpatch.survey(image)[0].address or report.found
+    found: bool = cdpatch.survey(image)[0].address or report.found or cdpatch.audit(image).damaged > 0
+    results: List[cdpatch.Result] = [outcome.result for outcome in report.outcomes if outcome.line + outcome.block + outcome.offset > 0]
+    found = found or cdpatch.Result.DIFFERS in results or cdpatch.block(made.image[12:15]) == 16
     lines: str = cdpatch.listing_line(0, 15, 'mode1') + cdpatch.audit_line(0, cdpatch.survey(image)[0]) + cdpatch.listing_end(16, 0)
     cdpatch.audit_line(0, lines)  # type: ignore[arg-type]
     cdpatch.apply(image, script, out=out).image  # type: ignore[attr-defined]

@@ -42,7 +42,7 @@ def test_a_mapped_image_is_not_copied(image, form):
 form = {form}
 assert cdpatch.audit(form).text.startswith('sectors 60000 mode1 0 damaged 0 tail ')
 assert cdpatch.listing(form).startswith('0-59999 nosync')
-assert cdpatch.check(form, script) == (log, True)
+assert cdpatch.check(form, script)[:2] == (log, True)
 assert len(cdpatch.survey(form)) == 60000
 assert cdpatch.edc(form) == 0
 ''')
@@ -54,7 +54,7 @@ def kilobytes():
     with open('/proc/self/status') as status:
         return next(int(line.split()[1]) for line in status if line.startswith('RssFile'))
 before = kilobytes()
-assert cdpatch.check(image, script) == (log, True)
+assert cdpatch.check(image, script)[:2] == (log, True)
 assert kilobytes() - before < 2000
 ''')
 
@@ -65,7 +65,7 @@ import os
 with open(sys.argv[1] + '.out', 'x+b') as file:
     file.truncate(len(image))
     out = mmap.mmap(file.fileno(), 0)
-assert cdpatch.apply(image, script, out=out) == (log, True)
+assert cdpatch.apply(image, script, out=out)[:2] == (log, True)
 os.unlink(sys.argv[1] + '.out')
 ''')
 
@@ -94,5 +94,5 @@ sys.exit(1)
 def test_an_image_is_patched_in_little_memory(image):
     run(image, '''
 import os
-assert cdpatch.patch(open(sys.argv[1], 'rb'), script, open(os.devnull, 'wb')) == (log, True)
+assert cdpatch.patch(open(sys.argv[1], 'rb'), script, open(os.devnull, 'wb'))[:2] == (log, True)
 ''')

@@ -95,13 +95,13 @@ def test_a_correction_is_consistent_and_keeps_header_and_edc(seed):
     corrected = cdpatch.correct_sector(sector)
     if corrected is None:
         return
-    assert kind(sector) == 'mode1' and not consistent(sector) and consistent(corrected)
+    assert (kind(sector) == 'mode1' or corrected[12:] == sector[12:]) and not consistent(sector) and consistent(corrected)
     assert (corrected[12:16], corrected[2064:2068]) == (sector[12:16], sector[2064:2068])
 
 
 def test_what_parity_corrects():
     for first, count, is_corrected in [(16, 1, True), (16, 0, False), (2063, 1, True), (2068, 8, True), (2076, 80, True), (500, 80, True),
-                                       (500, 200, False), (2064, 1, False), (12, 1, False), (0, 1, False)]:
+                                       (500, 200, False), (2064, 1, False), (12, 1, False), (0, 12, True), (11, 2, False)]:
         harmed = bytes(byte ^ (0xFF if first <= at < first + count else 0) for at, byte in enumerate(SECTOR))
         assert cdpatch.correct_sector(harmed) == (SECTOR if is_corrected else None), first
 

@@ -19,7 +19,7 @@ TOP = TESTS.parent
 MODULE = TOP / 'library/cdpatch.wasm'
 PYTHON = '/usr/bin/python3'  # Debian's, which has pytest
 # Suites that take long, or have several processes that mostly wait. All others yield to them.
-URGENT = {'page', 'release', 'fit'}
+URGENT = {'browsers', 'release', 'fit'}
 PROCESSORS = len(os.sched_getaffinity(0))
 
 
@@ -97,7 +97,7 @@ class Suite:
         def tried(stem: str) -> list[tuple[str, Outcome]]:
             made = self.place / f'{stem}.xml'
             chosen = [f'--test-name-pattern={re.escape(words) or "."}' for words in patterns(stem)]
-            status, text = self.run(['node', '--test-reporter=junit', f'--test-reporter-destination={made}', *chosen, files[stem]], **more)
+            status, text = self.run(['node', '--enable-source-maps', '--test-reporter=junit', f'--test-reporter-destination={made}', *chosen, files[stem]], **more)
             return of_junit(made, status, text, f'{stem}: ')
         with ThreadPoolExecutor(max(PROCESSORS - 1, 1)) as pool:
             self.take(it for found in pool.map(tried, [stem for stem in files if not self.words or [*patterns(stem)]]) for it in found)

@@ -51,7 +51,7 @@ def by_client(it: Suite, client: str, path: Path) -> None:
 
 
 def core(it: Suite) -> None:
-    by_client(it, 'core', TOP / 'web/core')
+    by_client(it, 'core', TOP / 'out/web/core')
     it.node(TESTS / 'core')
 
 
@@ -66,10 +66,12 @@ def cdscript(it: Suite) -> None:
     it.node(TESTS / 'cdscript', COMMAND=command)
 
 
-def page(it: Suite) -> None:
-    """The page's logic in node, and the page in browsers. Only the gate runs all random actions and all states in another language."""
-    it.node(TESTS / 'page')
-    it.node(TESTS / 'hostile')
+def in_node(directory: str) -> Callable[[Suite], None]:
+    return lambda it: it.node(TESTS / directory)
+
+
+def browsers(it: Suite) -> None:
+    """The page in browsers. Only the gate runs all random actions and all states in another language."""
     if it.lacks('chromium', 'pytest-3', 'import pytest_rerunfailures', 'import xdist', what='the page in a browser'):
         return
     made = it.place / 'cdpatch.html'
@@ -94,12 +96,13 @@ def python(it: Suite) -> None:
 
 
 def types(it: Suite) -> None:
-    """The types of the JavaScript and of all Python that declares them."""
+    """The types of web/ and of all Python that declares them."""
     if not it.lacks('tsc', what='the types of web/'):
         it.command('the types of web/', ['tsc', '-p', TOP / 'web'])
     if it.lacks('mypy', what='the types of Python'):
         return
-    tools = [TOP / 'tools' / f'{name}.py' for name in ('contracts', 'frequencies', 'header', 'options', 'pack', 'pages', 'pairs', 'retarget')]
+    tools = [TOP / 'tools' / f'{name}.py'
+             for name in ('contracts', 'frequencies', 'header', 'options', 'pack', 'pages', 'pairs', 'retarget', 'strip', 'weight')]
     it.command('the types of the tools', [*MYPY, *tools, TESTS / 'wrong/bodies.py', TESTS / 'wrong/mutants.py'], MYPYPATH=TOP / 'tools')
     it.command('the types of tests/run', [*MYPY, TESTS / 'run', TESTS / 'runner'], MYPYPATH=TESTS / 'runner')
     it.command('the types of the tests of the page', ['mypy', '--cache-dir', '/dev/null', '--config-file', TESTS / 'page/mypy.ini', TESTS / 'page'],
@@ -117,20 +120,24 @@ def script(path: str, *words: str) -> Callable[[Suite], None]:
     return suite
 
 
-# Directories with more than one suite.
+# Suites of releases, of other systems, and of the runner itself. `make check` leaves them to the gate.
+OF_THE_GATE = {'release', 'fit', 'bare', 'runner', 'targets'}
+# Directories, and the page, with more than one suite.
 GROUPS = {
+    'page': ['browsers', 'page_in_node', 'hostile'],
     'process': ['program', 'images', 'faults', 'memory', 'system', 'random_faults'],
     'pages': ['examples', 'help', 'manual', 'messages', 'against_sources', 'rustdoc', 'sources', 'installing', 'release', 'completions', 'terminals'],
     'tools': ['pack', 'fit', 'forms', 'types', 'runner', 'bodies', 'bare'],
 }
-# The suites, the longest first, then those that wait for the disk.
+# The suites. Those that take longest begin first.
 SUITES: dict[str, Callable[[Suite], None]] = {
-    'page': page, 'release': script('pages/run', 'release'), 'pack': script('tools/pack.sh', 'refusals', 'command', 'page', 'pairs', 'two_builds'),
-    'fit': script('tools/pack.sh', 'release'), 'forms': script('tools/pack.sh', 'forms'), 'targets': script('targets/run'),
-    'library': script('library/run'), 'cdscript': cdscript, 'core': core, 'memory': script('process/memory.sh'),
-    'images': script('process/images.sh'), 'modules': script('modules/run'),
-    **{name: script('pages/run', name) for name in GROUPS['pages'] if name != 'release'},
-    'types': types, 'system': script('process/system.sh'), 'faults': script('process/faults.sh'), 'cases': cases,
-    'random_faults': random_faults, 'python': python, 'model': model, 'program': script('process/program.sh'),
-    'runner': script('tools/runner.sh'), 'bodies': script('tools/bodies.sh'), 'bare': script('tools/bare.sh'),
+    'browsers': browsers, 'cdscript': cdscript, 'core': core, 'hostile': in_node('hostile'), 'release': script('pages/run', 'release'),
+    'library': script('library/run'), 'fit': script('tools/pack.sh', 'release'), 'examples': script('pages/run', 'examples'),
+    'page_in_node': in_node('page'), 'targets': script('targets/run'), 'runner': script('tools/runner.sh'), 'types': types,
+    'bare': script('tools/bare.sh'), 'forms': script('tools/pack.sh', 'forms'), 'cases': cases, 'modules': script('modules/run'),
+    'python': python, 'pack': script('tools/pack.sh', 'refusals', 'command', 'page', 'pairs', 'two_builds'),
+    'faults': script('process/faults.sh'), 'model': model,
+    'memory': script('process/memory.sh'), 'images': script('process/images.sh'), 'system': script('process/system.sh'),
+    **{name: script('pages/run', name) for name in GROUPS['pages'] if name not in ('release', 'examples')},
+    'random_faults': random_faults, 'program': script('process/program.sh'), 'bodies': script('tools/bodies.sh'),
 }

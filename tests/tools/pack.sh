@@ -145,7 +145,7 @@ test_refusals() {
     refuses page 'it has another end or another script' page/page.html sed 's/<p id/<script>x<\/script><p id/'
     refuses page 'stands there 0 times, and not once' page/page.html sed '/stylesheet/d'
     refuses page 'stands there 2 times, and not once' page/page.html sed 's/^<meta.*/&&/'
-    refuses page 'bytes, more than 440000' page/style.css sh -c 'yes "p { color: black; }" | head -n 60000'
+    refuses page 'bytes, more than 456000' page/style.css sh -c 'yes "p { color: black; }" | head -n 60000'
     python=$(python3 -c 'import sys; print(sys.executable)')
     judge 'without esbuild its package is named' eval '! PATH=/nothing "$python" -B "$top/tools/pack.py" page module out --web small 2> errors &&
         grep -qF "package esbuild" errors'
@@ -165,7 +165,7 @@ release_tree() {
     printf '%s\n' '#!/bin/sh' "echo 'cdpatch $version'" > release/cdpatch
     # The types that tsc generates do not matter here.
     printf '%s\n' '#!/bin/sh' 'while [ "$1" != --outDir ]; do shift; done' 'cd web' \
-        'find npm core -name "*.js" | while read -r file; do mkdir -p "$2/${file%/*}" && : > "$2/${file%.js}.d.ts"; done' > stubs/tsc
+        'find npm core -name "*.ts" | while read -r file; do mkdir -p "$2/${file%/*}" && : > "$2/${file%.ts}.d.ts"; done' > stubs/tsc
     chmod +x stubs/* release/cdpatch
     ssh-keygen -q -t ed25519 -N '' -f owner && ssh-keygen -q -t ed25519 -N '' -f another || return
     sed -i -e 's/^\(address\|toolchain\|questions\):$/& a@localhost/' -e 's/^licence:$/& none/' \
@@ -173,7 +173,7 @@ release_tree() {
     echo terms > release/LICENSE
     sed -i '/^## Unreleased$/d' release/CHANGELOG.md
     grep -rliE 'no licence has been chosen|not released yet|no public release' release --include=*.md --include=*.[13] --include=copyright |
-        xargs sed -i -E 's/no licence has been chosen|not released yet|no public release//I'
+        xargs sed -i -E 's/no licence has been chosen|not released yet|no public release//gI'
     mkdir release/completions
     : | tee release/completions/{_cdpatch,cdpatch.bash,cdpatch.fish,_cdscript,cdscript.bash} > release/completions/cdscript.fish
     : | tee release/library/{libcdpatch.a,libcdpatch.so.2} > release/library/x86-64-v3/libcdpatch.so.2
@@ -262,7 +262,7 @@ test_release() {
     rm stubs/esbuild
 }
 
-made_pairs() { python3 -B "$top/tools/pairs.py" | cmp - "$top/web/core/encodings/pairs.js"; }
+made_pairs() { python3 -B "$top/tools/pairs.py" | cmp - "$top/web/core/encodings/pairs.ts"; }
 
 test_pairs() {
     missing chromium chromium 'the pairs of bytes of other languages' && return
@@ -270,7 +270,7 @@ test_pairs() {
 }
 
 typed_tools() {
-    mypy --strict --cache-dir=types "$top"/tools/{contracts,frequencies,header,options,pack,pages,pairs,retarget}.py \
+    mypy --strict --cache-dir=types "$top"/tools/{contracts,frequencies,header,options,pack,pages,pairs,retarget,strip}.py \
         "$tests/wrong/bodies.py" > log || { cat log; false; }
 }
 
@@ -278,15 +278,17 @@ typed_tools() {
 lint() {
     (cd "$1" && NODE_PATH=/usr/share/nodejs eslint -f unix --rulesdir "$top/tools/eslint" --rule 'import-cycle: error' --rule 'layers: error' "${@:2}")
 }
-lint_tools() { lint "$top/tools" --no-eslintrc -c "$top/web/.eslintrc.json" --env browser,node --parser-options sourceType:module . ; }
+lint_tools() {
+    lint "$top/tools" --no-eslintrc -c "$top/web/.eslintrc.json" --env browser,node --parser-options sourceType:module --rule 'max-len: [error, 140]' .
+}
 
-# refuses_form TEXT FILE LINE: records an additional line of a module in web/ for which eslint must report this text. Each line of a module
-# is in a different copy of web/, so that eslint reads all of them in one run.
+# refuses_form TEXT FILE LINE: records an additional line of a module in out/web for which eslint must report this text. Each line of a module
+# is in a different copy of out/web, so that eslint reads all of them in one run.
 forms=() linted=()
 declare -A lines_of=()
 refuses_form() {
     local name="eslint refuses $2 with ${3%;}: $1" copy=$((lines_of[$2]))
-    [ -d "forms.$copy" ] || cp -r "$top/web" "forms.$copy"
+    [ -d "forms.$copy" ] || cp -r "$top/out/web" "forms.$copy"
     printf '%s\n' "$3" >> "forms.$copy/$2"
     lines_of[$2]=$((copy + 1))
     linted+=("forms.$copy/$2")
@@ -300,11 +302,13 @@ judge_forms() {
     done
 }
 is_said() { grep -F "/$2:" forms.log | grep -qF "$1"; }
-# has_type FILE LINE: whether eslint refuses an additional line in the declarations of a layer.
-has_type() {
+# refuses_source TEXT FILE LINE: judges that tools/sources.js reports this text for additional lines of a file in web/.
+refuses_source() { judge "tools/sources.js refuses in $2: $1" is_refused "$@"; }
+is_refused() {
     rm -rf other
     cp -r "$top/web" other
-    lint other "$(dirname "$1")" > log && echo "$2" >> "other/$1" && ! lint other "$(dirname "$1")" > log && grep -qF 'in a higher layer' log
+    printf '%b\n' "$3" >> "other/$2"
+    ! node "$top/tools/sources.js" other > log && grep -F "other/$2:" log | grep -qF "$1"
 }
 
 # of_header NAME: prints the number CDPATCH_NAME of the header.
@@ -324,31 +328,36 @@ lacks_numbers() {
 }
 has_number() {
     rm -rf other
-    cp -r "$top/web" other
+    cp -r "$top/out/web" other
     echo 'export const LAST = 449849;' >> other/core/bytes.js
     ! lacks_numbers other core/bytes.js > log && grep -qF core/bytes.js log
 }
 
 test_forms() {
     missing eslint eslint 'the forms of web/' && return
-    judge 'the numbers of cdpatch.h stand nowhere else in web/' lacks_numbers "$top/web" .
+    judge 'the numbers of cdpatch.h stand nowhere else in web/' lacks_numbers "$top/out/web" .
     judge 'a number of cdpatch.h in the core is refused' has_number
-    judge 'the forms of web/' lint "$top/web" .
+    judge 'the forms of web/' lint "$top/out/web" .
     judge "the forms of the tools' JavaScript" lint_tools
+    if ! missing tsc node-typescript 'the lengths and the types of layers in web/'; then
+        judge 'the lengths and the types of layers in web/' node "$top/tools/sources.js" "$top/web"
+        refuses_source '../disc/disc.js is in a higher layer' core/iso/files.ts "import type { Disc } from '../disc/disc.js';"
+        refuses_source 'The line is longer than 140' core/bytes.ts "$(printf '// %138s' x)"
+        refuses_source 'The function has more than 40 lines' core/bytes.ts "export function long() {$(printf '\\n%.0s' {1..40})}"
+        refuses_source 'The file has more than 400 lines' core/bytes.ts "$(printf '\\n%.0s' {1..400})"
+    fi
     refuses_form './calls.js imports this module' core/module/arena.js "export { Calls } from './calls.js';"
     refuses_form './notices.js imports this module' page/ui/dom.js "import './notices.js';"
     refuses_form '../texts/index.js is in a higher layer' core/iso/files.js "import '../texts/index.js';"
     refuses_form './module/index.js is in a higher layer' core/bytes.js "import './module/index.js';"
-    refuses_form '../disc/disc.js is in a higher layer' core/iso/files.js "/** @typedef {import('../disc/disc.js').Disc} Disc */"
     refuses_form '../more/index.js is in a layer that has no place in the order' core/iso/files.js "import '../more/index.js';"
-    refuses_form 'Import views.js of that layer' command/help.js "import { dataTrack } from '../core/disc/index.js';"
-    refuses_form 'Import views.js of that layer' command/help.js "import { Pool } from '../core/pool/index.js';"
+    refuses_form 'Import views.js of that layer' command/arguments.js "import { dataTrack } from '../core/disc/index.js';"
+    refuses_form 'Import views.js of that layer' command/arguments.js "import { Pool } from '../core/pool/index.js';"
     refuses_form 'Import views.js of that layer' npm/jobs.js "export * from '../core/sectors/index.js';"
-    refuses_form '../tasks/index.js is in a higher layer' core/texts/search.js "import '../tasks/index.js';"
-    judge "eslint refuses a type of a higher layer in a layer's declarations" has_type core/pool/jobs.d.ts "export { Lines } from '../script/sector_lines.js';"
-    refuses_form 'Import index.js of that layer' core/tasks/merge.js "import '../sectors/runs.js';"
-    refuses_form 'Import views.js of that layer' page/disc/map.js "import '../../core/sectors/runs.js';"
-    refuses_form 'The core imports only of itself' core/sectors/runs.js "import '../../page/ui/dom.js';"
+    refuses_form '../tasks/index.js is in a higher layer' core/texts/find.js "import '../tasks/index.js';"
+    refuses_form 'Import index.js of that layer' core/tasks/merge.js "import '../sectors/sector.js';"
+    refuses_form 'Import views.js of that layer' page/disc/map.js "import '../../core/sectors/sector.js';"
+    refuses_form 'The core imports only of itself' core/sectors/sector.js "import '../../page/ui/dom.js';"
     refuses_form 'The core imports only of itself' core/bytes.js "import '../page/ui/dom.js';"
     refuses_form 'The core imports only of itself' core/iso/files.js "import '../../sentences/index.js';"
     refuses_form 'The sentences import only of themselves and of the core' sentences/english.js "import '../page/texts/index.js';"
@@ -359,22 +368,22 @@ test_forms() {
     refuses_form "What a folder gives to others stands in its index.js" page/disc/map.js "import '../ui/dom.js';"
     refuses_form 'The state of the page is changed by its methods' page/disc/map.js "app.image = null;"
     refuses_form 'The methods of the state tell what has changed' page/disc/map.js "app.tell('image');"
-    for file in page/disc/map.js command/help.js; do
+    for file in page/disc/map.js command/arguments.js; do
         refuses_form 'A failure has a code' $file "export const isGone = error => error.message.includes('gone');"
         refuses_form 'The core reads and writes the lines of scripts' $file 'export const FILLED = /^fill (\d+)/;'
         refuses_form 'The core reads and writes the lines of scripts' $file 'export const line = block => `rebuild ${block}`;'
     done
-    refuses_form 'The core has codes and facts, and no sentences' core/sectors/runs.js "export const left = { sentence: 'it is left' };"
-    refuses_form 'A failure has a code' core/sectors/runs.js "export const isGone = error => error.message === 'gone';"
+    refuses_form 'The core has codes and facts, and no sentences' core/sectors/sector.js "export const left = { sentence: 'it is left' };"
+    refuses_form 'A failure has a code' core/sectors/sector.js "export const isGone = error => error.message === 'gone';"
     refuses_form 'Calls has a method for each call' page/disc/map.js "calls.exports.cdpatch_version();"
     refuses_form '../disc/index.js imports this module' page/text/panel.js "import '../disc/index.js';"
-    refuses_form 'The command imports only of itself, of the core, of the sentences and of node' command/help.js "import '../page/ui/dom.js';"
-    refuses_form 'The command imports only of itself, of the core, of the sentences and of node' command/help.js "import 'os';"
-    for file in core/sectors/runs.js page/disc/map.js command/help.js; do
+    refuses_form 'The command imports only of itself, of the core, of the sentences and of node' command/arguments.js "import '../page/ui/dom.js';"
+    refuses_form 'The command imports only of itself, of the core, of the sentences and of node' command/arguments.js "import 'os';"
+    for file in core/sectors/sector.js page/disc/map.js command/arguments.js; do
         refuses_form 'Do not nest ternary expressions' $file "export const signOf = it => it < 0 ? -1 : it > 0 ? 1 : 0;"
         refuses_form 'Set each field by its name' $file "export class Held { constructor(held) { Object.assign(this, held); } }"
     done
-    for file in core/bytes.js core/sectors/runs.js page/main.js page/ui/dom.js command/help.js; do
+    for file in core/bytes.js core/sectors/sector.js page/main.js page/ui/dom.js command/arguments.js; do
         refuses_form 'A dynamic import' $file "import('./x.js');"
     done
     judge_forms

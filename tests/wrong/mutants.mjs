@@ -1,8 +1,9 @@
 // Generates small changes of JavaScript, such as mistakes: `node mutants.mjs FILE..` prints a line of JSON for each, with its file, its
-// line, its begin and end, and the replacement. It needs the parser in Debian's package node-typescript.
+// begin and end, the replacement, and the line of the source, by the map of the file. It needs the parser in Debian's package node-typescript.
 
 import { readFileSync } from 'node:fs';
-import { createRequire } from 'node:module';
+import { SourceMap, createRequire } from 'node:module';
+import { join } from 'node:path';
 
 const ts = createRequire('/')('/usr/share/nodejs/typescript');
 const { SyntaxKind: Kind } = ts;
@@ -39,10 +40,15 @@ function* changesAt(node, text) {
 
 for (const file of process.argv.slice(2)) {
     const text = readFileSync(file, 'utf8');
+    const map = new SourceMap(JSON.parse(Buffer.from(text.slice(text.lastIndexOf('base64,') + 7), 'base64')));
+    const sourceOf = ({ line, character }) => {
+        const { originalSource, originalLine } = map.findEntry(line, character);
+        return `${join(file, '..', originalSource)}:${originalLine + 1}`;
+    };
     const tree = ts.createSourceFile(file, text, ts.ScriptTarget.ES2022, true, ts.ScriptKind.JS);
     const walk = node => {
         for (const [from, to, made] of changesAt(node, text)) {
-            console.log(JSON.stringify({ file, line: tree.getLineAndCharacterOfPosition(from).line + 1, from, to, made }));
+            console.log(JSON.stringify({ file, from, to, made, source: sourceOf(tree.getLineAndCharacterOfPosition(from)) }));
         }
         ts.forEachChild(node, walk);
     };

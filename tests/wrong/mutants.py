@@ -28,10 +28,13 @@ TESTS, TOP = WRONG.parent, WRONG.parents[1]
 MODULE = TOP / 'library/cdpatch.wasm'
 NOTICES = TOP / 'library/NOTICES'
 sys.path.insert(0, str(TOP / 'tools'))
+import strip  # noqa: E402
+
 for variable, built in ('PROGRAM', 'cdpatch'), ('CDPATCH_PROGRAM', 'cdpatch'), ('CDPATCH_LIBRARY', 'library/libcdpatch.so.2'):
     os.environ.setdefault(variable, str(TOP / built))
 
-SOURCES = {'core': 'web/core', 'page': 'web/page', 'cdscript': 'web/command', 'python': 'python/cdpatch'}
+# JavaScript is changed in its stripped files. The lines that are printed are those of the sources.
+SOURCES = {'core': 'out/web/core', 'page': 'out/web/page', 'cdscript': 'out/web/command', 'python': 'python/cdpatch'}
 USUAL = ['core', 'cdscript', 'python']
 # The suite that tries a change of the core next, if no test of this suite reaches it.
 NEXT = {'core': 'page', 'page': 'cdscript'}
@@ -46,7 +49,7 @@ LONGEST_WAIT = 600
 MADE = ('numbers.js', '_numbers.py', 'pairs.js', 'frequencies.js')
 # The environment variable that names the version under test, and where a suite's version is; that of cdscript is packed.
 TOLD = {'core': 'CORE', 'cdscript': 'COMMAND', 'page': 'WEB'}
-PLACES = {'core': 'web/core', 'page': 'web'}
+PLACES = {'core': 'out/web/core', 'page': 'out/web'}
 PYTHON = '/usr/bin/python3'
 COMPARED = {ast.Lt: '<=', ast.LtE: '<', ast.Gt: '>=', ast.GtE: '>', ast.Eq: '!=', ast.NotEq: '==', ast.In: 'not in', ast.NotIn: 'in',
             ast.Is: 'is not', ast.IsNot: 'is'}
@@ -58,10 +61,10 @@ COUNTED = {ast.Add: '-', ast.Sub: '+', ast.Mult: '+', ast.FloorDiv: '*', ast.Mod
 class Mutant:
     suite: str
     file: str
-    line: int
     start: int
     end: int
     made: str
+    source: str  # 'FILE:LINE' of the source
 
 
 def of_javascript(suite: str) -> Iterator[Mutant]:
@@ -69,7 +72,7 @@ def of_javascript(suite: str) -> Iterator[Mutant]:
     ran = subprocess.run(['node', str(WRONG / 'mutants.mjs'), *files], cwd=TOP, stdout=subprocess.PIPE, check=True)
     for line in ran.stdout.decode().splitlines():
         it = json.loads(line)
-        yield Mutant(suite, it['file'], it['line'], it['from'], it['to'], it['made'])
+        yield Mutant(suite, it['file'], it['from'], it['to'], it['made'], it['source'])
 
 
 def changes_at(node: ast.AST, text: str) -> Iterator[tuple[ast.expr, str]]:
@@ -99,7 +102,8 @@ def of_python(suite: str) -> Iterator[Mutant]:
                 def at(line: int, column: int) -> int:
                     return sum(map(len, lines[:line - 1])) + len(lines[line - 1].encode()[:column].decode())
                 start, end = at(it.lineno, it.col_offset), at(it.end_lineno or 0, it.end_col_offset or 0)
-                yield Mutant(suite, str(file.relative_to(TOP)), it.lineno, start, end, made)
+                name = str(file.relative_to(TOP))
+                yield Mutant(suite, name, start, end, made, f'{name}:{it.lineno}')
 
 
 def linked(source: str, copy: str) -> None:
@@ -187,7 +191,7 @@ PROCESSES = len(os.sched_getaffinity(0))
 
 
 def changed(mutant: Mutant, root: Path) -> None:
-    file = root / mutant.file.split('/', 1)[1]
+    file = root / mutant.file.removeprefix('out/').split('/', 1)[1]
     text = file.read_text()
     file.unlink()
     file.write_text(text[:mutant.start] + mutant.made + text[mutant.end:])
@@ -211,7 +215,7 @@ def outcome(mutant: Mutant, room: Path) -> str:
     if mutant.suite == 'python':
         changed(mutant, copied(TOP / 'python', room / 'python'))
         return 'survived' if python_passes(room) else 'killed'
-    web = copied(TOP / 'web', room / 'web')
+    web = copied(TOP / 'out/web', room / 'out/web')
     changed(mutant, web)
     try:
         path = room / PLACES[mutant.suite] if mutant.suite in PLACES else joined(web, room / 'cdscript')
@@ -252,7 +256,7 @@ def tried(mutant: Mutant) -> tuple[Mutant, str]:
 
 def shown(mutant: Mutant) -> str:
     text = (TOP / mutant.file).read_text()
-    return f'{mutant.file}:{mutant.line}: {text[mutant.start:mutant.end]} -> {mutant.made}'.replace('\n', ' ')
+    return f'{mutant.source}: {text[mutant.start:mutant.end]} -> {mutant.made}'.replace('\n', ' ')
 
 
 def right_passes(suite: str, place: Path) -> bool:
@@ -261,7 +265,7 @@ def right_passes(suite: str, place: Path) -> bool:
     if suite == 'python':
         copied(TOP / 'python', place / 'python')
         return python_passes(place)
-    RIGHT = TOP / PLACES[suite] if suite in PLACES else joined(TOP / 'web', place / 'cdscript')
+    RIGHT = TOP / PLACES[suite] if suite in PLACES else joined(TOP / 'out/web', place / 'cdscript')
     files = sorted((TESTS / suite).glob('*.test.mjs'))
     with multiprocessing.Pool(PROCESSES) as pool:
         TESTED[suite] = sorted(pool.map(measured, [(file, suite, RIGHT) for file in files], 1), key=lambda it: it.seconds)
@@ -283,6 +287,7 @@ def main() -> int:
     words.add_argument('--count', type=int, default=300, metavar='N')
     words.add_argument('--seed', default='1', metavar='S')
     given = words.parse_args()
+    strip.stripped()
     every = [it for suite in given.suites for it in (of_python if suite == 'python' else of_javascript)(suite)]
     chosen = random.Random(given.seed).sample(every, min(given.count, len(every)))
     print(f'{len(chosen)} of {len(every)} changes, seed {given.seed}', flush=True)

@@ -1,8 +1,6 @@
-// A rule of eslint (`--rulesdir tools/eslint`): no layer of web/core imports a value or a type of a higher one, and values of a layer are
-// imported through its index.js. Types in a layer's .d.ts files are judged with its index.js. An interface imports helpers, the module,
-// tasks, and the views.js of other layers.
+// A rule of eslint (`--rulesdir tools/eslint`): no layer of web/core imports a value of a higher one, and values of a layer are imported
+// through its index.js. An interface imports helpers, the module, tasks, and the views.js of other layers. `sources.js` uses it for types.
 
-const fs = require('fs');
 const path = require('path');
 
 /** The layers from the lowest up. Below all of them are the helpers, which are the files of web/core itself. */
@@ -14,8 +12,6 @@ const WORKERS = [path.join('page', 'worker.js'), path.join('page', 'app', 'pool.
 const IN_WORKERS = ['pool', 'jobs'];
 
 const IN_CORE = /^(.*[/\\])core[/\\](?:(\w+)[/\\])?[^/\\]+$/;
-const TYPES = /import\('(\.[^']+)'\)/g;
-const DECLARED = /(?: from|^declare module) '(\.[^']+)'/gm;
 
 /** The layer of a file of the core; undefined for any other file. */
 function layerOf(file) {
@@ -39,32 +35,15 @@ function entryOf(file, own, layer) {
     return IN_WORKERS.includes(layer) && WORKERS.some(it => file.endsWith(it)) ? 'index.js' : 'views.js';
 }
 
-/** The texts of the declarations beside an index.js; none for any other file. */
-function declarationsBeside(file) {
-    if (path.basename(file) !== 'index.js') return [];
-    const folder = path.dirname(file);
-    return fs.readdirSync(folder).filter(name => name.endsWith('.d.ts')).map(name => fs.readFileSync(path.join(folder, name), 'utf8'));
-}
-
 module.exports = {
+    faultOf,
     create(context) {
         const file = path.resolve(context.getFilename());
-        const judge = (node, source, isType) => {
-            const message = faultOf(file, source, isType);
-            if (message !== undefined) context.report({ node, message });
-        };
         const value = node => {
             if (!node.source || !node.source.value.startsWith('.')) return;
-            judge(node, node.source.value, false);
+            const message = faultOf(file, node.source.value, false);
+            if (message !== undefined) context.report({ node, message });
         };
-        const types = node => {
-            for (const comment of context.getSourceCode().getAllComments()) {
-                for (const [, source] of comment.value.matchAll(TYPES)) judge(comment, source, true);
-            }
-            for (const text of layerOf(file) === undefined ? [] : declarationsBeside(file)) {
-                for (const [, source] of text.matchAll(DECLARED)) judge(node, source, true);
-            }
-        };
-        return { Program: types, ImportDeclaration: value, ExportNamedDeclaration: value, ExportAllDeclaration: value };
+        return { ImportDeclaration: value, ExportNamedDeclaration: value, ExportAllDeclaration: value };
     },
 };

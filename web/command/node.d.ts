@@ -63,12 +63,13 @@ declare module 'node:fs' {
     export function readFileSync(name: string, encoding: 'latin1'): string;
     export const realpathSync: { (name: string): string, native(name: string | Uint8Array, encoding: 'buffer'): Buffer };
     export function renameSync(name: string, other: string): void;
-    export function statSync(name: string | Uint8Array): { mode: number, size: number, mtime: Date, isFile(): boolean, isDirectory(): boolean };
+    export function statSync(name: string | Uint8Array): { mode: number, size: number, mtime: Date, isFile(): boolean,
+        isDirectory(): boolean };
     export function statSync(name: string | Uint8Array, how: { bigint: true }): BigIntStats;
     export function readSync(descriptor: number, bytes: Uint8Array, at: number, length: number, place: number): number;
     export function readdirSync(name: string | Uint8Array, encoding: 'buffer'): Buffer[];
-    export function readdirSync(name: string | Uint8Array, how: { withFileTypes: true, encoding: 'buffer' }): { name: Buffer, isFile(): boolean, isDirectory(): boolean,
-        isSymbolicLink(): boolean }[];
+    export function readdirSync(name: string | Uint8Array, how: { withFileTypes: true, encoding: 'buffer' }): { name: Buffer,
+        isFile(): boolean, isDirectory(): boolean, isSymbolicLink(): boolean }[];
     export function unlinkSync(name: string): void;
     export function writeSync(descriptor: number, bytes: Uint8Array, at: number, length?: number, place?: number): number;
 }
@@ -107,4 +108,9 @@ declare module 'node:zlib' {
     export function gunzipSync(bytes: Uint8Array): Uint8Array;
     /** Undefined before node 20.15. */
     export const crc32: undefined | ((bytes: Uint8Array, before: number) => number);
+}
+
+declare module 'node:events' {
+    /** Waits for an event, and throws what the event `error` brings. */
+    export function once(target: object, name: string): Promise<any[]>;
 }

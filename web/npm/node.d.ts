@@ -1,3 +1,5 @@
+// Declares the parts of node that the package uses, so that the compiler needs no package with node's types.
+
 declare module 'node:fs/promises' {
     export function readFile(place: URL): Promise<Uint8Array>;
     export function stat(path: string): Promise<{ isFile(): boolean }>;

@@ -1,3 +1,4 @@
+mod BlockLemmas
 mod ReportLemmas
 pub mod SurveyLemmas
 mod TextSizeLemmas

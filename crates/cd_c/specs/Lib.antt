@@ -1,4 +1,6 @@
+pub mod Blocks
 pub mod EnoughRoom
+pub mod Failures
 pub mod ReportLines
 pub mod Results
 pub mod State

@@ -1,7 +1,8 @@
 //! Calls of C that repair a sector: from copies in other dumps, and from its own parity.
 
-ghost use Rattle.std.specs.Prelude.{◌≡◌, ◌≢◌, All, false, slice_range, true};
+ghost use Rattle.std.specs.Prelude.{◌≡◌, ◌≢◌, ◌⊎◌, ℕ, All, List, drop, false, slice_range, true};
 ghost use Rattle.std.specs.Int.{from_le_bytes, w32};
+ghost use Rattle.cd_repair.specs.Correcting.{HasLostSync, IsLightDamage};
 ghost use Rattle.cd_repair.specs.Merging.{IsChoice, serves};
 ghost use Rattle.cd_sector.specs.Consistent.{consistent, header_of};
 ghost use Rattle.cd_sector.specs.Kind.{kind_of};
@@ -46,9 +47,13 @@ pub extern "C" fn cdpatch_correct_sector(sector: &mut Sector) -> bool
     ensures header { header_of sector.new ≡ header_of sector.old }
     ensures edc { from_le_bytes w32 (slice_range sector.new 2064 2068)
         ≡ from_le_bytes w32 (slice_range sector.old 2064 2068) }
-    ensures mode { result ≡ true → kind_of sector.old ≡ Mode1 }
+    ensures kind { result ≡ true
+        → (kind_of sector.old ≡ Mode1) ⊎ (drop 12 sector.new ≡ drop 12 sector.old) }
     ensures stays { result ≡ false → sector.new ≡ sector.old }
     ensures keeps { consistent sector.old ≡ true → result ≡ false }
+    ensures repairs { (t : List ℕ) → IsLightDamage sector.old t → consistent sector.old ≡ false
+        → (result ≡ true) × (sector.new ≡ t) }
+    ensures sync { (t : List ℕ) → HasLostSync sector.old t → (result ≡ true) × (sector.new ≡ t) }
 {
     correct_sector(sector)
 }

@@ -1,6 +1,6 @@
 //! Calls of C that compute EDC and parity, and that describe or encode a sector.
 
-ghost use Rattle.std.specs.Prelude.{◌≡◌, ℕ, ◌++◌, ◌≤◌, ◌<◌, ◌↔◌, [], ◌∷◌, IsTrue, List, Some, None, count_by, false, slice_index, true};
+ghost use Rattle.std.specs.Prelude.{◌≡◌, ◌≢◌, ℕ, ◌++◌, ◌≤◌, ◌<◌, ◌↔◌, [], ◌∷◌, IsTrue, List, Some, None, count_by, false, slice_index, true};
 ghost use Rattle.std.specs.List.{list_any};
 ghost use Rattle.cd_code.specs.Edc.{IsEdc};
 ghost use Rattle.cd_address.specs.Address.{address, last_block};
@@ -8,6 +8,7 @@ ghost use Rattle.cd_code.specs.CodeWords.{AllCodeWords};
 ghost use Rattle.cd_sector.specs.Consistent.{IsConsistent, consistent, header_of, user_of};
 ghost use Rattle.cd_sector.specs.Defect.{defect_of, is_broken, is_nonzero};
 ghost use Rattle.cd_sector.specs.Kind.{kind_number, kind_of};
+ghost use Rattle.cd_c.specs.Blocks.{bcd_value};
 ghost use Rattle.cd_c.specs.Results.{as_byte};
 
 use crate::kinds::kind_number;
@@ -63,6 +64,41 @@ pub extern "C" fn cdpatch_address(block: u32, bcd: &mut [u8; 3]) -> bool
         }
         None => false,
     }
+}
+
+/// The number of two decimal digits in one byte; any number for any other byte.
+fn number_of(bcd: u8) -> u32
+    ensures { result ≡ bcd_value bcd }
+{
+    u32::from(bcd) / 16 * 10 + u32::from(bcd) % 16
+}
+
+/// Whether a block has this address.
+fn has_address(block: u32, bcd: &[u8; 3]) -> bool
+    ensures { result ≡ true ↔ address block ≡ Some bcd.now }
+{
+    match address_of(block) {
+        Some(address) => address == *bcd,
+        None => false,
+    }
+}
+
+/// Writes the block with an address to `block`, and returns whether there is one. If there is none,
+/// `block` does not change.
+#[unsafe(no_mangle)]
+pub extern "C" fn cdpatch_block(bcd: &[u8; 3], block: &mut u32) -> bool
+    ensures value { result ≡ true → address block.new ≡ Some bcd.now }
+    ensures only { result ≡ true → (b : ℕ) → address b ≡ Some bcd.now → b ≡ block.new }
+    ensures none { result ≡ false → (b : ℕ) → address b ≢ Some bcd.now }
+    ensures stays { result ≡ false → block.new ≡ block.old }
+{
+    let fractions = (number_of(bcd[0]) * 60 + number_of(bcd[1])) * 75 + number_of(bcd[2]);
+    let found = fractions.saturating_sub(150);
+    if !has_address(found, bcd) {
+        return false;
+    }
+    *block = found;
+    true
 }
 
 /// Writes to `sector` the one consistent sector with this address and user data, as

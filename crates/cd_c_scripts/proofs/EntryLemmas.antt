@@ -190,7 +190,7 @@ edit_asked offset (Fill count value) is = is
 edit_asked offset Rebuild is = is
 edit_asked offset (Address bcd) is = is
 
-IsPatch-asked : (flags : ℕ) (p : Patch) → IsPatch p → IsPatch (as_asked flags p)
+pub IsPatch-asked : (flags : ℕ) (p : Patch) → IsPatch p → IsPatch (as_asked flags p)
 IsPatch-asked flags p is = elim (compares flags) as (λ b. IsPatch (cond b p (without_old p))) [
   | true ↦ is
   | false ↦ record {
@@ -253,3 +253,20 @@ pub rereads_as : {text : List ℕ} {es : List Entry} {version version' place pla
     → version' ≡ version → place' ≡ place → Rereads text version es place number
     → Rereads text version' es place' number
 rereads_as is_version is_place h = rw (is_version, is_place) h
+
+-- the patch of an entry is one
+pub entry_patch : {text : List ℕ} {version : Version} {flags : ℕ} {e : Entry} {p q : Patch}
+    → IsEntry text version flags e p → IsEntry text version flags e q → q ≡ p
+entry_patch {text} {version} {flags} {e} {p} {q} is is' =
+    let read : Ok (content.Patch is.found) ≡ Ok (content.Patch is'.found) = sym is.reads.1 ∙ is'.reads.1 in
+    let same : is'.found ≡ is.found = cc in
+    is'.asked ∙ ap (as_asked flags) same ∙ sym is.asked
+
+-- the version with a number is one
+pub same_version : {text : List ℕ} {named named' : Version} {flags : ℕ} {es : List Entry}
+    {ps : List Patch} {number : Option (Option Version)} → number ≡ Some (Some named)
+    → number ≡ Some (Some named') → AreEntries text named' flags es ps
+    → AreEntries text named flags es ps
+same_version {text} {named} {named'} {flags} {es} {ps} is is' entries =
+    let same : named' ≡ named = cc in
+    subst (λ v. AreEntries text v flags es ps) same entries

@@ -1,3 +1,4 @@
+mod BaseLemmas
 mod BeyondLemmas
 mod ClientCopies
 mod ClientEnds
@@ -19,6 +20,7 @@ mod MovedLemmas
 mod OrderedLemmas
 mod PassedLemmas
 mod PatchLineLemmas
+mod PieceLemmas
 mod PlainLemmas
 mod RefusalLemmas
 mod RequestLemmas

@@ -28,6 +28,11 @@ pub record IsEntry (text : List ℕ) (version : Version) (flags : ℕ) (e : Entr
   pub number : e.number ≡ found.line
   pub met : e.blocks_met ≡ blocks_met found
 
+-- an entry is that of no patch: its line is outside the text, or is no patch, or is a patch of
+-- another block or of another number of blocks
+abbrev pub IsNoEntry : List ℕ → Version → ℕ → Entry → Type 0
+IsNoEntry text version flags e = (p : Patch) → IsEntry text version flags e p → ⊥
+
 -- the entries of patches, one for each
 pub record AreEntries (text : List ℕ) (version : Version) (flags : ℕ) (es : List Entry)
     (ps : List Patch) : Type 0 where
@@ -43,6 +48,12 @@ pub record IsIndexed (text : List ℕ) (version : Version) (count : ℕ) (es : L
   pub is_script : script text ≡ Ok patches
   pub counted : count ≡ length patches
   pub entries : count ≤ length es → AreEntries text version 0 (take count es) (order patches)
+
+-- the same, with the number of the script's version
+pub record IsRead (text : List ℕ) (number count : ℕ) (es : List Entry) : Type 0 where
+  pub version : Version
+  pub numbered : head_numbered number ≡ Some (Some version)
+  pub indexed : IsIndexed text version count es
 
 -- the entry at a place has this line number; its line, read again, is a patch that begins in its
 -- block, and touches the same number of blocks

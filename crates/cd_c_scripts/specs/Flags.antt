@@ -1,5 +1,6 @@
--- The flags of a run: 1 if damage is carried, 2 if COPY is not requested, 4 if old bytes are not
--- compared. `cdpatch.h` has the same numbers.
+-- The flags of a call: 1 if damage is carried, 4 if old bytes are not compared. 2 means for a piece
+-- that the image ends with it, and for a run that COPY is not requested. `cdpatch.h` has the same
+-- numbers.
 use Rattle.std.specs.Prelude.{ℕ, ◌/◌, ◌%◌, ◌==◌, Bool, List, map, if◌then◌else◌}
 use Rattle.cd_script.specs.PatchForm.{Patch, without_old}
 
@@ -14,6 +15,10 @@ carries flags = flags / 1 % 2 == 1
 -- whether COPY may be requested
 abbrev pub copies : ℕ → Bool
 copies flags = flags / 2 % 2 == 0
+
+-- whether the image ends with the piece
+abbrev pub ends : ℕ → Bool
+ends flags = flags / 2 % 2 == 1
 
 -- whether old bytes are compared
 abbrev pub compares : ℕ → Bool

@@ -1,3 +1,4 @@
+pub mod Bases
 pub mod Client
 pub mod Entries
 pub mod Flags
@@ -8,6 +9,7 @@ pub mod Indexing
 pub mod Lines
 pub mod NumberLaws
 pub mod Outcomes
+pub mod Pieces
 pub mod Plain
 pub mod Runs
 pub mod StepKinds

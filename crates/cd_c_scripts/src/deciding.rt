@@ -15,7 +15,7 @@ ghost use Rattle.cd_run.specs.declared.run.Step.TheVariants.{Decide};
 ghost use Rattle.cd_c_scripts.specs.Flags.{as_asked, carries};
 ghost use Rattle.cd_c_scripts.specs.FlatPatch.{flat_edit};
 ghost use Rattle.cd_c_scripts.specs.Lines.{head_numbered};
-ghost use Rattle.cd_c_scripts.specs.Entries.{AreEntries, Rereads};
+ghost use Rattle.cd_c_scripts.specs.Entries.{AreEntries, IsEntry, IsNoEntry, Rereads};
 ghost use Rattle.cd_c_scripts.specs.Runs.{Going, IsLineOf, IsNextStep};
 
 use crate::entries::{Entry, blocks_met};
@@ -24,8 +24,8 @@ use crate::lines::version_of;
 use crate::run_state::{Rooms, ScriptRun, carries, compares};
 use cd_patch::Outcome;
 use cd_script::{
-    HexPatch, LentBytes, LineContent, MAX_BYTES, MAX_PATCHES, Patch, ScriptFault, read_line,
-    without_old,
+    HexPatch, LentBytes, LineContent, MAX_BYTES, MAX_PATCHES, Patch, ScriptFault, Version,
+    read_line, without_old,
 };
 use cd_sector::Sector;
 
@@ -107,7 +107,8 @@ fn patch_with<'a>(
 
 /// A patch as the flags require it: without its old bytes if they are not compared.
 fn as_asked(patch: Patch<LentBytes<'_>>, flags: u32) -> Patch<LentBytes<'_>>
-    ensures { result ≡ as_asked flags patch.entry }
+    ensures asked { result ≡ as_asked flags patch.entry }
+    ensures limits { IsPatch patch.entry → IsPatch result }
 {
     if compares(flags) {
         return patch;
@@ -195,4 +196,42 @@ pub(crate) fn decide(
         number: entry.number,
         outcome,
     })
+}
+
+/// The version with a number; `None` if no version has it, or if there was no head line.
+pub(crate) fn named_version(number: u32) -> Option<Version>
+    ensures some { IfSome result (λ v. head_numbered number ≡ Some (Some v)) }
+    ensures none { IfNone result ((v : TheVersion) → head_numbered number ≢ Some (Some v)) }
+{
+    version_of(number)?
+}
+
+/// The patch of an entry, as the flags require it, with its bytes in the two buffers. Returns `None`
+/// if the entry's line, read again, does not give the patch of the entry.
+pub(crate) fn lend_entry<'a>(
+    script: &[u8],
+    entry: &Entry,
+    version: Version,
+    flags: u32,
+    new: &'a mut [u8; MAX_BYTES],
+    old: &'a mut [u8; MAX_BYTES],
+) -> Option<Patch<LentBytes<'a>>>
+    ensures limits { IfSome result IsPatch }
+    ensures lends { IfSome result (λ p. IsEntry script.now version flags entry.now p) }
+    ensures none { IfNone result (IsNoEntry script.now version flags entry.now) }
+{
+    let Some(bytes) = line_at(script, entry.start, entry.size) else {
+        return None;
+    };
+    let Some(found) = patch_in(read_line(Some(version), entry.number, 0, bytes)) else {
+        return None;
+    };
+    if !is_of(&found, entry) {
+        return None;
+    }
+    let flat = lend_patch(&found, new, old);
+    let Some(patch) = patch_with(&found, &flat, new, old) else {
+        return None;
+    };
+    Some(as_asked(patch, flags))
 }

@@ -32,6 +32,8 @@ pub struct Entry {
     pub size: u32,
     /// The number of blocks that it touches.
     pub blocks_met: u32,
+    /// Room for a later release.
+    pub spare: u32,
 }
 
 /// The result of indexing a script.
@@ -80,7 +82,7 @@ fn put_in_order(entries: &mut [Entry])
 }
 
 /// Proof step: the rest of a text from a place on.
-fn rest_of(text: &[u8], start: usize) -> &[u8]
+pub(crate) fn rest_of(text: &[u8], start: usize) -> &[u8]
     requires { start ≤ length text.now }
     ensures { result.now ≡ drop start text.now }
 {
@@ -132,6 +134,7 @@ fn index_line(
                 start: start as u32,
                 size: line.len() as u32,
                 blocks_met: blocks_met(&patch),
+                spare: 0,
             };
             put_entry(entries, found.count, entry);
             Ok(Found {

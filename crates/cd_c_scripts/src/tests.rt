@@ -29,6 +29,7 @@ fn no_entry() -> Entry {
         start: 0,
         size: 0,
         blocks_met: 0,
+        spare: 0,
     }
 }
 

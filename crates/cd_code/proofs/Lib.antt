@@ -6,8 +6,6 @@ pub mod FieldLemmas
 pub mod FieldTableLemmas
 pub mod FoldingLemmas
 pub mod LaneLemmas
-pub mod MovingLemmas
-pub mod MovingTableLemmas
 pub mod ParityLemmas
 pub mod PlaceLemmas
 pub mod SyndromeLemmas

@@ -5,5 +5,4 @@ pub mod Filling
 pub mod Folding
 pub mod LaneWords
 pub mod Laws
-pub mod Moving
 pub mod Syndrome

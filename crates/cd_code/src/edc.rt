@@ -33,21 +33,6 @@ pub fn edc_of(bytes: &[u8]) -> u32
     with_bytes(with_bytes(with_bytes(0, &older), &newer), rest)
 }
 
-/// Computes the same EDC word as [`edc_of`], but by tables only, for a target without vectors
-/// (ECMA-130, 14).
-///
-/// # Examples
-///
-/// ```
-/// assert_eq!(rt; edc_by_tables(&[0x01]), 0x9091_0101);
-/// ```
-pub fn edc_by_tables(bytes: &[u8]) -> u32
-    ensures word { IsEdc bytes.now result }
-    ensures unique { (w : ℕ) → IsEdc bytes.now w → w ≡ result }
-{
-    with_bytes(0, bytes)
-}
-
 /// The EDC word of a list followed by `bytes`, from the EDC word of the list.
 fn with_bytes(word: u32, bytes: &[u8]) -> u32
     ensures { (v : List ℕ) → IsEdc v word → IsEdc (v ++ bytes.now) result }

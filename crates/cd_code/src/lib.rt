@@ -37,8 +37,6 @@ mod folding;
 mod lane_sums;
 mod lanes;
 mod laws;
-mod moving;
-mod moving_tables;
 mod product_code;
 mod syndrome;
 
@@ -46,12 +44,11 @@ pub use columns::{
     BACK_COLUMN, COLUMNS, ColumnLanes, ColumnSums, MIDDLE_COLUMN, ROWS, ROWS_SIZE, column_lanes,
     column_sums, row_sums,
 };
-pub use edc::{edc_by_tables, edc_of};
+pub use edc::edc_of;
 pub use field::{alpha_power, times};
 pub use lane_sums::LaneSums;
 pub use lanes::{lanes_at, put_lanes};
 pub use laws::{edc_is_unique, edc_of_sum, pair_is_unique, product_goes_by_bits, sum_goes_by_bits};
-pub use moving::edc_moved;
 pub use product_code::{
     DIAGONAL_SIZE, DIAGONALS, DiagonalSums, FIRST_P, FIRST_P_ROW, FIRST_Q, HEADER, P_PARITY,
     PLANE_COLUMNS, Q_PARITY, SECOND_P, SECOND_P_ROW, SECOND_Q, SECTOR_SIZE,

@@ -1,7 +1,6 @@
 -- The effects of writing bytes before the parity of a sector and updating the parity (ECMA-130,
 -- Annex A). All but `with_range` is plumbing.
-use Rattle.std.specs.Prelude.{◌≡◌, ℕ, ◌+◌, ◌<◌, ◌≤◌, ◌⊎◌, List, ◌++◌, length, take, drop, bit_xor, slice_index}
-use Rattle.cd_code.specs.Edc.{IsEdc}
+use Rattle.std.specs.Prelude.{◌≡◌, ℕ, ◌+◌, ◌<◌, ◌≤◌, ◌⊎◌, List, ◌++◌, length, take, drop, slice_index}
 use Rattle.cd_code.specs.Field.{AreBytes}
 use Rattle.cd_code.specs.CodeWords.{SameSyndromes}
 use Rattle.cd_sector.specs.EdcField.{StoresEdc}
@@ -42,20 +41,6 @@ pub record IsChanged (old new : List ℕ) (place : ℕ) (bytes : List ℕ) (erro
   pub zeros : (i : ℕ) → 2068 ≤ i → i < 2076 → slice_index new i ≡ slice_index old i
   pub edc : StoresEdc new error
   pub syndromes : SameSyndromes new old
-
--- plumbing of `differences`: from `at` on are the differences in the user data if the first `count`
--- of `bytes` are written at `offset`, and elsewhere 0
-pub record AreDifferences (s : List ℕ) (offset at count : ℕ) (bytes sums : List ℕ) : Type 0 where
-  pub inside : (i : ℕ) → i < count
-      → slice_index sums (at + i) ≡ bit_xor (slice_index s (16 + offset + i)) (slice_index bytes i)
-  pub outside : (k : ℕ) → (k < at) ⊎ (at + count ≤ k) → slice_index sums k ≡ 0
-
--- plumbing of `difference_edc`: `word` is the EDC of all differences in the user data
-pub record AddsEdc (s : List ℕ) (offset : ℕ) (bytes : List ℕ) (word : ℕ) : Type 0 where
-  pub sums : List ℕ
-  pub size : length sums ≡ 2048
-  pub added : AreDifferences s offset offset (length bytes) bytes sums
-  pub edc : IsEdc sums word
 
 -- the effect of `carry_bytes`: as `IsChanged`, where `error` is the error that the EDC had before
 pub record KeepsError (old new : List ℕ) (place : ℕ) (bytes : List ℕ) : Type 0 where

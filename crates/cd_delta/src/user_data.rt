@@ -17,7 +17,7 @@ use cd_sector::{EDC, Sector, USER_DATA, edc_bytes, fill_edc, put_part};
 
 /// From this number of bytes on, a difference sector costs less than a change of each byte. An
 /// address, of three bytes, is written byte by byte.
-pub(crate) const MANY: usize = 40;
+const MANY: usize = 40;
 
 /// Writes `bytes` at `offset` into the 2048 bytes of user data of a Mode 1 sector, then the EDC of
 /// bytes 0 to 2063 after them. Updates the parity for both, so that all 276 syndromes keep their

@@ -1,8 +1,7 @@
 //! Tests of everything that processes whole images: cd_image (`apply`, `check`), cd_report (`list`, `audit`), cd_read, cd_stream
 //! (`streams`), and cd_program and cd_args (`program`). Their shared code is in `images`.
 //!
-//! `patches`, `noise` and `reports` have a row for each rule; everything else about an image and a script is in the worked cases
-//! (`tests/cases`). Failures at each byte: `failing`, `reports`. The largest images, and one without an end: `large`; readers that continue
+//! What a script does to an image, and the reports of it, are in the worked cases (`tests/cases`). Noise: `noise`. Failures at each byte: `failing`, `reports`. The largest images, and one without an end: `large`; readers that continue
 //! after their end: `resumed`.
 #![tactic(auto)]
 

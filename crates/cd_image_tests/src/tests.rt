@@ -10,7 +10,6 @@ mod images;
 mod large;
 mod laws;
 mod noise;
-mod patches;
 mod program;
 mod reports;
 mod resumed;

@@ -9,7 +9,7 @@
 //!
 //! A [`Line`] has at most [`LINE_SIZE`] bytes, and allocates no memory.
 //!
-//! Tests: `crates/cd_example_tests`.
+//! Tests: the examples, and `crates/cd_image_tests`.
 #![tactic(auto)]
 
 mod line;

@@ -1,5 +1,5 @@
-//! Tests of cd_code (`tests::codes`), cd_sector (`tests::sectors`), cd_delta (`tests::changes`), cd_repair (`tests::repairs`) and cd_script (`tests::scripts`), and of
-//! the examples of the rustdoc (`tests::examples`) and the laws (`tests::laws`) of these crates and cd_patch.
+//! Tests of cd_code (`tests::codes`), cd_sector (`tests::sectors`), cd_delta (`tests::changes`), cd_repair (`tests::repairs`), and cd_script
+//! (`tests::scripts`), and of the laws (`tests::laws`) of these crates and cd_patch.
 //!
 //! The program is also a test, because a program can read a file and a test cannot: it encodes the sectors of `data/cdrkit-8.bin` again
 //! from their headers and user data, and prints for each whether all its bytes are those that independent encoders wrote.

@@ -4,7 +4,6 @@ use std::process::Abort;
 
 mod changes;
 mod codes;
-mod examples;
 mod laws;
 mod repairs;
 mod scripts;

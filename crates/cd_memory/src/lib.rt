@@ -20,7 +20,7 @@
 //! cannot be read again; no command does so. If memory is refused, a text or a file may lack its
 //! end, and the theorem says so in each case.
 //!
-//! Tests: `crates/cd_example_tests`, and `tests/library` over the calls of C.
+//! Tests: the examples.
 #![tactic(auto)]
 
 mod file;

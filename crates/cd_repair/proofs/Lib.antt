@@ -1,1 +1,6 @@
+mod ColumnLemmas
+mod CorrectingLemmas
+mod DiagonalLemmas
 mod MergingLemmas
+mod RoundLemmas
+mod SyncLemmas

@@ -13,8 +13,8 @@ use Rattle.std.proofs.lemmas.Str.Parse.{IsNumeralModel, digits_value_short, nume
 use Rattle.std.proofs.lemmas.List.{get_or_default, get_or_past}
 use Rattle.std.proofs.lemmas.List.Elements.{All-nil, All-cons}
 use Rattle.std.proofs.lemmas.List.Sums.{AllPass-from_list_all}
-use Rattle.hex.specs.Hex.{decode_of, encode_lower}
-use Rattle.hex.proofs.HexLemmas.{decode_of-encode_lower, decode_of-ok}
+use Rattle.hex.specs.Hex.{decode_of, encode_upper}
+use Rattle.hex.proofs.HexLemmas.{decode_of-encode_upper, decode_of-ok}
 use Rattle.cd_script.specs.declared.fault.ScriptFault.{ScriptFault}
 use Rattle.cd_script.specs.declared.fault.ScriptFault.TheVariants.{Address, Number, Hex}
 use Rattle.cd_address.specs.Address.{bcd}
@@ -159,16 +159,16 @@ hex_at-keeps line w = given_keeps _ (hex_bytes w) (Hex line) (some_if (hex_bytes
     λ k d lt. subst (λ (b : ℕ). b < 256) (get_or_default bytes k 0 d lt) (fit k)))
 
 decoded-encode : (bytes : List ℕ) → All (λ b. b < 256) bytes
-    → decode_of (encode_lower bytes) ≡ Ok bytes
+    → decode_of (encode_upper bytes) ≡ Ok bytes
 decoded-encode bytes each =
-    decode_of-encode_lower bytes (λ i. grind (arith, each i 0, get_or_past bytes i 0))
+    decode_of-encode_upper bytes (λ i. grind (arith, each i 0, get_or_past bytes i 0))
 
 hex-spells : (line : ℕ) (bytes : List ℕ) → 1 ≤ length bytes → All (λ b. b < 256) bytes
-    → Spells (hex_at line) (encode_lower bytes) bytes
+    → Spells (hex_at line) (encode_upper bytes) bytes
 unfolding hex_at
 hex-spells line bytes some each =
     let decodes = decoded-encode bytes each in
-    let parts = decode_of-ok (encode_lower bytes) bytes decodes in
+    let parts = decode_of-ok (encode_upper bytes) bytes decodes in
     record {
       plain = record {
         some = omega (arith, parts.2);
@@ -176,10 +176,10 @@ hex-spells line bytes some each =
       };
       reads =
           ap (λ (o : Option (List ℕ)). ok_or o (Hex line))
-          (sym (result_ok-decode_of (encode_lower bytes)) ∙ ap result_ok decodes);
+          (sym (result_ok-decode_of (encode_upper bytes)) ∙ ap result_ok decodes);
     }
 
-pub new-kind : (line : ℕ) → IsKind (new_at line) IsBytes encode_lower
+pub new-kind : (line : ℕ) → IsKind (new_at line) IsBytes encode_upper
 unfolding new_at
 new-kind line = record {
   keeps = λ w.
@@ -196,7 +196,7 @@ new-kind line = record {
 }
 
 pub old-kind : (line : ℕ) (new : List ℕ) → IsBytes new
-    → IsKind (old_at line new) (λ old. IsBytes old × (length old ≡ length new)) encode_lower
+    → IsKind (old_at line new) (λ old. IsBytes old × (length old ≡ length new)) encode_upper
 unfolding old_at
 old-kind line new fit = record {
   keeps = λ w.
@@ -218,7 +218,7 @@ only_byte-keeps : (line : ℕ) (bytes : List ℕ) → All (λ b. b < 256) bytes
     → IfOk (only_byte line bytes) (λ v. v < 256)
 only_byte-keeps line bytes each = grind (arith, each 0 0)
 
-pub byte-kind : (line : ℕ) → IsKind (byte_at line) (λ v. v < 256) (λ v. encode_lower (v ∷ []))
+pub byte-kind : (line : ℕ) → IsKind (byte_at line) (λ v. v < 256) (λ v. encode_upper (v ∷ []))
 unfolding byte_at
 byte-kind line = record {
   keeps = λ w. then_keeps _ _ (hex_at line w) _ (hex_at-keeps line w) (only_byte-keeps line);

@@ -13,3 +13,4 @@ pub mod SpellingLemmas
 pub mod SplitLemmas
 pub mod VersionLemmas
 pub mod general
+pub mod WritingLemmas

@@ -16,7 +16,7 @@ use Rattle.cd_script.specs.Limits.{number_limit, offset_limit, patch_limit}
 use Rattle.cd_script.specs.Line.{set_patch, set_if_patch, fill_patch, rebuild_patch, address_patch, patch_at, patch_by}
 use Rattle.cd_script.specs.Patch.{IsEditAt, IsPatch}
 use Rattle.cd_script.specs.Script.{is_passed_over, head_version, line_at, patches_from, script_from, script}
-use Rattle.cd_script.specs.Spelling.{has_form, version_word, edit_words, spelled_line, spelled_patch, spelling, on_lines_from}
+use Rattle.cd_script.specs.Spelling.{IsReadAs, has_form, version_word, edit_words, spelled_line, spelled_patch, spelling, on_lines_from}
 use Rattle.cd_script.specs.Words.{words, is_space, is_word}
 use Rattle.cd_script.proofs.KindLemmas.{IsPlainWord, address-kind, byte-kind, count-kind, new-kind, number-kind, offset-kind, old-kind, plain_word}
 use Rattle.cd_script.proofs.VersionLemmas.{old_verb}
@@ -144,6 +144,21 @@ line_at-spelled version line earlier p is few =
     let found = words-join (edit_words p.block p.offset p.edit) is.words in
     let test : nat_le patch_limit earlier ≡ false = grind (arith, nat_tests) in
     rw (found, is.patch, is.reads, test) refl
+
+-- the line that spells a patch is read as the patch
+pub reads-spelled : (p : Patch) → IsPatch p → IsReadAs (spelled_patch p) p
+reads-spelled p fits =
+    let ws = edit_words p.block p.offset p.edit in
+    let two =
+    edit_words-spelled Two 0 p.block p.offset p.edit fits.block fits.offset fits.edit refl in
+    record {
+      line = join_with_byte 32 ws;
+      one = λ rest. lines-spelled ws rest two.words;
+      reads = λ version number earlier form few.
+          let is =
+          edit_words-spelled version number p.block p.offset p.edit fits.block fits.offset fits.edit form in
+          rw (line_at-spelled version number earlier p is few) refl;
+    }
 
 patches_from-spelled : (version : Version) (line earlier : ℕ) (ps : List Patch) → All IsPatch ps
     → All (λ p. has_form version p.edit ≡ true) ps

@@ -18,3 +18,4 @@ pub mod ByLine
 pub mod Spelling
 pub mod Versions
 pub mod VersionNumbers
+pub mod Writing

@@ -1,8 +1,9 @@
 -- The text that spells a list of patches.
-use Rattle.std.specs.Prelude.{◌≡◌, ℕ, ◌+◌, ◌/◌, ◌%◌, ◌≤◌, Bool, true, false, List, [], ◌∷◌, ◌++◌, length, codes, All, Some, None, Ok}
+use Rattle.std.specs.Prelude.{◌≡◌, ℕ, ◌+◌, ◌/◌, ◌%◌, ◌<◌, ◌≤◌, Bool, true, false, List, [], ◌∷◌, ◌++◌, length, codes, All, Some, None, Ok}
 use Rattle.std.specs.Fmt.{decimal}
 use Rattle.std.specs.List.{flat_map, join_with_byte}
-use Rattle.hex.specs.Hex.{encode_lower}
+use Rattle.std.specs.Str.Lines.{lines}
+use Rattle.hex.specs.Hex.{encode_upper}
 use Rattle.cd_script.specs.PatchForm.{Edit, Patch}
 use Rattle.cd_script.specs.declared.patch.Edit.TheVariants.{Put, Fill, Rebuild, Address}
 use Rattle.cd_script.specs.declared.version.Version.{Version}
@@ -10,6 +11,8 @@ use Rattle.cd_script.specs.declared.version.Version.TheVariants.{One, Two}
 use Rattle.cd_script.specs.Limits.{patch_limit}
 use Rattle.cd_script.specs.Patch.{IsPatch}
 use Rattle.cd_script.specs.Script.{script}
+use Rattle.cd_script.specs.ByLine.{meaning_at}
+use Rattle.cd_script.specs.declared.by_line.LineContent.TheVariants as content
 
 -- the high decimal digit of a byte in BCD
 abbrev pub high_digit : ℕ → ℕ
@@ -29,12 +32,12 @@ address_word other = []
 -- the words of the form that spells an edit
 unfoldable pub edit_words : ℕ → ℕ → Edit → List (List ℕ)
 edit_words block offset (Put bytes None) =
-    codes "set" ∷ decimal block ∷ decimal offset ∷ encode_lower bytes ∷ []
+    codes "set" ∷ decimal block ∷ decimal offset ∷ encode_upper bytes ∷ []
 edit_words block offset (Put bytes (Some old)) =
-    codes "set" ∷ decimal block ∷ decimal offset ∷ encode_lower bytes
-    ∷ codes "was" ∷ encode_lower old ∷ []
+    codes "set" ∷ decimal block ∷ decimal offset ∷ encode_upper bytes
+    ∷ codes "was" ∷ encode_upper old ∷ []
 edit_words block offset (Fill count value) =
-    codes "fill" ∷ decimal block ∷ decimal offset ∷ decimal count ∷ encode_lower (value ∷ []) ∷ []
+    codes "fill" ∷ decimal block ∷ decimal offset ∷ decimal count ∷ encode_upper (value ∷ []) ∷ []
 edit_words block offset Rebuild = codes "rebuild" ∷ decimal block ∷ []
 edit_words block offset (Address bcd) = codes "address" ∷ decimal block ∷ address_word bcd ∷ []
 
@@ -68,6 +71,16 @@ has_form Two edit = true
 unfoldable pub on_lines_from : ℕ → List Patch → List Patch
 on_lines_from line [] = []
 on_lines_from line (p ∷ ps) = record p { line = line } ∷ on_lines_from (line + 1) ps
+
+-- after a head line of each version that has a form for a patch, the text is one line, which is read
+-- as this patch
+pub record IsReadAs (text : List ℕ) (p : Patch) : Type 0 where
+  pub line : List ℕ
+  pub one : (rest : List ℕ) → lines (text ++ rest) ≡ line ∷ lines rest
+  pub reads : (version : Version) (number earlier : ℕ) → has_form version p.edit ≡ true
+      → earlier < patch_limit
+      → meaning_at (Some version) number earlier line
+      ≡ Ok (content.Patch (record p { line = number }))
 
 -- the text that spells patches, in a version that has forms for them, is a script of exactly these
 -- patches, on the lines after the head line

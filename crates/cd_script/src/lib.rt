@@ -1,5 +1,5 @@
 //! Reads scripts in the patch language, versions 1 and 2: the patches of a text, or its first
-//! error.
+//! error. Writes the lines of patches.
 //!
 //! A text is split into lines at each line feed. The line feed, and one carriage return directly
 //! before it, do not belong to a line. The bytes after the last line feed, if any, are a line too.
@@ -33,7 +33,7 @@
 //!
 //! A reader that has no memory, or that receives one line at a time, splits a text with
 //! [`first_line`] and reads each line with [`read_line`]. The law [`reads_by_line`] says that the
-//! result is the same.
+//! result is the same. [`write_patch`] writes the line of a patch.
 //!
 //! Tests: `crates/cd_low_tests/src/tests/scripts.rt`.
 #![tactic(auto)]
@@ -54,6 +54,7 @@ mod script;
 mod value;
 mod version;
 mod words;
+mod writing;
 
 pub use by_line::{LineContent, read_line};
 pub use bytes::{LentBytes, PatchBytes};
@@ -70,3 +71,4 @@ pub use limits::{MAX_BYTES, MAX_DIGITS, MAX_NUMBER, MAX_OFFSET, MAX_PATCHES, MAX
 pub use patch::{Edit, Patch, lend, without_old};
 pub use script::{Script, parse};
 pub use version::Version;
+pub use writing::write_patch;

@@ -22,7 +22,7 @@ pub enum SectorKind {
 }
 
 /// The synchronisation field: `00`, ten times `FF`, `00`.
-pub(crate) const SYNC: [u8; 12] = [0, 255, 255, 255, 255, 255, 255, 255, 255, 255, 255, 0];
+pub const SYNC: [u8; 12] = [0, 255, 255, 255, 255, 255, 255, 255, 255, 255, 255, 0];
 
 /// The kind of a sector, from its sync field and its mode byte (ECMA-130, 14).
 ///

@@ -48,7 +48,7 @@ pub use defects::{
 pub use edc_field::{edc_bytes, fill_edc, put_edc, stored_edc};
 pub use encoding::{encode, encode_into, rebuild};
 pub use image::{MAX_SECTORS, images_are_cut};
-pub use kinds::{SectorKind, kind};
+pub use kinds::{SYNC, SectorKind, kind};
 pub use laws::{
     carried_exists, carried_is_unique, carried_of_consistent, consistent_by_parts,
     consistent_is_carried, sector_by_defect, sector_exists, sector_is_unique,

@@ -11,7 +11,7 @@ mod written;
 pub use readers::Resuming;
 pub use samples::{Sample, cut_image, image_of, sector_of};
 pub use scripts::script_of;
-pub use sectors::{carried, encoded_again, flipped, joined, with_added, with_bytes};
+pub use sectors::{encoded_again, flipped, joined};
 pub use texts::repeated;
 pub use writers::Full;
 pub use written::{UNTOUCHED, Written, written_in};

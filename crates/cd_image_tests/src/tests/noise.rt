@@ -1,6 +1,6 @@
 //! Sectors of noise with a sync field and a mode byte.
 
-use super::cases::{PLAIN, expect_sectors};
+use super::cases::expect_sectors;
 use super::images::Sample::Mode;
 use super::images::{encoded_again, joined, sector_of};
 use super::reports::audits_as;
@@ -39,7 +39,7 @@ const APPLIED: &str = "line 2: applied\nline 3: applied\nline 4: applied\napplie
 #[test]
 fn is_damaged(rt: HostRuntime) -> Result<(), Fail> {
     let noise = three();
-    expect_sectors(&rt, rt.alloc(), SET_EACH, &noise, DAMAGED, &noise, &PLAIN)
+    expect_sectors(&rt, rt.alloc(), SET_EACH, &noise, DAMAGED, &noise)
 }
 
 #[test]
@@ -49,7 +49,7 @@ fn is_rebuilt(rt: HostRuntime) -> Result<(), Fail> {
     for sector in made.iter_mut() {
         *sector = encoded_again(sector);
     }
-    expect_sectors(&rt, rt.alloc(), REBUILD, &noise, APPLIED, &made, &PLAIN)
+    expect_sectors(&rt, rt.alloc(), REBUILD, &noise, APPLIED, &made)
 }
 
 /// Each sector has a wrong address, and none of its code words holds.

@@ -84,7 +84,9 @@ const HARMS: &[(usize, usize, bool)] = &[
     (2064, 1, false), // the EDC
     (12, 1, false), // the header
     (15, 1, false), // its mode byte
-    (0, 1, false), // the sync field
+    (0, 1, true), // the sync field
+    (0, 12, true),
+    (11, 2, false), // and the header
 ];
 
 #[test]

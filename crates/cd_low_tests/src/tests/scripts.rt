@@ -4,8 +4,11 @@ use super::holds;
 use cd_script::ScriptFault::{
     Address, Head, Hex, Length, NoMemory, Number, Offset, TooMany, Verb, Words,
 };
-use cd_script::{MAX_PATCHES, MAX_TEXT, Patch, ScriptFault, parse};
+use cd_script::{
+    LentBytes, MAX_PATCHES, MAX_TEXT, Patch, ScriptFault, is_patch, lend, parse, write_patch,
+};
 use std::alloc::{AllocError, Global};
+use std::test::Fail;
 
 /// A text, and the lines of its patches in order, or its error.
 type Read = (&'static str, Result<&'static [u32], ScriptFault>);
@@ -101,6 +104,46 @@ fn texts_of_faults(rt: HostRuntime) -> Result<(), AllocError> {
     for fault in FAULTS {
         let came = format!(in rt.alloc(); "{fault}")?;
         assert_eq!(rt; came.as_str(), fault.text());
+    }
+    Ok(())
+}
+
+/// Each form of a patch, as a line that `write_patch` writes.
+const LINES: &[&str] = &[
+    "set 0 0 00\n",
+    "set 999999999 2047 48EF\n",
+    "set 5 16 4869 was C0FF\n",
+    "fill 5 16 4096 0A\n",
+    "rebuild 16\n",
+    "address 0 99:59:74\n",
+];
+
+/// Whether a patch is written as this line, and not written to a room that lacks one byte.
+fn is_written_so(patch: &Patch<LentBytes<'_>>, line: &[u8]) -> bool {
+    let mut room = [0xEE; 64];
+    let size = line.len();
+    if !is_patch(patch) || size == 0 || size >= room.len() {
+        return false;
+    }
+    let needed = write_patch(patch, &mut room[..size - 1]);
+    if needed != size || room != [0xEE; 64] {
+        return false;
+    }
+    let written = write_patch(patch, &mut room);
+    written == size && &room[..size] == line && room[size] == 0xEE
+}
+
+#[test]
+fn lines(rt: HostRuntime) -> Result<(), Fail> {
+    for (row, line) in LINES.iter().enumerate() {
+        let text = format!(in rt.alloc(); "cdpatch 2\n{line}")?;
+        assert!(rt; text.len() <= MAX_TEXT);
+        let script = parse(rt.alloc(), text.as_bytes())?;
+        let is_right = match script.patches().first() {
+            Some(patch) => is_written_so(&lend(patch), line.as_bytes()),
+            None => false,
+        };
+        holds(&rt, is_right, row);
     }
     Ok(())
 }

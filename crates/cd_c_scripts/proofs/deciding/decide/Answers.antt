@@ -59,7 +59,7 @@ returns-clause-goes c =
     let with_bytes : c.in-Some-patch_with.patch ≡ next.entry.found =
     cc (c.in-Some-patch_with.is, c.patch_with.ensures, found) in
     let patch : c.as_asked-asked.result ≡ q =
-    c.as_asked-asked.ensures ∙ ap (as_asked run.flags) with_bytes ∙ sym next.entry.asked in
+    c.as_asked-asked.ensures.asked ∙ ap (as_asked run.flags) with_bytes ∙ sym next.entry.asked in
     let new = c.decide-outcome.ensures in
     let goes = rw (patch, c.carries.ensures) at new.goes in
     let o = c.decide-outcome.result in

@@ -10,10 +10,10 @@ use Rattle.cd_delta.proofs.carrying.carry_user.Goals as goal
 pub returns : goal.returns
 returns c =
     let old = c.args.s.now in
-    let new = c.carry_in_user.new.s in
+    let new = c.carry_bytes.new.s in
     let offset = c.args.offset in
     let bytes = c.args.bytes.now in
-    let kept : KeepsError old new (16 + offset) bytes = c.carry_in_user.ensures in
+    let kept : KeepsError old new (16 + offset) bytes = c.carry_bytes.ensures in
     let stored = kept.before in
     let changed = kept.changed in
     let kind = kind-of changed (omega arith) (inl (omega arith)) in

@@ -1,7 +1,7 @@
 //! Builds sectors from user data and from other sectors.
 
 use cd_address::address_of;
-use cd_sector::{Sector, encode, sum_of};
+use cd_sector::{Sector, encode};
 use std::alloc::{AllocError, Global};
 
 /// The consistent sector of a block with this user data.
@@ -26,28 +26,9 @@ pub fn with_added(sector: &Sector, place: usize, difference: u8) -> Sector {
     other
 }
 
-/// The sector with these bytes from a place on. Bytes after the end of the sector are left out.
-pub fn with_bytes(sector: &Sector, place: usize, bytes: &[u8]) -> Sector {
-    let mut other = *sector;
-    let mut next = place;
-    for byte in bytes {
-        if next < 2352 {
-            other.put(next, *byte);
-            next += 1;
-        }
-    }
-    other
-}
-
 /// The sector with the lowest bit of the byte at a place flipped.
 pub fn flipped(sector: &Sector, place: usize) -> Sector {
     with_added(sector, place, 1)
-}
-
-/// A sector after a change that carries its damage: to it is added the difference between two consistent sectors, one with its content, and
-/// one with the content of the new sector.
-pub fn carried(old: &Sector, new: &Sector) -> Sector {
-    sum_of(old, &sum_of(&encoded_again(old), &encoded_again(new)))
 }
 
 /// The bytes of sectors, one after the other.

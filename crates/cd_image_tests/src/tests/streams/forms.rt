@@ -5,8 +5,15 @@ ghost use Rattle.std.specs.Prelude.{◌≡◌, ◌≤◌, ◌++◌, [], ◌∷�
 use super::steps::Step::{self, Flush, Write as Put};
 use super::steps::all_answer;
 use cd_stream::{
-    FailAfter, Short, Sink, SliceSink, SliceSource, Source, SourceFailed, ZeroSource, fill_buffer,
+    Count, FailAfter, Short, Sink, SliceSink, SliceSource, Source, SourceFailed, ZeroSource,
+    fill_buffer,
 };
+use std::mem::size_of;
+
+#[test]
+fn a_count_occupies_no_bytes(rt: HostRuntime) {
+    assert_eq!(rt; size_of::<Count>(), 0);
+}
 
 #[test]
 fn a_source_that_fails_after_short_reads(rt: HostRuntime) {

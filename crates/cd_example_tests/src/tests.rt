@@ -1,6 +1,0 @@
-//! Each example, line by line.
-
-mod commands;
-mod images;
-mod runs;
-mod streams;

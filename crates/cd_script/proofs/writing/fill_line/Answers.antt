@@ -1,0 +1,22 @@
+use Rattle.std.proofs.Common.{append_assoc}
+use Rattle.cd_script.specs.Spelling.{edit_words}
+use Rattle.cd_script.proofs.writing.fill_line.Goals as goal
+
+pub returns : goal.returns
+unfolding edit_words
+returns c =
+    rw (
+      c.push_text-6.ensures,
+      c.push_text-5.ensures,
+      c.spell_hex.ensures,
+      c.push_text-4.ensures,
+      c.push_number-3.ensures.line,
+      c.from-2.ensures,
+      c.push_text-3.ensures,
+      c.push_number-2.ensures.line,
+      c.from.ensures,
+      c.push_text-2.ensures,
+      c.push_number.ensures.line,
+      c.push_text.ensures,
+      c.new-line.ensures.empty,
+    ) (simp append_assoc)

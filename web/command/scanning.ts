@@ -1,0 +1,368 @@
+// The job `scan`: examines each image of a collection, and writes its lines in the order of the names.
+
+import { once } from 'node:events';
+import { cpus } from 'node:os';
+import { basename } from 'node:path';
+import { parentPort } from 'node:worker_threads';
+import { bytesOfLines, joinedBytes } from '../core/bytes.js';
+import type { Disc, KnownDumps } from '../core/disc/views.js';
+import { Fault, failedBy } from '../core/faults.js';
+import {
+    NO_IMAGE, examineFile, listedColumns, listedName, otherSummary, summaryByDat, type FileFound, type FileSummary,
+} from '../core/tasks/index.js';
+import { sentenceOf } from '../sentences/index.js';
+import { Collection } from './collection.js';
+import { Files } from './files.js';
+import { ALL_HASHES, Games, RunningHashes, SHA1_ONLY, Verdicts, gameLines, gamesObject, readingOnce, type Needs } from './hashes.js';
+import { Job, compiledModule, takeModule, type Target } from './job.js';
+import { namingSheet, siblingsOf, surveyedIn } from './opening.js';
+import { fileObject, jsonLine, untestedTexts } from './printed.js';
+import { LinesInOrder, resumedList, unitsOf, type FileState, type ResumedList, type Unit } from './scan_list.js';
+import type { Messages } from './system.js';
+import { begunThread } from './threads.js';
+
+// A thread of `scan`, which examines one image after the other without the help of other threads.
+
+/**
+ * The findings in the files of an image or a sheet; the messages about them, and about missing files; the error if the files cannot be
+ * examined, else ''; and the description of a file that is not part of a disc, else ''.
+ */
+export type Answer = { files: FileSummary[], notes: string[], missing: string[], fault: string, other: string };
+
+/** Collects messages instead of printing them. */
+function keptMessages(notes: string[]) {
+    const messages = { say: (note: string) => void notes.push(note), progress() {}, hideProgress() {} };
+    return (messages as unknown) as Messages;
+}
+
+/** Reports the sectors that were not tested in a file with tested sectors, if there is no cue sheet that gives their kind. */
+function sayUntested(job: Job, { sheet }: Disc, { file: { name }, surveys }: FileFound) {
+    if (sheet !== null) return;
+    for (const { mode1, mode2, untested } of surveys) {
+        if (mode1 + mode2.tested > 0) untestedTexts(untested, false).forEach(text => job.say(`${name}: ${text}`));
+    }
+}
+
+/** The answer if a file cannot be examined. */
+function failedAnswer(fault: string, notes: string[] = []): Answer {
+    return { files: [], notes, missing: [], fault, other: '' };
+}
+
+/** An image to examine, or a sheet, and the files of the sheet that were examined before. */
+type Asked = { name: string, needs: Needs, done: string[] };
+
+async function scanOne({ name, needs, done }: Asked): Promise<Answer> {
+    const files = new Files(0);
+    const notes: string[] = [];
+    const job = new Job({ job: 'scan', names: [name], options: {} }, { input: 0, output: 1, errors: 2 }, files, keptMessages(notes));
+    job.pool.isAlone = true;
+    files.warn = text => job.say(text);
+    let isMissing = false;
+    try {
+        const { disc, found, summaries, missing } = await namingSheet(examineFile(job.calls, await files.image(name), {
+            siblings: siblingsOf(job), read: readingOnce(job, needs), tracksOf: it => surveyedIn(job, it),
+            changeOf: it => files.changed.get(it.name) || '', isDone: it => done.includes(it),
+            whatIs: kind => sentenceOf({ code: 'kind/what', facts: { kind } }),
+        }).catch(error => {
+            isMissing = failedBy(error, 'disc/missing-files');
+            throw error;
+        }));
+        const other = disc === null ? summaries[0].kinds.slice(NO_IMAGE.length) : '';
+        if (disc !== null) found.forEach(it => sayUntested(job, disc, it));
+        const absent = missing.map(({ number, fileName }) => `track ${number} of ${name} is in the missing file ${fileName}`);
+        return { files: summaries, notes, missing: absent, fault: '', other };
+    } catch (error) {
+        if (!(error instanceof Fault)) throw error;
+        const sentence = sentenceOf(error);
+        if (isMissing) return { ...failedAnswer('', notes), missing: [sentence] };
+        return failedAnswer(error.facts.file === name ? sentence : `${name}: ${sentence}`, notes);
+    } finally {
+        files.close();
+    }
+}
+
+/** Runs in a thread of `scan`: receives names, and replies with answers. */
+export function serveScan(module: WebAssembly.Module) {
+    if (parentPort === null) return;
+    takeModule(module);
+    const port = parentPort;
+    port.on('message', (asked: Asked) => {
+        scanOne(asked).catch(error => failedAnswer(`${asked.name}: ${error}`)).then(answer => port.postMessage(answer, []));
+    });
+}
+
+// The threads of `scan`: each examines one file after the other.
+
+/** Threads that examine files, several at a time, in the order in which they are asked for. */
+class Scanners {
+    /** Ends when each file that was asked for before has a thread. */
+    turn: Promise<unknown> = Promise.resolve();
+    /** Is called when a thread is free again. */
+    freed = () => {};
+    threads; free;
+
+    /** @param count of threads. If there is only one file, the start of a thread would take longer than it helps */
+    constructor(count: number) {
+        this.threads = Array.from({ length: count }, () => count === 1 ? null : begunThread({ module: compiledModule(), scans: true }));
+        this.free = [...this.threads];
+    }
+
+    async scan(asked: Asked) {
+        const turn = this.turn.then(() => this.free.length > 0 || new Promise(resolve => { this.freed = () => resolve(true); }));
+        this.turn = turn;
+        await turn;
+        const thread = this.free.pop() || null;
+        const answer = await this.answer(thread, asked);
+        this.free.push(thread);
+        this.freed();
+        return answer;
+    }
+
+    /** The answer of a thread. Without threads, and after the thread has failed, the current thread examines the file. */
+    async answer(thread: ReturnType<typeof begunThread>, asked: Asked): Promise<Answer> {
+        if (thread === null || !await thread.begun || thread.isGone) return scanOne(asked);
+        thread.worker.postMessage(asked, []);
+        return once(thread.worker, 'message').then(([answer]) => answer, error => failedAnswer(`${asked.name}: ${error}`));
+    }
+
+    close() {
+        for (const thread of this.threads) if (thread !== null) void thread.worker.terminate();
+    }
+}
+
+/** A file that a DAT may know. */
+type Counted = Pick<FileSummary, 'name' | 'size' | 'hashes' | 'kinds'>;
+
+/** How many files are begun before the first of them is done. The answers of the others are kept until then. */
+const AHEAD = 256;
+
+/** The words of the line of a cue sheet. */
+const SHEET = sentenceOf({ code: 'kind/what', facts: { kind: 'cue' } });
+
+/** The results for a collection so far. */
+class Scan {
+    /** Null for a list that is continued, which is put in order at the end. */
+    order: LinesInOrder | null = null;
+    /** The names in a list that is continued. */
+    done = new Set<string>();
+    /** The names of cue sheets in it, whose lines say nothing of the files that they name. */
+    doneSheets = new Set<string>();
+    /** Files in directories that are not part of a disc. */
+    others: { name: string, what: string }[] = [];
+    status = 0;
+    /** The real paths of files that were reported. */
+    told = new Set();
+    collection; needs; verdicts; games;
+
+    constructor(readonly job: Job, readonly target: Target, readonly known: KnownDumps | null) {
+        this.collection = new Collection(text => this.fault(text), target);
+        const least = known ? known.needs : SHA1_ONLY;
+        this.needs = job.options.json ? ALL_HASHES : least;
+        this.verdicts = known && new Verdicts(known);
+        this.games = known && new Games(known);
+    }
+
+    fault(text: string) {
+        this.status = 2;
+        this.job.say(text);
+    }
+
+    /**
+     * Reports what was found in a unit, and writes the lines whose turn it is.
+     * @param answer null if it was reported before
+     */
+    async take(unit: Unit, answer: Answer | null) {
+        const lines = this.linesOf([...answer === null ? [] : this.report(unit, answer), ...this.sheetOf(unit)]);
+        const bytes = joinedBytes(this.order === null ? [...lines.values()] : this.order.add(unit, lines));
+        if (bytes.length > 0) await this.target.write(bytes);
+        this.job.output.flush();
+    }
+
+    /** Prints the messages about a unit, and returns the files that were found in it. */
+    report({ wanted: { name, isNamed } }: Unit, { files, notes, missing, fault, other }: Answer) {
+        notes.forEach(note => this.job.say(note));
+        if (other !== '') this.tellOther(name, isNamed, other);
+        if (fault !== '') this.fault(fault);
+        missing.forEach(text => this.job.say(text));
+        if (missing.length > 0) this.status = Math.max(this.status, 1);
+        return files;
+    }
+
+    /** A cue sheet itself, if the DAT lists it by its name or by its bytes. */
+    sheetOf({ wanted }: Unit) {
+        const bytes = this.known === null ? null : this.collection.bytesOfSheet(wanted);
+        if (bytes === null || this.known === null) return [];
+        const hash = new RunningHashes(this.needs);
+        hash.update(bytes);
+        const { name, state } = wanted;
+        const file = { name, size: bytes.length, changed: state ? state.changed : '', hashes: hash.digest() };
+        const isListed = this.known.sheets.has(basename(name)) || this.known.dumpOf(file.size, file.hashes) !== null;
+        return isListed ? [otherSummary(file, 'cue', SHEET)] : [];
+    }
+
+    /** The lines of those files that were not reported before, by their names in the list. */
+    linesOf(files: FileSummary[]): Map<string, Uint8Array> {
+        const fresh = files.filter(({ name }) => !this.told.has(this.collection.realOf(name)))
+            .map(it => summaryByDat(it, this.known, basename(it.name)));
+        fresh.forEach(({ name }) => this.told.add(this.collection.realOf(name)));
+        this.status = Math.max(this.status, ...fresh.map(({ verdict }) => verdict.status));
+        const unlisted = fresh.filter(({ name }) => !this.done.has(listedName(name)));
+        unlisted.forEach(it => this.count(it));
+        return new Map(unlisted.map(it => [listedName(it.name), this.lineOf(it)]));
+    }
+
+    lineOf(file: FileSummary) {
+        if (this.job.options.json) return jsonLine(fileObject(file, this.known));
+        return bytesOfLines([listedColumns(file, this.known, basename(file.name), sentenceOf).join('\t')]);
+    }
+
+    /**
+     * Counts a file that a DAT may know. A file that is not an image is counted as unknown only if a dump has its size, or its name and it
+     * is a cue sheet.
+     * @param isThere whether it still exists
+     */
+    count({ name, size, hashes, kinds }: Counted, isThere: boolean = true) {
+        if (this.known === null || this.verdicts === null || this.games === null) return;
+        const own = basename(name);
+        const isExpected = !kinds.startsWith(NO_IMAGE) || this.known.hasSize(size) || this.known.sheets.has(own);
+        this.verdicts.add(this.known.find(size, hashes, own), isExpected);
+        if (isThere) this.games.add(size, hashes);
+    }
+
+    /** Reports a file that is not part of a disc: at once if it was given by its name, or else at the end. */
+    tellOther(name: string, isNamed: boolean, what: string) {
+        if (isNamed) this.fault(`${name} is ${what}`);
+        else this.others.push({ name, what });
+    }
+
+    /**
+     * Whether a file has been reported: it is in the list, or it was examined as a file of a sheet; or all files that a sheet names are in
+     * the list, which then count as reported, as in a run that was not interrupted.
+     */
+    isTold({ wanted: { name, real }, named, isWhole }: Unit) {
+        const own = listedName(name);
+        if ((this.done.has(own) && !this.doneSheets.has(own)) || this.told.has(real)) return true;
+        if (named.length === 0 || !isWhole || !named.every(it => this.done.has(listedName(it)))) return false;
+        named.forEach(it => this.told.add(this.collection.realOf(it)));
+        return true;
+    }
+}
+
+/** The files to examine, and those that sheets among them name, by their names in a list, with their states, as far as they are known. */
+function statesOf(units: Unit[]) {
+    const states: Map<string, FileState | null> = new Map(units.flatMap(it => it.named).map(name => [listedName(name), null]));
+    units.forEach(({ wanted: { name, state } }) => states.set(listedName(name), state));
+    return states;
+}
+
+/** How many files can be examined at once: sheets that name the same file wait for each other. */
+function atOnce(collection: Collection, units: Unit[]) {
+    return new Set(units.map(({ wanted: { real }, named }) => named.length > 0 ? collection.realOf(named[0]) : real)).size;
+}
+
+export async function scanJob(job: Job) {
+    const known = await job.knownDumps();
+    const list = await resumedList(job);
+    const scan = new Scan(job, list || await job.target(), known);
+    await scan.collection.addPaths(job.names);
+    const units = unitsOf(scan.collection);
+    const scanners = new Scanners(Math.min(cpus().length || 1, atOnce(scan.collection, units)));
+    try {
+        if (list) goOn(scan, list, units, await list.bringUpToDate(statesOf(units), scan.needs, known));
+        else scan.order = new LinesInOrder(units);
+        await scanAll(scan, units, scanners);
+        if (list) await list.sort();
+    } finally {
+        scanners.close();
+        if (list) await list.close();
+    }
+    sayOthers(job, scan.others);
+    if (scan.verdicts === null || scan.games === null) return scan.status;
+    if (known && known.games.length > 0) await tellGames(job, scan.games, scan.target);
+    job.say(scan.verdicts.text());
+    return Math.max(scan.status, scan.verdicts.status);
+}
+
+/** Reports which games are whole. */
+async function tellGames(job: Job, games: Games, target: Target) {
+    const { json, missing = false } = job.options;
+    const found = games.found();
+    if (json) await target.write(jsonLine(gamesObject(found, missing)));
+    else gameLines(found, missing).forEach(line => job.say(line));
+}
+
+/**
+ * Continues a list, and reports its contents as a run that was not interrupted: the verdict of the DAT on each line, and the files that
+ * were given by their names and are not images.
+ * @param changed how many lines the DAT has changed
+ */
+function goOn(scan: Scan, list: ResumedList, units: Unit[], changed: number) {
+    const lines = [...list.lines.values()];
+    const absent = lines.filter(({ isThere }) => !isThere).length;
+    const [files, theirs] =
+        absent === 1 ? ['1 file no longer exists', 'its line is'] : [`${absent} files no longer exist`, 'their lines are'];
+    if (absent > 0) scan.job.say(`${list.name}: ${files}, but ${theirs} kept`);
+    if (changed > 0) {
+        const rows = changed === 1 ? '1 line' : `${changed} lines`;
+        scan.job.say(`${list.name}: the seventh column was updated from the DAT; ${rows} changed`);
+    }
+    scan.done = new Set(lines.map(({ listed }) => listed));
+    scan.doneSheets = new Set(lines.flatMap(({ listed, kinds }) => kinds === NO_IMAGE + SHEET ? [listed] : []));
+    if (lines.some(({ hasFindings }) => hasFindings)) scan.status = Math.max(scan.status, 1);
+    for (const line of lines) if (line.isLookedUp) scan.count(line, line.isThere);
+    const named = new Set(units.flatMap(({ wanted: { name, isNamed } }) => isNamed ? [name] : []));
+    for (const { name, kinds } of lines) {
+        const isOther = kinds.startsWith(NO_IMAGE) && kinds !== NO_IMAGE + SHEET;
+        if (isOther && named.has(name)) scan.tellOther(name, true, kinds.slice(NO_IMAGE.length));
+    }
+}
+
+/** Reports the number of files that are not raw images, and lists those that are named like one, for example an empty or damaged image. */
+function sayOthers(job: Job, others: { name: string, what: string }[]) {
+    if (others.length === 0) return;
+    job.say(others.length === 1 ? '1 file is not a raw image' : `${others.length} files are not raw images`);
+    const alike = others.filter(({ name }) => /\.(bin|img)$/i.test(name));
+    const lines = alike.map(({ name, what }) => `${name} has the extension of a raw image, but is ${what}`);
+    for (const line of lines.sort()) job.say(line);
+}
+
+/** Yields units with their answers, in order. Of the units that follow, only some are begun. */
+async function* answered(units: Unit[], begin: (unit: Unit) => Promise<Answer | null>) {
+    const begun: Promise<Answer | null>[] = [];
+    for (const [i, unit] of units.entries()) {
+        while (begun.length < AHEAD && i + begun.length < units.length) begun.push(begin(units[i + begun.length]));
+        const answer = await begun.shift();
+        yield { unit, answer: answer || null };
+    }
+}
+
+/**
+ * Examines all files, each once: a sheet waits for those before it that name the same files. A file that cue sheets name is examined by
+ * itself if they have left it out.
+ */
+async function scanAll(scan: Scan, units: Unit[], scanners: Scanners) {
+    const realOf = (name: string) => scan.collection.realOf(name);
+    const examined = new Set<string>();
+    const last = new Map<string, Promise<Answer | null>>();
+    const examine = async ({ wanted: { name }, named }: Unit) => {
+        await Promise.all(named.map(it => last.get(realOf(it))));
+        const done = named.filter(it => examined.has(realOf(it)));
+        const answer = await scanners.scan({ name, needs: scan.needs, done });
+        answer.files.forEach(it => examined.add(realOf(it.name)));
+        return answer;
+    };
+    const begin = (unit: Unit) => {
+        const answer = scan.isTold(unit) ? Promise.resolve(null) : examine(unit);
+        answer.catch(() => {}); // it is thrown when its turn comes
+        unit.named.forEach(it => last.set(realOf(it), answer));
+        return answer;
+    };
+    const takeAll = async (some: Unit[]) => {
+        for await (const { unit, answer } of answered(some, begin)) {
+            await scan.take(unit, answer);
+            unit.files.forEach(it => void (it.sheets -= 1));
+            await takeAll(unit.files.filter(it => it.sheets === 0));
+        }
+    };
+    await takeAll(units.filter(it => it.sheets === 0));
+}

@@ -1,3 +1,0 @@
-// What interfaces may import from this layer besides tasks: volumes that they open, show, or name. Procedures are in tasks.
-
-export { filesAt, filesLines } from './files.js';

@@ -1,0 +1,3 @@
+// What interfaces may import from this layer.
+
+export { readerForTwo, pieceReader, sliceOf, watchedReader } from './readers.js';

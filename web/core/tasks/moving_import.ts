@@ -1,0 +1,278 @@
+// Imports lists whose texts may be longer than their room: texts with pointers move, and the pointers lead to their new places.
+
+import { fillerOf } from '../encodings/index.js';
+import { Fault, failedBy, remark, type Remark } from '../faults.js';
+import { layOut, type ListedTable, type Span } from '../pointers/index.js';
+import { ScriptParts, type Script, type UserRange } from '../script/index.js';
+import { sortedInTurns } from '../turns.js';
+import {
+    encodingsOfRows, fittedLists, placeInImage, type ClaimRow, type FittedLists, type LeftRow, type ListPlace,
+} from './list_fitting.js';
+import { claimByScript, rangeOfRow } from './list_patched.js';
+import type { ListRow } from './list_rows.js';
+import type { ImportOptions } from './list_tables.js';
+import { OrderedTexts, laidInOrder } from './moving_order.js';
+import { openPointedFiles, type PointedFile, type PointedFiles } from './moving_pointers.js';
+import { FreshFiles, checkMoved, pushFreshFiles, type FileLayout } from './moving_script.js';
+import { MovedTexts, type MovedText, type PointedRow } from './moving_texts.js';
+import type { Engine, OpenedTrack, Watch } from './opened.js';
+import { assertHasRoom, replaceBytes, sharingWith, type VolumeNames } from './replace.js';
+import { fittingScript } from './scripts.js';
+
+type MovedRemark = Remark<'pointers/moved' | 'pointers/few' | 'replace/shared-blocks'>;
+/** An import with tables of pointers; `isKept` selects rows that stay in place. */
+type MovingOptions = Omit<ImportOptions, 'isAlso'> & { tables: ListedTable[], isKept: (row: ListRow) => boolean };
+/**
+ * The rows as in other imports, the finished script, and remarks: on each text that has moved, on those with fewer pointers than the texts
+ * beside them, and on other files that change too. `longer` is how many texts fit only because texts have moved.
+ */
+export type MovingImport = FittedLists & { script: Script | null, moved: MovedRemark[], few: MovedRemark[], sharing: MovedRemark[],
+    longer: number };
+
+/** Whether the new text of a row fits in its place. */
+function hasRoom({ fresh, room }: PointedRow) {
+    return fresh.length <= room;
+}
+
+/** A function that replaces the reason why a text does not fit if its place has no room. */
+function insteadOfNoRoom(whyOf: (why: LeftRow['why']) => LeftRow['why']): (why: LeftRow['why']) => LeftRow['why'] {
+    return why => why.code === 'replace/no-room' ? whyOf(why) : why;
+}
+
+/** Why a new text cannot have the size of the old one. */
+function whyNotSized({ fresh, known, encoding }: PointedRow, fill: ImportOptions['fill'] = null) {
+    const filler = fillerOf(encoding, fill);
+    const missing = known - fresh.length;
+    return missing > 0 && filler !== null ? remark('replace/filler', { missing, filler })
+        : remark('replace/no-room', { name: encoding.name, size: fresh.length, room: known });
+}
+
+/** The import of lists into a track, whose texts may move. */
+class MovingRows {
+    parts = new ScriptParts();
+    fresh = new FreshFiles();
+    /** The rows that may move. */
+    rows: Map<PointedFile, PointedRow[]>;
+    /** What rows in place replace in these files. */
+    inPlace: { file: PointedFile, first: number, after: number }[] = [];
+    layouts: (FileLayout & { texts: { end: number } })[] = [];
+    left: LeftRow[] = [];
+    /** Rows in these files whose texts are those of an earlier script, and stay in place. */
+    kept: ListRow[] = [];
+    remarks: Pick<MovingImport, 'moved' | 'few' | 'sharing'> = { moved: [], few: [], sharing: [] };
+
+    constructor(readonly engine: Engine, readonly opened: OpenedTrack, readonly files: PointedFiles, readonly options: MovingOptions,
+        readonly watch: Watch) {
+        this.rows = new Map(files.files.map(file => [file, []]));
+    }
+
+    /** The image as the place of rows. `mayMove` says whether rows that may move are only collected. */
+    async place(mayMove: boolean) {
+        const { part } = await this.opened.contents();
+        const { engine: { calls }, options: { fill } } = this;
+        const claim = mayMove ? this.claimByScript() : () => 0;
+        return placeInImage(part, fill, async (row, window, old, bytes) => {
+            const lines = await replaceBytes(calls, window, row, old, bytes, true);
+            const spot = this.files.spotOf(row);
+            if (spot === null) return this.parts.push(lines);
+            const { file, at } = spot;
+            this.fresh.of(file).bytes.set(bytes, at);
+            return this.inPlace.push({ file, first: at, after: at + old.length });
+        }, async (row, found, bytes) => {
+            const { known, room, size, encoding } = found;
+            const claimed = await claim(row, found, bytes);
+            const spot = this.files.spotOf(row);
+            if (spot === null || claimed > 0) return claimed;
+            const { file, at } = spot;
+            const used = Math.max(known, Math.min(bytes.length, room), size);
+            if (file.hasPointer(at, at + used)) throw new Fault('pointers/overlap', {});
+            if (mayMove && file.leading.length > 0) {
+                this.rows.get(file)?.push({ row, at, known, room, fresh: bytes, encoding });
+                return used;
+            }
+            // The room of a text ends before the next place to which a pointer leads.
+            const [next] = file.leadingTo(at + known, at + used);
+            if (next !== undefined) assertHasRoom(encoding, bytes, Math.max(known, next.target - at - 1));
+            return 0;
+        });
+    }
+
+    /** The function that decides on rows by the lines of an earlier script, except for rows that are partly pointers. */
+    claimByScript(): ClaimRow {
+        const { earlier } = this.options;
+        if (earlier === undefined) return () => 0;
+        const claim = claimByScript(earlier);
+        return async (row, found, bytes) => {
+            const spot = this.files.spotOf(row);
+            if (spot?.file.hasPointer(spot.at, spot.at + rangeOfRow(row, found).size)) return 0;
+            const claimed = await claim(row, found, bytes);
+            if (claimed > 0 && spot !== null) this.kept.push(row);
+            return claimed;
+        };
+    }
+
+    /**
+     * Fits a row in place, or leaves it out.
+     * @param whyOf turns the reason why it does not fit into the one that is reported
+     */
+    async fitInPlace(place: ListPlace, { row }: PointedRow, whyOf: (why: LeftRow['why']) => LeftRow['why']) {
+        try {
+            await place.fit(row, encodingsOfRows(this.options)(row.encoding), this.watch.signal);
+        } catch (error) {
+            if (!(error instanceof Fault) || failedBy(error, 'cancelled')) throw error;
+            this.left.push({ text: row, why: whyOf(remark(error.code, error.facts)) });
+        }
+    }
+
+    /** Where rows without a new text are in each file. */
+    placesOfOthers(others: ListRow[]) {
+        const places: Map<PointedFile, number[]> = new Map(this.files.files.map(file => [file, []]));
+        for (const row of others) {
+            const spot = row.block < 0 ? null : this.files.spotOf(row);
+            if (spot !== null) places.get(spot.file)?.push(spot.at);
+        }
+        return places;
+    }
+
+    /** Lays out the texts of a file if some do not fit in place. `firsts` are the places of rows without a new text. */
+    async layOutFile(file: PointedFile, firsts: number[]) {
+        const rows = await sortedInTurns(this.rows.get(file) || [], ({ at }) => at, this.watch.signal);
+        const place = await this.place(false);
+        if (rows.every(hasRoom)) {
+            for (const text of rows) await this.fitInPlace(place, text, why => why);
+            return;
+        }
+        const free = await this.freeEnd(file);
+        const ordered = await this.layOutInOrder(place, file, rows, firsts, free);
+        const mixed = rows.filter(({ at }) => !ordered.inBlocks.has(at));
+        if (mixed.length === 0) return;
+        const texts = new MovedTexts(file, mixed, { firsts: [...firsts, ...ordered.inBlocks], isKept: this.options.isKept });
+        await texts.sort(this.watch.signal);
+        for (const { text, reason } of texts.staying) {
+            await this.fitInPlace(place, text, insteadOfNoRoom(why => remark('pointers/stays', { reason, why })));
+        }
+        const layout = await layOut(texts.movable, ordered.hasGrown ? { ...free, after: free.first } : free, this.watch.signal);
+        if (layout.missing === 0) this.layouts.push({ file, texts, layout });
+        else await this.leaveInPlace(place, file, texts.movable, layout.missing);
+    }
+
+    /** Fits texts in place that have no room where they could move. `missing` is how many bytes of room are missing. */
+    async leaveInPlace(place: ListPlace, { path }: PointedFile, texts: MovedText[], missing: number) {
+        const whyOf = insteadOfNoRoom(() => remark('pointers/no-room', { path, missing }));
+        for (const text of texts.flatMap(({ rows }) => rows)) await this.fitInPlace(place, text, whyOf);
+    }
+
+    /**
+     * Lays out the texts of blocks with an order. Returns the places of their rows, and whether one of them uses the free end of the file.
+     * @param firsts the places of rows without a new text
+     */
+    async layOutInOrder(place: ListPlace, file: PointedFile, rows: PointedRow[], firsts: number[], free: Span) {
+        const { isKept, fill } = this.options;
+        const spots = this.kept.flatMap(row => this.files.spotOf(row) ?? []);
+        const kept = new Set(spots.filter(spot => spot.file === file).map(({ at }) => at));
+        const texts = new OrderedTexts(file, rows, { firsts, kept, isKept, fill });
+        const { end, inBlocks, segments, staying } = texts;
+        await texts.read(this.watch.signal);
+        let hasGrown = false;
+        for (const { pieces, limit, isLast, areAddresses: areOfAddresses } of segments) {
+            const own = pieces.flatMap(it => it.rows);
+            const { missing, end: after, ...layout } = laidInOrder(pieces, isLast ? free.after : limit);
+            if (own.every(hasRoom)) {
+                for (const text of own) await this.fitInPlace(place, text, why => why);
+            } else if (missing === 0) {
+                hasGrown = hasGrown || after > file.size;
+                this.layouts.push({ file, texts: { movable: pieces, end }, layout: { ...layout, end: after > file.size ? after : 0 } });
+            } else if (areOfAddresses) {
+                own.forEach(({ at }) => inBlocks.delete(at));
+            } else {
+                await this.leaveInPlace(place, file, pieces, missing);
+            }
+        }
+        for (const { text, reason } of staying) {
+            const stays = (why: LeftRow['why']) => remark('pointers/stays', { reason, why });
+            if (reason === 'length') this.left.push({ text: text.row, why: stays(whyNotSized(text, fill)) });
+            else await this.fitInPlace(place, text, insteadOfNoRoom(stays));
+        }
+        return { inBlocks, hasGrown };
+    }
+
+    /** The free end of the last sector of a file: empty if its length cannot change, or if the sector has other data there. */
+    async freeEnd({ file, bytes, size }: PointedFile) {
+        const { volume } = await this.opened.contents();
+        const free = { first: size, after: bytes.length };
+        if (volume === null || bytes.subarray(size).some(it => it !== 0)) return { ...free, after: size };
+        try {
+            sharingWith(file, volume, false);
+            return free;
+        } catch (error) {
+            if (!(error instanceof Fault)) throw error;
+            return { ...free, after: size };
+        }
+    }
+
+    /** How many of the texts that were laid out have more bytes than their room. */
+    get longer() {
+        const rows = this.layouts.flatMap(({ texts: { movable } }) => movable.flatMap(it => it.rows));
+        return rows.filter(it => !hasRoom(it)).length;
+    }
+
+    /** Writes the layouts, and reports what has moved. */
+    async write() {
+        const { volume, part } = await this.opened.contents();
+        const { signal } = this.watch;
+        for (const { file, texts, layout } of this.layouts) {
+            await this.fresh.write(file, layout, texts.end, signal);
+            this.report(file, texts.movable, layout.places);
+        }
+        if (volume === null) return;
+        this.reportSharing(volume);
+        const { earlier } = this.options;
+        const isKept = earlier && ((range: UserRange) => earlier.lines.hasStaying(range));
+        await pushFreshFiles(this.engine.calls, part, { names: volume, isKept }, this.fresh, this.parts, signal);
+    }
+
+    reportSharing(names: VolumeNames) {
+        for (const [{ file, size }, fresh] of this.fresh.files) {
+            const sharing = sharingWith(file, names, fresh.size === size);
+            this.remarks.sharing.push(...sharing.map(other => remark('replace/shared-blocks', { path: file.path, other })));
+        }
+    }
+
+    /**
+     * Reports the rows whose texts have moved, and those with fewer pointers than the texts beside them.
+     * @param texts in order
+     */
+    report({ path }: PointedFile, texts: MovedText[], places: Map<MovedText, number>) {
+        for (const [i, text] of texts.entries()) {
+            const { first, rows: [own], pointers: { length: pointers } } = text;
+            const to = places.get(text) ?? first;
+            if (to === first || own === undefined) continue;
+            this.remarks.moved.push(remark('pointers/moved', { text: own.row, path, from: first, to, pointers }));
+            const [before, after] = [texts[i - 1], texts[i + 1]].map(it => it === undefined ? Infinity : it.pointers.length);
+            const beside = Math.min(before, after);
+            if (pointers >= beside || beside === Infinity) continue;
+            this.remarks.few.push(remark('pointers/few', { text: own.row, pointers, beside }));
+        }
+    }
+}
+
+/**
+ * Creates the script of lists with new texts, which may be longer than their room if pointers lead to them. Before it is returned, it is
+ * applied in memory, and all pointers and texts are read again. Throws a Fault if the lists cannot be read, if the tables are not those of
+ * the disc, if the result is not as it should be, or `cancelled`.
+ * @param watch receives the number of rows
+ */
+export async function importMoving(engine: Engine, opened: OpenedTrack, options: MovingOptions, watch: Watch = {}): Promise<MovingImport> {
+    const { lists, tables, partial, encodings, isAsked } = options;
+    const files = await openPointedFiles(opened, tables, watch.signal);
+    const moving = new MovingRows(engine, opened, files, options, watch);
+    const fitted = await fittedLists(lists, await moving.place(true), { encodings, isAsked, isAlso: () => true }, watch);
+    if (fitted.count === 0 && fitted.fuzzy === 0) throw new Fault('list/no-new-text', {});
+    for (const [file, firsts] of moving.placesOfOthers([...fitted.others, ...moving.kept])) await moving.layOutFile(file, firsts);
+    await moving.write();
+    const left = [...fitted.left, ...moving.left];
+    const { image } = await opened.contents();
+    const script = partial || left.length === 0 ? await fittingScript(engine.calls, image, moving.parts) : null;
+    if (script !== null) await checkMoved(engine.calls, opened, script, moving, watch.signal);
+    return { ...fitted, left, script, longer: moving.longer, ...moving.remarks };
+}

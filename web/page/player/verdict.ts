@@ -1,0 +1,191 @@
+// Judges a player's image for a patcher: the right disc, another dump that the patch matches or does not match, an image that is already
+// patched, or one that cannot be judged by the patch.
+
+import { sheetOf, type Disc, type DiscImage } from '../../core/disc/views.js';
+import { Fault } from '../../core/faults.js';
+import { RESULT, SECTOR_SIZE } from '../../core/module/index.js';
+import { oldBytesOf, wordsOn } from '../../core/script/views.js';
+import {
+    CollectedSurvey, foundInFile, openTrack, shiftInFile, surveyedWith, verdictOf, type Finding, type OpenedTrack,
+} from '../../core/tasks/index.js';
+import { sha1Of, type App } from '../app/index.js';
+import { isPatched, tryWork, type PatchWork } from '../save/index.js';
+import { format, playerTexts as texts } from '../texts/index.js';
+import { element, verdictLine } from '../ui/index.js';
+import type { PatcherData } from './patcher.js';
+
+// The verdict on a player's image in words, with its reasons.
+
+/** For each verdict, its tone, and the key of its text. */
+const VERDICTS = {
+    right: ['good', 'playerRightDisc'],
+    fits: ['warn', 'playerOtherDumpFits'],
+    unknown: ['warn', 'playerCannotTell'],
+    other: ['bad', 'playerOtherDumpFitsNot'],
+    damaged: ['bad', 'playerDumpDamaged'],
+    patched: ['good', 'playerImageIsPatched'],
+    changed: ['warn', 'playerPlacesHoldNewBytes'],
+} as const;
+
+/** For each result, the keys of why places refuse their patch, and of what that suggests. */
+const VERDICT_REASONS = [
+    [RESULT.DIFFERS, 'playerHoldOtherBytes', 'playerOtherReleaseProbably'],
+    [RESULT.DAMAGED, 'playerAreDamaged', 'playerTryAnotherDump'],
+    [RESULT.NOT_MODE1, 'playerHoldNoData', 'playerOtherTrackOrDisc'],
+    [RESULT.NO_BLOCK, 'playerNotInThisImage', 'playerOtherTrackOrCut'],
+] as const;
+
+/** For each finding that may stop the game, the key of its text. */
+const DAMAGE = {
+    damaged: 'playerSectorsOfImageDamaged',
+    lost: 'playerSectorsLost',
+    gap: 'playerSectorsMissing',
+    short: 'playerFileProbablyCut',
+    cut: 'playerFileProbablyCut',
+} as const;
+
+/**
+ * A verdict as a paragraph, and its tone.
+ * @param id if it is a status for screen readers
+ */
+export function verdictWords(verdict: Verdict, id: string | null = null) {
+    const [tone, key] = VERDICTS[verdict];
+    return { tone, words: verdictLine(tone, texts[key], id) };
+}
+
+/**
+ * Why a patch does not match.
+ * @param refused the results of the refused ones
+ * @param advices the advice for each result, in place of the one for players
+ */
+export function reasonsOf(patches: number, refused: number[], advices: Record<number, string> = {}) {
+    const places = format(texts.playerPlacesOfPatch, { n: patches });
+    return VERDICT_REASONS.flatMap(([result, words, advice]) => {
+        const count = refused.filter(it => it === result).length;
+        return count === 0 ? [] : [`${format(texts[words], { n: count, places })} ${advices[result] ?? texts[advice]}`.trimEnd()];
+    });
+}
+
+/**
+ * Why the patch does not match a player's image. An image with an older version of the patch has the same size and kinds of sectors.
+ * @param size of the image
+ * @param wanted the size of the author's
+ */
+export function refusalForPlayer({ patches, refused }: Pick<Judged, 'patches' | 'refused'>, size: number, wanted: number) {
+    const isOlder = size === wanted && refused.every(it => it === RESULT.DIFFERS);
+    return [...reasonsOf(patches, refused), ...isOlder ? [texts.playerOlderPatchPerhaps] : []];
+}
+
+/** How many of the places that could be compared match in an unknown image: all of them, or it would be a different one. */
+function comparedWords({ patches, without }: Pick<Judged, 'patches' | 'without'>) {
+    if (without === 0) return format(texts.playerPlacesMatchRestUnknown, { n: patches });
+    const places = format(texts.playerPlacesOfPatch, { n: patches });
+    const match = without === patches ? '' : `${format(texts.playerSomePlacesMatch, { n: patches - without, places })} `;
+    return `${match}${format(texts.playerNamesNoOldBytes, { n: without, changes: format(texts.playerPatchCount, { n: patches }) })}`;
+}
+
+/** What is damaged, lost, or missing in an image, and what that means for the game. */
+export function damageWords(findings: Judged['findings']): string[] {
+    const words = findings.flatMap(({ code, count }) => {
+        const key = (DAMAGE as Partial<Record<string, typeof DAMAGE[keyof typeof DAMAGE]>>)[code];
+        return key === undefined ? [] : [format(texts[key], { n: count })];
+    });
+    return words.length === 0 ? [] : [...words, texts.playerGameMayStopThere];
+}
+
+/** Whether the image has music, according to the author's cue sheet. */
+function hasMusic({ cue, name }: Pick<PatcherData, 'cue' | 'name'>) {
+    if (cue === '') return false;
+    const { files, points } = sheetOf(cue);
+    return points.some(({ track: { type }, file }) => type === 'AUDIO' && files[file].name === name);
+}
+
+/**
+ * The text under the verdict on an image that is neither refused nor recognised by its SHA-1.
+ * @param size of the image
+ * @param data the author's image and cue sheet
+ */
+export function reasonForPlayer({ findings, ...judged }: Judged, size: number, data: Pick<PatcherData, 'image' | 'cue' | 'name'>) {
+    const { verdict, patches } = judged;
+    const { size: wanted } = data.image;
+    const cut = size < wanted ? [texts.playerFileProbablyCut] : [];
+    const sizes = size === wanted ? [] : [format(texts.playerSizesDiffer, { n: size, wanted }), ...cut];
+    const isShifted = findings.length === 0 && hasMusic(data);
+    const reasons: Record<string, string[]> = {
+        fits: [format(texts.playerPlacesMatch, { n: patches }), isShifted ? texts.playerMusicShiftedPerhaps : texts.playerRestDiffers,
+            ...damageWords(findings)],
+        unknown: [comparedWords(judged), ...sizes, ...damageWords(findings)],
+        changed: [texts.playerNotAuthorsResult, ...sizes],
+    };
+    return reasons[verdict] ? element('p', {}, [...new Set(reasons[verdict])].join(' ')) : null;
+}
+
+/**
+ * Only the SHA-1 decides `right` and `patched`. Any other image `fits` if it is as long as the author's and all patches name their old
+ * bytes, which match; if it is of a different size, or some patches name none, it is `unknown`. In one that is `changed`, all places
+ * already have their new bytes.
+ */
+type Verdict = 'right' | 'fits' | 'unknown' | 'other' | 'damaged' | 'patched' | 'changed';
+/**
+ * A verdict; the SHA-1 of the image, '' if it was not needed; how many patches there are, and how many of them are `without` old bytes; the
+ * results of the `refused` ones, and the program's `words` for the first of them; the `findings` of the survey of an image that fits or is
+ * unknown, which are those of all interfaces; and the `work` to be done.
+ */
+export type Judged = { verdict: Verdict, sha1: string, patches: number, without: number, refused: number[], words: string,
+    findings: Finding[], work: PatchWork };
+type JudgeWatch = { signal: { aborted: boolean }, progress: (done: number, all: number) => void };
+
+/** The data track whose image has the given size, or the first data track. Throws a Fault for a music track. */
+export function trackOfSize(disc: Disc, size: number) {
+    const [file] = disc.files;
+    if (disc.sheet === null && disc.tracks[0].image === null) {
+        throw new Fault('disc/own', { sentence: format(texts.playerIsMusicTrack, { name: file.name }) });
+    }
+    const track = disc.tracks.find(it => it.image !== null && it.image.reader.size === size);
+    return openTrack(disc, { track: track && track.number });
+}
+
+/**
+ * Judges the image of a track. The patches are tried first, reading only their sectors, so that a mismatch is reported at once; then it is
+ * hashed.
+ */
+export async function judgeImage(app: App, data: PatcherData, opened: OpenedTrack, watch: JudgeWatch): Promise<Judged> {
+    const { image } = opened;
+    const { reader } = image;
+    const hash = () => sha1Of(app.parts, reader, watch.signal, done => watch.progress(done, reader.size));
+    const early = addressedBase(image, data.base) === data.base ? '' : await hash();
+    const base = [data.image.sha1, data.result].includes(early) ? data.base : addressedBase(image, data.base);
+    const work = { reader, base, script: data.script, carry: data.carry };
+    const { outcomes } = await tryWork(app, work, { signal: watch.signal });
+    const refused = outcomes.filter(it => it.result !== RESULT.OK);
+    const words = refused.length === 0 ? '' : wordsOn(app.calls.outcomeLine(1, refused[0].result, refused[0].block, refused[0].offset), 1);
+    const { without } = oldBytesOf(app.calls, data.script);
+    const judged = { sha1: '', patches: outcomes.length, without, refused: refused.map(it => it.result), words, findings: [], work };
+    const areDamaged = judged.refused.every(it => it === RESULT.DAMAGED);
+    if (refused.length > 0 && !await isPatched(app, work)) return { ...judged, verdict: areDamaged ? 'damaged' : 'other' };
+    const sha1 = early || await hash();
+    if (sha1 === data.image.sha1) return { ...judged, sha1, verdict: 'right' };
+    if (sha1 === data.result) return { ...judged, sha1, verdict: 'patched' };
+    if (refused.length > 0 || await isPatched(app, work)) return { ...judged, sha1, verdict: 'changed' };
+    const { findings } = await surveyVerdict(app, opened, watch);
+    return { ...judged, sha1, findings, verdict: without === 0 && reader.size === data.image.size ? 'fits' : 'unknown' };
+}
+
+/** The verdict on the survey of an image. */
+async function surveyVerdict({ pool }: App, opened: OpenedTrack, { signal, progress }: JudgeWatch) {
+    const { reader, base, tail } = opened.image;
+    const tracks = surveyedWith(opened);
+    const survey = new CollectedSurvey(base);
+    for (const track of tracks) {
+        const counting = (done: number) => progress(Math.min((track.before + done) * SECTOR_SIZE, reader.size), reader.size);
+        const how = { shift: shiftInFile(track, base), mode2: true };
+        const watch = { base: base + track.before, signal, progress: counting };
+        await pool.share('survey', [track.image.reader], how, watch, range => survey.add(range));
+    }
+    return verdictOf({ surveys: await foundInFile(tracks, survey.whole()), tail });
+}
+
+/** The base given by the addresses of an image, or the base of the author's if they give none. */
+function addressedBase({ addressed, base }: DiscImage, other: number) {
+    return addressed === null || addressed < 0 ? other : base;
+}

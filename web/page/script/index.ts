@@ -1,0 +1,4 @@
+// The panel Script.
+
+export { fitOf, fitWords, namingOld, type Fit } from './check_card.js';
+export { ScriptPanel } from './panel.js';

@@ -1,4 +1,0 @@
-// The panel Text.
-
-export { bindEncodings, chosenEncoding, columnLabel, encodingLabel, signOf } from './encodings.js';
-export { TextPanel } from './panel.js';

@@ -1,0 +1,4 @@
+// The panel Text.
+
+export { bindEncodings, chosenEncoding, columnLabel, encodingLabel, signOf } from './search.js';
+export { TextPanel } from './panel.js';
