@@ -18,6 +18,8 @@ from collections.abc import Callable
 from pathlib import Path
 from typing import Any, TypeVar
 
+import pytest
+
 TOP = Path(__file__).resolve().parent.parent.parent
 sys.path[:0] = [str(TOP / 'tests' / name) for name in ('model', 'lib')]
 from sector import SYNC, address_of, sector_with, NO_DEFECT  # noqa: E402
@@ -30,6 +32,9 @@ USER_SIZE = 2048
 PATIENCE = float(os.environ.get('PATIENCE', '60'))
 
 Test = TypeVar('Test', bound=Callable[..., None])
+
+# `make check` runs only the tests with this mark: of each panel, job, and kind of user one from start to end. The gate runs all.
+in_check = pytest.mark.in_check
 
 
 def waited(ask: Callable[[], Any], what: str, seconds: float = PATIENCE) -> Any:

@@ -2,8 +2,10 @@
 
 import base64
 import json
+import time
 import unittest
 import zlib
+from collections.abc import Callable
 from pathlib import Path
 from typing import Any
 
@@ -232,6 +234,17 @@ class PageTest(unittest.TestCase):
         """Waits until no matching element is visible."""
         hidden = '[...document.querySelectorAll(given[0])].every(it => !it.checkVisibility())'
         self.assertTrue(self.browser.awaited(hidden, css), f'{css} stays')
+
+    def sees(self, expected: Any, ask: Callable[[], Any] | str) -> None:
+        """Waits until `ask`, or a script in the browser, returns this: what an action changes may be drawn later."""
+        look = (lambda: self.browser.run(ask)) if isinstance(ask, str) else ask
+        found = look()
+        for _ in range(int(10 * common.PATIENCE)):
+            if found == expected:
+                return
+            time.sleep(0.1)
+            found = look()
+        self.assertEqual(found, expected)
 
     def wait_for_focus(self, css: str) -> None:
         self.assertTrue(self.browser.awaited('document.activeElement.matches(given[0])', css), f'{css} has no focus')

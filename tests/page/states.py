@@ -88,6 +88,7 @@ class States(PageTest):
 
     # ---- the first screen
 
+    @common.in_check
     def to_start(self) -> None:
         """Three jobs, and below them the place to drop files."""
 
@@ -121,6 +122,7 @@ class States(PageTest):
         path.write_text(dat_of((NAME, discs.game(), '')))
         return path
 
+    @common.in_check
     def to_list(self) -> None:
         """Several images at once: what was found in each."""
         files = self.place(game=discs.game(), scratched=discs.scratched(), video=discs.mode2(60), music=bytes(range(7, 249)) * 2352, gone=b'no image')
@@ -129,6 +131,7 @@ class States(PageTest):
 
     # ---- a disc
 
+    @common.in_check
     def to_disc(self) -> None:
         """The example disc, completely read: the verdict, the map, and the findings."""
         self.browser.click('#open-example')
@@ -256,6 +259,7 @@ class States(PageTest):
         self.browser.wait('#second-body .say.good', 'Saved: ')
         self.browser.wait('#repaired-sha1', common.sha1(discs.game()))
 
+    @common.in_check
     def to_second_compare(self) -> None:
         """The differences of two images, by fields."""
         self.pair(discs.scratched(), discs.game(), 'Compare')
@@ -287,6 +291,7 @@ class States(PageTest):
         self.open_script(self.place(english=discs.script())['english'])
         self.browser.wait('#panel-script .side', 'Open the image')
 
+    @common.in_check
     def to_script_fits(self) -> None:
         """An image and its script were dropped together: all changes fit, and the button that saves."""
         files = self.place(game=discs.game(), english=discs.named())
@@ -365,6 +370,7 @@ class States(PageTest):
         self.begin(discs.game())
         self.browser.click('#tab-text')
 
+    @common.in_check
     def to_text_hits(self) -> None:
         """The hits of a text, one of them about to be replaced, and the bytes around it."""
         self.begin(discs.game(), discs.script())
@@ -471,6 +477,7 @@ class States(PageTest):
 
     # ---- publishing, and the page of a patcher
 
+    @common.in_check
     def to_publish(self) -> None:
         """The conditions for saving a patcher: those that are met, and those that are not."""
         files = self.place(game=discs.game(), english=discs.named())
@@ -505,6 +512,7 @@ class States(PageTest):
         """A patcher as its player finds it."""
         self.play(None)
 
+    @common.in_check
     def to_player_right(self) -> None:
         """The right disc."""
         self.play(discs.game(), 'playerRightDisc')
@@ -575,10 +583,14 @@ class States(PageTest):
         self.browser.click('#proved summary')
 
 
-def each_state(kind: type[States], judge: Callable[[Any, str], None], step: int = 1, part: str = '') -> None:
-    """Adds to a class a test for each state whose name begins with `part`, or for every `step`-th one."""
-    for name in [it for it in all_states() if it.startswith(part)][::step]:
-        setattr(kind, f'test_{name}', lambda self, name=name: judge(self, name))
+def each_state(kind: type[States], judge: Callable[[Any, str], None], part: str = '') -> None:
+    """Adds to a class a test for each state whose name begins with `part`, with the marks of that state."""
+    for name, state in all_states().items():
+        if name.startswith(part):
+            def test(self: States, name: str = name) -> None:
+                judge(self, name)
+            vars(test).update(vars(state))
+            setattr(kind, f'test_{name}', test)
 
 
 def all_states() -> dict[str, Callable[[States], None]]:

@@ -4,7 +4,7 @@ tests the rest."""
 from collections.abc import Callable
 
 import discs
-from common import waited
+from common import in_check, waited
 from keys import Keys
 from pages import BUTTON, HELD, HELD_TIMERS, UNSEEN
 from states import States
@@ -47,6 +47,7 @@ class Access(States):
                 return self.browser.press(*keys)
         raise AssertionError(f'Tab does not reach {label}')
 
+    @in_check
     def test_a_text_is_translated_by_the_keyboard_alone(self) -> None:
         self.begin(discs.game())
         self.reach('tab-disc', Keys.ARROW_RIGHT)
@@ -93,6 +94,7 @@ class Access(States):
         self.browser.press(Keys.TAB)
         self.assertEqual(self.has_focus(), 'Save repaired image…')
 
+    @in_check
     def test_a_menu_is_used_by_the_keyboard_and_gives_the_focus_back(self) -> None:
         self.to_disc_menu()
         state = 'const it = document.activeElement; return [it.dataset.menu, it.ariaExpanded, document.querySelector("#menu").hidden]'
@@ -101,14 +103,14 @@ class Access(States):
             self.browser.press(keys)
             self.assertEqual(self.has_focus().split(' Copied')[0], due)
         self.browser.press(Keys.ESCAPE)
-        self.assertEqual(self.browser.run(state), ['sector', 'false', True])
+        self.sees(['sector', 'false', True], state)
         self.browser.press(Keys.ENTER, Keys.ENTER)
-        self.assertEqual(self.browser.run(state), ['sector', 'false', True])
+        self.sees(['sector', 'false', True], state)
         self.browser.press(Keys.ENTER, Keys.TAB)
-        self.assertTrue(self.browser.run('return document.querySelector("#menu").hidden && !document.activeElement.matches("#menu *, [data-menu], body")'))
+        self.sees(True, 'return document.querySelector("#menu").hidden && !document.activeElement.matches("#menu *, [data-menu], body")')
         self.browser.click('[data-menu=sector]')
         self.browser.click('#sector-title')
-        self.assertTrue(self.browser.run('return document.querySelector("#menu").hidden'))
+        self.sees(True, 'return document.querySelector("#menu").hidden')
 
     def test_the_first_finding_and_the_field_to_find_a_text_get_the_focus(self) -> None:
         self.begin(discs.scratched())
@@ -197,7 +199,7 @@ class Access(States):
             self.browser.press(Keys.ENTER)
             self.browser.wait(':popover-open')
             self.browser.press(Keys.ESCAPE)
-            self.assertFalse(self.browser.run('return document.querySelector(":popover-open") !== null'))
+            self.sees(False, 'return document.querySelector(":popover-open") !== null')
             self.assertEqual(self.has_focus(), label)
 
     def test_a_note_has_a_button_that_closes_it(self) -> None:
@@ -206,7 +208,7 @@ class Access(States):
             for name in ('about', 'keys', 'words'):
                 self.browser.click(f'[popovertarget={name}]:not([popovertargetaction])')
                 self.browser.click(f'#{name} .shut')
-                self.assertFalse(self.browser.run('return document.querySelector(":popover-open") !== null'), f'{name} at {width}')
+                self.sees(False, 'return document.querySelector(":popover-open") !== null')
 
     def test_a_finger_beside_a_note_closes_it_and_presses_nothing(self) -> None:
         browser = self.browser

@@ -69,12 +69,14 @@ def least(colours: dict[str, tuple[str, str]], name: str, grounds: list[str], sc
 
 
 class Colours(PageTest):
+    @common.in_check
     def test_each_is_easy_to_read(self) -> None:
         colours = colours_of(style_of(common.PAGE))
         for use, name, grounds, limit in COLOURS:
             for scheme, called in enumerate(('light', 'dark')):
                 self.assertGreaterEqual(least(colours, name, grounds, scheme), limit, f'{use}: {name} in the {called} scheme')
 
+    @common.in_check
     def test_each_has_a_use(self) -> None:
         used = {name for _, name, _, _ in COLOURS} | {ground for _, _, grounds, _ in COLOURS for ground in grounds}
         self.assertEqual(sorted(colours_of(style_of(common.PAGE))), sorted(used | {*QUIET}))

@@ -156,7 +156,7 @@ class Correct(PageTest):
         self.browser.wait('#panel-disc .say.bad', 'Line 2 of the script expects bytes that a correction would change')
         self.waits_for(f'{CORRECT} (off)', ALL, REBUILD)
         self.press_off(CORRECT)
-        self.assertTrue(self.browser.text('#count-script').startswith('1'))
+        self.sees(True, lambda: self.browser.text('#count-script').startswith('1'))
 
     def test_a_line_that_expects_the_corrected_byte_does_not_hinder_a_correction(self) -> None:
         image = damaged(discs.game(), 60, 1000)
@@ -182,6 +182,7 @@ class Correct(PageTest):
         self.browser.wait('#correct-body .tally')
         return [int(it) for it in self.browser.run('return [...document.querySelectorAll("#correct-body .tally b")].map(it => it.innerText)')]
 
+    @common.in_check
     def test_all_sectors_are_counted_before_a_corrected_image_is_saved(self) -> None:
         path = self.sector_of(60, worn())
         self.press(ALL)
@@ -334,5 +335,5 @@ class Correct(PageTest):
             self.assertLessEqual(browser.wider(width), 0, width)
         self.assertEqual(browser.nameless(), [])
         browser.press(Keys.TAB)
-        self.assertEqual(browser.run('return document.activeElement.innerText'), text('secondSaveRepaired'))
+        self.sees(text('secondSaveRepaired'), 'return document.activeElement.innerText')
         self.assertEqual(browser.attempts(), [])

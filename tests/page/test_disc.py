@@ -96,6 +96,7 @@ class Disc(PageTest):
         browser.choose('#findings select', 'list')
         browser.wait('#findings', 'Exactly what the command cdpatch list prints')
 
+    @common.in_check
     def test_it_opens_by_the_button_from_a_file_and_sends_nothing(self) -> None:
         image = scratched()
         browser = self.opened(file_of(image))
@@ -116,6 +117,7 @@ class Disc(PageTest):
         self.assertEqual(browser.attempts(), [])
         self.assertEqual([line for line in server.requests if common.PAGE.name not in line], [])
 
+    @common.in_check
     def test_a_cue_sheet_is_opened_with_its_bins(self) -> None:
         place = folder('cue')
         first, music, second = (place / f'game (Track {number}).bin' for number in (1, 2, 3))
@@ -239,7 +241,7 @@ class Disc(PageTest):
         browser.run(CLIPBOARD)
         self.press('Copy')
         lines = ['game.bin', f'size {len(discs.game())}', f'CRC-32 {zlib.crc32(discs.game()):08x}', f'SHA-1 {sha1(discs.game())}', '']
-        self.assertEqual(browser.run('return globalThis.copied'), '\n'.join(lines))
+        self.sees('\n'.join(lines), 'return globalThis.copied')
 
     def test_an_image_is_opened_without_the_characters_of_an_encoding(self) -> None:
         self.browser.run('''globalThis.labels = [];
@@ -274,11 +276,14 @@ class Disc(PageTest):
         browser.wait('.say.bad', 'cannot be read any more')
         self.assertIn('game.bin', browser.text('.say.bad'))
 
+    @common.in_check
     def test_the_example_disc_opens(self) -> None:
         browser = self.browser
         browser.click('#open-example')
         browser.wait(VERDICT, '16 of 270 data sectors are damaged')
         browser.wait('#findings', 'a scratch: every 9th sector')
+        browser.click('#findings [data-tab=files]')
+        browser.wait('#findings .files tbody', 'PICTURES.DAT')
 
     def test_no_panel_is_wider_than_a_phone(self) -> None:
         browser = self.browser
@@ -359,16 +364,20 @@ class Disc(PageTest):
             browser.press(keys)
             self.assertEqual(self.at(), block, keys)
         self.assertEqual(self.place(), 'Block 101, no sync field: audio, or an unknown format, in a data track: sync field or mode byte lost')
+        shown = browser.run("return [...document.querySelectorAll('.loupe li')].map(it => Number(it.dataset.sector))")
+        first = 101 - len(shown) // 2
+        self.assertEqual(shown, [*range(first, first + len(shown))])
         browser.press('R')
         self.assertEqual(self.at(), 0)
         browser.press('n')
         self.assertEqual(self.place(), 'Block 30, Mode 1, damaged: edc p=3 q=3')
         browser.press('g')
-        self.assertEqual(browser.run('return document.activeElement.id'), 'go-to')
+        self.sees('go-to', 'return document.activeElement.id')
         browser.type('#go-to', '90\n')
         browser.wait('#sector-title', 'block 90')
         self.assertIn('address', self.place())
 
+    @common.in_check
     def test_up_and_down_move_by_a_row(self) -> None:
         browser = self.opened(file_of(discs.game()))
         browser.press(Keys.HOME, Keys.ARROW_DOWN)
@@ -412,6 +421,7 @@ class Disc(PageTest):
             self.assertEqual(self.at(), block)
             browser.send('#map', Keys.HOME)
 
+    @common.in_check
     def test_the_legend_shows_one_kind_alone(self) -> None:
         browser = self.opened(file_of(scratched()))
         browser.wait('.legend')
@@ -471,6 +481,7 @@ class Disc(PageTest):
 
     # ---- findings and texts
 
+    @common.in_check
     def test_findings_are_grouped_into_places_that_open(self) -> None:
         image = bytearray(SYNC + bytes([0, 2, 0, 0]) + bytes(SECTOR_SIZE - 16)) * 2000
         for block in (10, 400, 1090, 1800):
@@ -488,6 +499,7 @@ class Disc(PageTest):
         browser.wait('#sector-title', 'block 400')
         browser.wait('.say.thin', 'The user data match their EDC')
 
+    @common.in_check
     def test_the_texts_are_the_programs_to_the_byte(self) -> None:
         path = file_of(scratched(b'tail'))
         browser = self.opened(path)
@@ -547,6 +559,7 @@ class Disc(PageTest):
         self.assertIn('1 of 86 P columns (p=1) and 1 of 52 Q diagonals (q=1) do not match either; they cross at the outlined byte, offset 75: '
                       'it is probably the wrong one.', browser.text('.say.bad'))
 
+    @common.in_check
     def test_typed_bytes_become_lines_of_the_script_that_the_program_applies(self) -> None:
         image = discs.game()
         path = file_of(image)
@@ -622,8 +635,8 @@ class Disc(PageTest):
         self.press('Fields of the sector')
         browser.run("[...document.querySelectorAll('.fields button')].find(it => it.innerText.startsWith('P parity')).click()")
         browser.send('.hex', '00')
-        self.assertIn('Only the user data', browser.text('#announced'))
-        self.assertEqual(browser.run("return document.querySelector('#count-script').hidden"), True)
+        self.sees(True, lambda: 'Only the user data' in browser.text('#announced'))
+        self.sees(True, "return document.querySelector('#count-script').hidden")
 
     # ---- for everyone
 

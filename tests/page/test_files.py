@@ -80,10 +80,10 @@ class Files(PageTest):
         self.assertEqual(self.browser.run(STOPS), 1)
         self.browser.run("document.querySelector('#findings .files tbody tr:nth-child(3)').mine = true")
         self.choose(names[1])
-        self.assertTrue(self.browser.run("return document.querySelector('#findings .files tbody tr:nth-child(3)').mine"))
+        self.sees(True, "return document.querySelector('#findings .files tbody tr:nth-child(3)').mine")
         self.press('Next')
         self.assertEqual([row.split(' ')[0] for row in self.shown()], names[200:400])
-        self.assertIn('201–400 of 420', self.browser.text('#findings'))
+        self.sees(True, lambda: '201–400 of 420' in self.browser.text('#findings'))
         self.browser.type('#files-filter', 'dir4/file41')
         self.assertEqual([row.split(' ')[0] for row in self.shown()], [name for name in names if '/DIR4/FILE41' in name])
         self.browser.type('#files-filter', 'nothing')
@@ -106,7 +106,7 @@ class Files(PageTest):
         self.press('▸ /DIR4/')
         files = [f'/DIR4/FILE{i}.DAT' for i in range(400, 420)]
         self.assertEqual(self.names()[5:], files)
-        self.assertEqual(self.focused(), 'Findings, files, and details: ▾ /DIR4/')
+        self.sees('Findings, files, and details: ▾ /DIR4/', self.focused)
         self.sort('Name')
         self.assertEqual(self.names()[1:21], files[::-1])
         self.press('▾ /DIR4/')
@@ -154,6 +154,7 @@ class Files(PageTest):
         self.press('Go to line 2')
         self.browser.wait('#panel-script')
 
+    @common.in_check
     def test_a_file_is_saved_as_it_is_on_the_disc(self) -> None:
         self.begin(discs.game())
         self.choose(MESSAGES)
@@ -178,6 +179,7 @@ class Files(PageTest):
         saved = self.browser.downloaded('game (patched).bin').read_bytes()
         self.assertEqual(saved, applied(image, discs.written(script=self.script_of(image, path))['script'])[2])
 
+    @common.in_check
     def test_a_file_that_is_replaced_once_more_has_the_lines_of_the_last_one_only(self) -> None:
         image = self.begin(discs.game())
         self.choose(MESSAGES)

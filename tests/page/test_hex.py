@@ -2,7 +2,7 @@
 
 import chromium
 import discs
-from common import SECTOR_SIZE, damaged, waited
+from common import SECTOR_SIZE, damaged, in_check, waited
 from keys import Keys
 from pages import CLIPBOARD, HELD_TIMERS, UNSEEN, PageTest
 
@@ -25,6 +25,7 @@ class Hex(PageTest):
     def selected(self) -> list[int]:
         return list(self.browser.run("return [...document.querySelectorAll('.hex i.sel')].map(it => Number(it.dataset.at) - 16)"))
 
+    @in_check
     def test_bytes_are_selected_and_copied_as_hex_and_as_text(self) -> None:
         browser = self.sector_of(discs.first_block(), discs.game())
         start = discs.START.hex(' ').upper()
@@ -105,7 +106,7 @@ class Hex(PageTest):
         browser = self.sector_of(60, discs.game())
         browser.wait('.hex .cut', 'User data: offset 0 to 2047, which are bytes 16 to 2063 of the sector')
         self.press('Fields of the sector')
-        self.assertEqual(browser.text('.fields').split()[:2], ['Bytes', 'sync0–11'])
+        self.sees(['Bytes', 'sync0–11'], lambda: browser.text('.fields').split()[:2])
 
     def test_the_tools_of_a_sector_are_one_row(self) -> None:
         self.sector_of(60, discs.game())
@@ -149,9 +150,9 @@ class Hex(PageTest):
         checked = 'return document.querySelector("#menu [role=menuitemcheckbox]").getAttribute("aria-checked")'
         for due, shown in (('false', ['000', '010', '020', '030']), ('true', ['0', '16', '32', '48'])):
             browser.click('[data-menu=sector]')
-            self.assertEqual(browser.run(checked), due)
+            self.sees(due, checked)
             self.press('☑' if due == 'true' else '☐')
-            self.assertEqual(browser.run(rows), shown)
+            self.sees(shown, rows)
 
     def test_a_finger_changes_bytes_in_a_field(self) -> None:
         image = discs.game()

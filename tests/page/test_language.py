@@ -2,7 +2,6 @@
 translation for players is one file. A word without marks is a text in the code, unless it is one of those that no translation changes."""
 
 import functools
-import os
 import re
 import shutil
 import sys
@@ -17,9 +16,6 @@ import pack  # noqa: E402
 import strip  # noqa: E402
 
 MARK = '\u0323'
-
-# Tests every `STEP`-th state.
-STEP = int(os.environ.get('LANGUAGE_STEP', '1'))
 
 # Parts of the full page, code, lines of a script, commands, tables of bytes, the program's output, and names of files.
 SKIPPED = 'main > :not(#player, #messages), [hidden], [popover], script, style, #data, .src, .line-out, .hex, .log, .report, .notices, bdi'
@@ -118,4 +114,4 @@ class Language(States):
         self.assertEqual([text for text in texts if re.search(f'[a-z]{{2}}(?!{MARK})', without_known(text))], [], 'stands in code')
 
 
-each_state(Language, Language.judge, STEP, 'player')
+each_state(Language, Language.judge, 'player')

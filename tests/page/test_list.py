@@ -82,6 +82,7 @@ class Lists(PageTest):
         self.assertEqual(self.browser.run('return copied'), saved)
         return sorted(saved.splitlines(keepends=True))
 
+    @common.in_check
     def test_a_list_has_the_lines_of_scan(self) -> None:
         paths = collection()
         self.list_files(*paths.values())

@@ -149,6 +149,7 @@ class Messages(PageTest):
 
     # ---- notes
 
+    @common.in_check
     def test_a_note_opens_beside_its_word(self) -> None:
         self.open_both(discs.scratched(), discs.refused())
         self.browser.wait('#panel-script .verdict')
@@ -172,7 +173,7 @@ class Messages(PageTest):
         self.browser.wait('#start-message .say')
         self.browser.run("document.querySelector('#start-message button:last-child').focus()")
         self.browser.press(Keys.ENTER)
-        self.assertEqual(self.browser.run(focused), 'open-files')
+        self.sees('open-files', focused)
         files = discs.written(game=discs.scratched(), other=discs.game())
         self.open_image(files['game'])
         self.open_files(files['other'])
@@ -180,7 +181,7 @@ class Messages(PageTest):
         self.browser.wait('#second-body .tally')
         self.browser.run("document.querySelector('[aria-labelledby=second-title] header button:last-child').focus()")
         self.browser.press(Keys.ENTER)
-        self.assertEqual(self.browser.run(focused), 'map')
+        self.sees('map', focused)
 
     def test_a_notice_over_the_panel_is_closed_at_its_right_end(self) -> None:
         self.open_image(discs.written(game=discs.game())['game'])
@@ -195,6 +196,7 @@ class Messages(PageTest):
             self.browser.click('#messages .cross')
             self.is_gone('#messages .say')
 
+    @common.in_check
     def test_a_long_job_is_shown_in_the_bar_on_every_panel(self) -> None:
         self.browser.run(f'{GATE} globalThis.least = 400000;')
         self.open_files(discs.written(game=discs.game())['game'])

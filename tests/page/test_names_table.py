@@ -152,6 +152,7 @@ class NamesTable(PageTest):
         self.browser.wait('#count-script', '3')
         self.browser.wait('#panel-text .meter', '1 of 3 done')
 
+    @common.in_check
     def test_lines_are_listed_as_cdscript_lists_them(self) -> None:
         image = self.begin(disc(records()))
         self.browser.choose('#list-kind', 'lines')
@@ -237,6 +238,7 @@ class PlainFile(PageTest):
         path.unlink()
         return data
 
+    @common.in_check
     def test_the_texts_of_a_file_without_an_image_are_translated_as_cdscript_does_it(self) -> None:
         data = b'\1\2\3' + b'\0'.join(text.encode('cp932') for text in SENTENCES * 3) + b'\0'
         path = self.open_plain(data)

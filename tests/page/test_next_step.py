@@ -25,6 +25,7 @@ class NextStep(PageTest):
     def files(self) -> dict[str, Path]:
         return discs.written(game=discs.game(), scratched=discs.scratched(), english=discs.script(), refused=discs.refused())
 
+    @common.in_check
     def test_an_image_and_its_script_are_checked_at_once(self) -> None:
         files = self.files()
         for names in (('game', 'english'), ('english', 'game')):

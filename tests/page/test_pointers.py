@@ -136,6 +136,7 @@ class Pointers(PointersPage):
         self.browser.drop('#main', [tables])
         self.browser.wait('.pointers tbody td', '29')
 
+    @common.in_check
     def test_longer_texts_move_and_the_script_is_that_of_cdscript(self) -> None:
         image = self.open_table(pointed.game())
         self.type_text(1, LONG)
@@ -336,7 +337,7 @@ class Pointers(PointersPage):
         self.browser.press(Keys.ARROW_DOWN)
         self.wait_for_focus('.pointers tbody tr:last-child input')
         self.browser.press(' ')
-        self.assertEqual([row[0] for row in self.browser.run(TABLES)], [True, False])
+        self.sees([True, False], lambda: [row[0] for row in self.browser.run(TABLES)])
         self.browser.press(Keys.TAB)
         self.wait_for_focus('#let-move')
         self.browser.press(' ')

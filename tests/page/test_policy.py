@@ -74,6 +74,7 @@ class Sending(PageTest):
         self.wait_for_hash()
         self.assertEqual(self.browser.attempts(), [])
 
+    @common.in_check
     def test_a_whole_walk_reaches_nothing(self) -> None:
         self.walk()
         self.assertEqual(self.browser.attempts(), [])
@@ -98,6 +99,7 @@ class Sending(PageTest):
         found += re.findall(r'https?://[^\'"` )]*', scripts + markup)
         self.assertEqual([it for it in found if it != 'http://www.w3.org/2000/svg'], [])
 
+    @common.in_check
     def test_the_policy_has_the_hashes_of_the_scripts_and_the_style(self) -> None:
         found = re.findall(r'<meta http-equiv="Content-Security-Policy" content="([^"]*)">', page())
         hashes = {'loader': hash_of(part('script')), 'script': hash_of(loader_and_script()[1]), 'style': hash_of(part('style'))}

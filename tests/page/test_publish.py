@@ -19,6 +19,15 @@ FOREIGN = '''const it = document.createElement('style');
     document.head[arguments[0]](it)'''
 
 
+# Notes whether the focus scrolls to a step of the player.
+FOCUSING = '''globalThis.scrolling = false;
+    const { focus } = HTMLElement.prototype;
+    HTMLElement.prototype.focus = function (how) {
+        scrolling ||= this.matches('.step') && !how?.preventScroll;
+        return focus.call(this, how);
+    }'''
+
+
 def data_of(saved: bytes) -> dict[str, Any]:
     """The data after the page in a patcher."""
     packed = saved[len(common.PAGE.read_bytes()):].split(b'\n')[1]
@@ -39,6 +48,7 @@ class Publish(PageTest):
         self.browser.wait('#panel-publish', 'english.txt: 4 of 6 patches match game.bin, 2 have no old bytes to compare.')
         self.browser.type('#patcher-title', HOSTILE)
 
+    @common.in_check
     def test_a_patcher_is_the_page_byte_for_byte_and_data_after_it(self) -> None:
         self.publish()
         self.browser.type('#patcher-note', 'All menus.')
@@ -51,6 +61,7 @@ class Publish(PageTest):
         self.browser.wait('#panel-publish .say.good', 'Saved: img src=x onerror=alert(1).html')
         self.assertEqual(self.browser.attempts(), [])
 
+    @common.in_check
     def test_the_published_copy_is_a_player_with_a_cue_sheet(self) -> None:
         self.publish('cue')
         self.browser.type('#patcher-name', 'Starlit.bin')
@@ -88,7 +99,7 @@ class Publish(PageTest):
         self.assertEqual(data_of(saved.read_bytes())['language'], 'fr')
         self.browser.open(saved)
         self.press(common.text('playerOpenInFullCdpatch', 'fr'))
-        self.assertEqual(self.browser.run('return document.querySelector("#patcher-language").value'), 'fr')
+        self.sees('fr', 'return document.querySelector("#patcher-language").value')
 
     def fields(self) -> list[str]:
         """What is in the fields of the title, the author, and the note."""
@@ -195,7 +206,7 @@ class Publish(PageTest):
         self.assertTrue(self.is_off('Save as a patcher') and self.is_off('Preview as a player'))
         self.press('Go to line 11')
         label = 'return document.activeElement.getAttribute("aria-label")'
-        self.assertIn('Script, line 11 of 13', self.browser.run(label))
+        self.sees(True, lambda: 'Script, line 11 of 13' in self.browser.run(label))
 
     def test_no_licence_is_said_above_the_button(self) -> None:
         self.publish()
@@ -221,6 +232,7 @@ class Player(PageTest):
         self.open_patcher(patcher(discs.game(), result(), script or discs.script(), **other))
         self.browser.drop('#player', [discs.written(mine=image)['mine']])
 
+    @common.in_check
     def test_the_right_disc(self) -> None:
         self.play(discs.game())
         self.browser.wait('#verdict', common.text('playerRightDisc'))
@@ -240,6 +252,7 @@ class Player(PageTest):
         self.assertEqual(self.browser.downloaded('Starlit (English).bin').read_bytes(), applied(files['other'], files['english'])[2])
         self.assertNotIn('the SHA-1 is the same', self.browser.text('#player'))
 
+    @common.in_check
     def test_another_dump_that_the_patch_does_not_fit(self) -> None:
         block = discs.first_block()
         user = bytearray(discs.game()[block * 2352 + 16:block * 2352 + 2064])
@@ -306,11 +319,13 @@ class Player(PageTest):
         files = discs.written(mine=discs.game() + music, script=discs.script())
         self.open_patcher(patcher(discs.game() + music, applied(files['mine'], files['script'])[2], discs.script()))
         self.browser.drop('#player', [files['mine']])
+        self.browser.run(FOCUSING)
         self.press('Patch and save')
         self.browser.wait('#player .step.now', 'Open Starlit (English).bin in your emulator.')
         self.assertIn('if you have a .cue of the old image, it starts the old game', self.browser.text('#player .step.now'))
         self.assertNotIn('Save a cue sheet', self.browser.text('#player'))
         self.assertTrue(self.browser.run('return document.activeElement.matches(".step:last-child")'))
+        self.assertFalse(self.browser.run('return scrolling'), 'the page jumps to the step before it is scrolled there')
 
     def test_a_player_may_choose_his_cue_sheet_after_the_image_was_saved(self) -> None:
         self.play(discs.game())
@@ -430,6 +445,7 @@ class Player(PageTest):
         self.browser.wait('#player .say.bad', 'The patched image is not the one that the author made')
         self.assertEqual(list(self.browser.downloads.iterdir()), [])
 
+    @common.in_check
     def test_a_hostile_title_note_and_script_stay_texts(self) -> None:
         hostile = f'{HOSTILE}</plaintext><script>caught.push("ran")</script>'
         self.play(discs.game(), title=hostile, note=hostile, author=hostile, script=f'cdpatch 1\n# {hostile}\nrebuild 0\n')
@@ -491,10 +507,10 @@ class Player(PageTest):
         self.browser.wait('#panel-script header .tag', '6 patches, script version 1')
         self.browser.click('#tab-publish')
         fields = 'return ["title", "author", "note", "name"].map(it => document.querySelector(`#patcher-${it}`).value)'
-        self.assertEqual(self.browser.run(fields), ['Starlit Detective in English', 'Team Comet', 'All menus.\nChapter 1.', 'Starlit (English).bin'])
-        self.assertFalse(self.browser.asks_before_leaving())
+        self.sees(['Starlit Detective in English', 'Team Comet', 'All menus.\nChapter 1.', 'Starlit (English).bin'], fields)
+        self.sees(False, self.browser.asks_before_leaving)
         self.browser.type('#patcher-note', 'All of it.')
-        self.assertTrue(self.browser.asks_before_leaving())
+        self.sees(True, self.browser.asks_before_leaving)
 
     def republished(self) -> bytes:
         """The patcher that the full page saves again from the open one, for the same image."""
@@ -541,6 +557,7 @@ class Streamed(PageTest):
         self.browser.wait('#saved', 'Saved: Starlit (English).bin')
         self.assertEqual(self.browser.text('#messages'), '')
 
+    @common.in_check
     def test_a_player_streams_what_the_author_made_and_nothing_else(self) -> None:
         for wanted, state in ((common.sha1(result()), 'closed'), ('0' * 40, 'aborted')):
             self.open_patcher(patcher(discs.game(), result(), discs.script(), result=wanted))

@@ -62,6 +62,7 @@ class SavedFiles(PrivateFilesTest):
         self.open_image(self.files['long'])
         self.open_script(self.files['script'])
 
+    @common.in_check
     def test_a_file_of_the_browser_has_what_the_program_writes(self) -> None:
         self.press('Apply and save')
         self.browser.wait('#panel-script .say.good', 'Saved: out.bin')
@@ -139,6 +140,7 @@ class Conversions(PrivateFilesTest):
 
 
 class Downloads(PageTest):
+    @common.in_check
     def test_a_browser_without_a_dialog_for_files_downloads_the_raw_image(self) -> None:
         path = common.folder('other') / 'game.iso'
         path.write_bytes(cut(discs.game(), 16, 2064))

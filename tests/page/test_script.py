@@ -25,6 +25,7 @@ count(Blob.prototype, 'arrayBuffer', 'sectors', () => 1);'''
 
 
 class Script(PageTest):
+    @common.in_check
     def test_check_says_what_the_program_prints(self) -> None:
         files = self.open_both(discs.scratched(), discs.refused())
         self.press('Check')
@@ -82,6 +83,7 @@ class Script(PageTest):
         self.press('line 12')
         self.browser.wait('.explain', 'It is refused: no block 99999')
 
+    @common.in_check
     def test_apply_saves_what_the_program_writes(self) -> None:
         files = self.open_both(discs.scratched() + b'tail', discs.refused())
         self.press_save()
@@ -191,6 +193,7 @@ class Script(PageTest):
         self.browser.run('openGate()')
         self.browser.wait('#panel-script [role=status] .say', 'Correct: game (patched).bin')
 
+    @common.in_check
     def test_a_fault_is_said_in_the_words_of_the_program_with_help(self) -> None:
         script = 'cdpatch 1\nset 26 0 537 was 8358\nset 26 2105 41 was 42\nreplace 26 0 41\n'
         files = discs.written(game=discs.game(), faulty=script)
@@ -214,17 +217,18 @@ class Script(PageTest):
         self.browser.wait('#panel-script header .tag:not(.bad)', '2 patches, script version 2')
         self.assertEqual(self.script_text(), '# mine\ncdpatch 2\nrebuild 1\naddress 7 00:02:07\n')
 
+    @common.in_check
     def test_keys_edit_lines_and_undo_takes_back(self) -> None:
         self.open_image(discs.written(game=discs.game())['game'])
         self.edit(Keys.ARROW_DOWN, 'rebuild 1', Keys.ENTER, 'rebuild 2', Keys.ENTER, '# end')
-        self.assertEqual([row.split('|')[1] for row in self.rows()], ['cdpatch 1', 'rebuild 1', 'rebuild 2', '# end'])
+        self.sees(['cdpatch 1', 'rebuild 1', 'rebuild 2', '# end'], lambda: [row.split('|')[1] for row in self.rows()])
         self.browser.press(Keys.HOME, Keys.BACKSPACE)
-        self.assertEqual([row.split('|')[1] for row in self.rows()][2:], ['rebuild 2# end'])
+        self.sees(['rebuild 2# end'], lambda: [row.split('|')[1] for row in self.rows()][2:])
         self.browser.press('z', held=Keys.CONTROL)
-        self.assertEqual([row.split('|')[1] for row in self.rows()][2:], ['rebuild 2', '# end'])
+        self.sees(['rebuild 2', '# end'], lambda: [row.split('|')[1] for row in self.rows()][2:])
         self.browser.press(Keys.ARROW_UP, Keys.ARROW_UP, held=Keys.SHIFT)
         self.browser.press(Keys.DELETE)
-        self.assertEqual([row.split('|')[1] for row in self.rows()], ['# end'])
+        self.sees(['# end'], lambda: [row.split('|')[1] for row in self.rows()])
         self.browser.press('z', held=Keys.CONTROL)
         self.browser.press(Keys.ENTER, held=Keys.CONTROL)
         self.browser.wait('#panel-script .say.warn', 'cdpatch cannot tell whether the 2 patches')
@@ -241,8 +245,8 @@ class Script(PageTest):
         self.open_script(files['english'])
         self.browser.wait('#messages .say.warn', common.text('scriptReplacedYours'))
         self.press('Bring it back')
-        self.assertEqual([row.split('|')[1] for row in self.rows()], ['cdpatch 1', 'rebuild 1'])
-        self.assertEqual(self.browser.text('#panel-script header h2'), 'New script')
+        self.sees(['cdpatch 1', 'rebuild 1'], lambda: [row.split('|')[1] for row in self.rows()])
+        self.sees('New script', lambda: self.browser.text('#panel-script header h2'))
         self.browser.click('.editor textarea')
         self.browser.press('y', held=Keys.CONTROL)
         self.browser.wait('#panel-script header h2', 'english.txt')
@@ -271,7 +275,7 @@ class Script(PageTest):
         self.press('Back to Check')
         self.browser.run('document.querySelector("#panel-script input[type=checkbox]").focus()')
         self.browser.press(' ')
-        self.assertEqual(self.browser.run('return document.activeElement.type'), 'checkbox')
+        self.sees('checkbox', 'return document.activeElement.type')
 
     def test_f8_goes_from_one_wrong_line_to_the_next(self) -> None:
         self.open_script(discs.written(faulty='cdpatch 1\nrebuild x\n# note\nrebuild 2\nrebuild y\n')['faulty'])
@@ -297,7 +301,7 @@ class Script(PageTest):
         self.assertLess(len(self.rows()), 80)
         self.browser.click('.editor textarea')
         self.browser.press(Keys.END, held=Keys.CONTROL)
-        self.assertEqual(self.rows()[-2].split('|')[:2], ['65536', 'set 65534 0 4A4A4A4A4A4A4A4A'])
+        self.sees(['65536', 'set 65534 0 4A4A4A4A4A4A4A4A'], lambda: self.rows()[-2].split('|')[:2])
         self.browser.press('rebuild 7')
         self.browser.wait('#panel-script header .tag', 'more than 65,535 patches')
         self.assertEqual(self.rows()[-1], '65537|rebuild 7|more than 65535 patches')
@@ -405,6 +409,7 @@ class Script(PageTest):
         self.browser.wait('#panel-script .said .say', 'No undo script was made.')
         self.assertEqual(list(self.browser.downloads.iterdir()), [])
 
+    @common.in_check
     def test_the_undo_script_can_be_made_of_an_image_that_is_opened_later(self) -> None:
         files = discs.written(game=discs.game(), english=discs.script())
         self.open_script(files['english'])
@@ -463,6 +468,7 @@ class Streaming(PageTest):
         self.open_script(files['english'])
         return files
 
+    @common.in_check
     def test_what_is_streamed_is_what_the_program_writes(self) -> None:
         files = self.begin()
         self.press_save()
@@ -507,6 +513,7 @@ class Streaming(PageTest):
             self.assertIn(common.text('saveNoImageKept'), self.browser.text('#panel-script .side'))
             self.assertEqual(self.browser.run('return [chosen.state, chosen.removed]'), ['aborted', True], f'write {failing}')
 
+    @common.in_check
     def test_cancel_in_the_middle_keeps_no_image(self) -> None:
         self.begin()
         self.begins()

@@ -5,7 +5,7 @@ import random
 from pathlib import Path
 
 import discs
-from common import SECTOR_SIZE, damaged, image_of, run_program, sector, sha1, text, waited
+from common import SECTOR_SIZE, damaged, image_of, in_check, run_program, sector, sha1, text, waited
 from keys import Keys
 from pages import PageTest
 
@@ -80,6 +80,7 @@ class Second(PageTest):
                 self.open_files(discs.written(one='cdpatch 1\nrebuild 1\n')['one'])
                 self.browser.wait('#panel-script .side .say', ' match')
 
+    @in_check
     def test_a_repair_takes_what_is_damaged_here_and_sound_there_and_nothing_else(self) -> None:
         first = bytearray(with_faults((40, 9), (60, 9), (80, 9)))
         first[100 * SECTOR_SIZE:100 * SECTOR_SIZE + 12] = bytes(12)
@@ -182,6 +183,7 @@ class Second(PageTest):
         self.browser.wait('#second-body', f'But it is the same disc: {count - 1} of {count} sectors are equal')
         self.assertNotIn('another release', self.browser.text('#second-body'))
 
+    @in_check
     def test_a_repair_as_a_script_gives_the_same_image(self) -> None:
         first, second = with_faults((40, 9), (60, 9)), with_faults()
         path = self.pair(first, second)
@@ -237,6 +239,7 @@ class Second(PageTest):
         top = "return document.querySelector('.hex').getBoundingClientRect().top"
         self.assertLess(self.browser.run(top), self.browser.run('return innerHeight'))
 
+    @in_check
     def test_a_comparison_is_a_script_that_the_program_applies(self) -> None:
         first = with_faults()
         second = bytearray(first)
@@ -310,10 +313,10 @@ class Second(PageTest):
         self.assertEqual(saved.read_text(), ''.join(f'{block}\t0\t1\t0\t0\t{file}\n' for block, file in due.items()))
         saved.unlink()
         self.press('▸ in no file')
-        self.assertEqual(self.browser.run(rows)[3:], ['▾ in no file 420 sectors', *['in no file'] * 400])
+        self.sees(['▾ in no file 420 sectors', *['in no file'] * 400], lambda: self.browser.run(rows)[3:])
         self.browser.wait('[aria-label="Bytes that differ, by field"] .foot', 'and 20 more blocks.')
         self.press('▾ in no file')
-        self.assertEqual(len(self.browser.run(rows)), 4)
+        self.sees(4, lambda: len(self.browser.run(rows)))
         self.press('▸ in a directory')
         self.press(str(root))
         self.browser.wait('#sector-title', f'block {root}')
@@ -350,7 +353,7 @@ class Second(PageTest):
         # A second Enter does not press `Open it instead`.
         self.assertFalse(self.browser.run('return document.activeElement.matches(".away, body")'))
         self.browser.press(Keys.ENTER)
-        self.assertEqual([self.browser.text('#disc-line .name'), self.browser.text('#second-title')], ['game.bin', 'Second image: other.bin'])
+        self.sees(['game.bin', 'Second image: other.bin'], lambda: [self.browser.text('#disc-line .name'), self.browser.text('#second-title')])
         script = self.browser.downloaded('other (changes).txt')
         self.assertEqual([line.split()[:2] for line in script.read_text().splitlines()], [['cdpatch', '1'], ['set', '50']])
         script.unlink()

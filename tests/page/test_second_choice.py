@@ -49,6 +49,7 @@ class SecondChoice(PageTest):
         self.browser.answer('Compare')
         common.waited(lambda: self.browser.run('return pieces > 0'), 'nothing of it is read')
 
+    @common.in_check
     def test_each_answer_does_what_it_says(self) -> None:
         files = self.begin(common.damaged(discs.game(), 40), discs.game())
         self.open_files(files['other'])

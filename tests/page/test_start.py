@@ -46,8 +46,8 @@ class Start(PageTest):
                 self.assertEqual(self.browser.run('return asked'), 1)
         # The job stays selected when the button below it is pressed.
         self.press('Open files')
-        self.assertEqual(self.browser.run('return [...document.querySelectorAll(".job[aria-pressed=true]")].map(it => it.dataset.aim)'), ['repair'])
-        self.assertEqual(self.browser.run('return asked'), 2)
+        self.sees(['repair'], 'return [...document.querySelectorAll(".job[aria-pressed=true]")].map(it => it.dataset.aim)')
+        self.sees(2, 'return asked')
 
     def test_the_notes_say_what_cdpatch_is_for_and_what_its_words_mean(self) -> None:
         self.browser.click('[popovertarget=about]:not(.shut)')
@@ -83,6 +83,7 @@ class Start(PageTest):
         self.browser.wait(f'#panel-{panel}')
         self.assertEqual(self.browser.run('return document.activeElement.id'), focus)
 
+    @common.in_check
     def test_each_job_leads_to_its_panel(self) -> None:
         self.leads('Translate a disc', 'find-text', 'text')
         self.leads('Repair or compare dumps', 'map', 'disc')

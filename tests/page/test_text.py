@@ -68,7 +68,7 @@ class Text(PageTest):
         self.assertEqual(len({tuple(it) for it in self.browser.run(boxes)}), 1)
         self.assertIn('スタート', self.browser.run("return document.querySelector('#find-text').placeholder"))
         self.browser.choose('#find-encoding', 'hex')
-        self.assertNotIn('スタート', self.browser.run("return document.querySelector('#find-text').placeholder"))
+        self.sees(True, lambda: 'スタート' not in self.browser.run("return document.querySelector('#find-text').placeholder"))
         self.browser.choose('#find-encoding', 'CP932')
         for text in ('スタート', 'つづき', 'スタート'):
             self.browser.type('#find-text', f'{text}\n')
@@ -101,6 +101,7 @@ class Text(PageTest):
             self.browser.size(width)
             self.browser.wait(f'.hex.around{rows}', 'スタート')
 
+    @common.in_check
     def test_find_replace_check_and_apply_give_what_the_program_writes(self) -> None:
         self.find_in_game()
         self.replace_first()
@@ -163,7 +164,7 @@ class Text(PageTest):
         self.assertTrue(self.is_off('Replace all'))
         self.browser.press(Keys.ENTER)
         self.press_off('Replace')
-        self.assertTrue(self.browser.run('return document.querySelector("#count-script").hidden'))
+        self.sees(True, 'return document.querySelector("#count-script").hidden')
 
     def test_a_wide_space_fills_only_what_it_fits(self) -> None:
         self.find_in_game()
@@ -288,6 +289,7 @@ class Text(PageTest):
         marked = self.browser.run('return [...document.querySelectorAll(".hits tbody tr")].map(it => it.innerText.includes("in the middle"))')
         self.assertEqual(marked, [i % 2 == 1 for i in range(119)])
 
+    @common.in_check
     def test_a_hit_may_begin_inside_a_character(self) -> None:
         user = [bytes([0x2E] * 20) + '海Xスタ'.encode('cp932'), b'\0' + bytes([0x83, 0x83]) + b'X']
         self.open_image(discs.written(inside=common.image_of(user))['inside'])

@@ -63,6 +63,7 @@ class TextsTable(PageTest):
         saved = common.waited(self.browser.downloaded('game (texts).csv').read_bytes, 'the table is empty').decode()
         self.assertEqual(saved, common.cdscript_prints('texts', '--csv', '--end', '0A', image))
 
+    @common.in_check
     def test_new_texts_become_the_lines_that_cdscript_writes(self) -> None:
         image = self.open_texts(spoken_texts())
         table = self.table(image, {2: 'The game starts.', 3: 'Save?', 5: 'The end.'})
@@ -195,6 +196,7 @@ class TextsTable(PageTest):
         self.browser.wait('#panel-text .say.warn', '1 translation fits. 1 translation does not fit: 1 too long.')
         self.browser.wait('#panel-text .say.warn', 'The list has no new text for the lines 4, 5 of the script.')
 
+    @common.in_check
     def test_rows_that_do_not_fit_are_a_list_to_walk(self) -> None:
         image = self.open_texts(spoken_texts())
         rows = self.printed(image).splitlines()

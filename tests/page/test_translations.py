@@ -97,6 +97,7 @@ class Choice(PageTest):
         for prefers, due in ('fr-CA en', 'fr'), ('ja pt-PT es', 'pt-BR'), ('en-US de', 'en'), ('ja fil', 'en'), ('', 'en'):
             self.assertEqual(self.opened(prefers), due)
 
+    @common.in_check
     def test_what_the_author_chose_comes_before_the_browser(self) -> None:
         self.assertEqual(self.opened('fr en', language='de'), 'de')
         self.assertEqual(self.opened('fr es', language='en'), 'en')

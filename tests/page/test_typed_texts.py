@@ -51,6 +51,7 @@ class TypedTexts(PageTest):
         common.waited(lambda: sorted(row.split('|')[1] for row in self.rows()) == sorted(script.split('\n')), 'the script differs')
         self.assertEqual(sorted(self.script_text().splitlines()), sorted(script.splitlines()))
 
+    @common.in_check
     def test_each_text_is_listed_once_and_a_typed_one_is_in_the_script_at_all_its_places(self) -> None:
         image = self.open_table(spoken_texts())
         self.assertEqual([(file, old, room) for file, old, _, _, room in self.cells()],
@@ -73,7 +74,7 @@ class TypedTexts(PageTest):
         self.becomes(2, 4, '5 of 38')
         self.browser.wait('#panel-text .meter', '1 of 4 done')
         self.browser.press(Keys.ARROW_UP, 'much too long ' * 4)
-        self.assertEqual(self.row(2)[3:], ['18 bytes too many.', '56 of 38'])
+        self.sees(['18 bytes too many.', '56 of 38'], lambda: self.row(2)[3:])
         self.browser.press(Keys.ENTER)
         self.browser.wait('#panel-text [aria-pressed]:nth-child(3)', 'Do not fit 1')
         self.becomes(2, 3, f"18 bytes too many. {common.text('textScriptKeeps')}")
@@ -322,7 +323,7 @@ class TypedTexts(PageTest):
         image = self.open_table(spoken_texts())
         self.browser.click(self.field(1))
         self.browser.press('The game starts.')
-        self.assertTrue(self.browser.asks_before_leaving())
+        self.sees(True, self.browser.asks_before_leaving)
         self.save_list(common.text('textAsTsv'))
         path = self.browser.downloaded('game (texts).tsv')
         saved = common.waited(path.read_bytes, 'the list is empty').decode()
@@ -341,7 +342,7 @@ class TypedTexts(PageTest):
         self.browser.press('much too long ' * 4, Keys.ENTER)
         self.browser.wait('#panel-text [aria-pressed]:nth-child(3)', 'Do not fit 1')
         self.save_list('Cancel')
-        self.assertTrue(self.browser.asks_before_leaving())
+        self.sees(True, self.browser.asks_before_leaving)
         self.browser.run('globalThis.address = URL.createObjectURL; URL.createObjectURL = () => { throw new Error("no room for the list"); }')
         self.save_list(common.text('textAsCsv'))
         self.browser.wait('#panel-text .say.bad', 'No room for the list')

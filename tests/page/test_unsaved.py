@@ -116,6 +116,7 @@ class Unsaved(PageTest):
         self.assertEqual(self.browser.run('return document.querySelector(arguments[0]).value', self.field(1)), self.LONG, door)
         self.browser.click(f'#{tab}')
 
+    @common.in_check
     def test_no_other_image_takes_the_place_of_typed_texts_without_a_question(self) -> None:
         image = spoken_texts()
         files = discs.written(first=image, later=common.image_of([b'later'] * 300, base=900), other=common.damaged(image, 30))
@@ -191,8 +192,8 @@ class Unsaved(PageTest):
         for _ in range(2):
             self.press('Save repaired image')
         self.press_in('second', 'Write the repair as a script')
-        self.assertEqual(self.browser.run('return [chosen.asked, document.querySelectorAll("#second-body .progress").length]'), [1, 1])
-        self.assertTrue(self.browser.asks_before_leaving())
+        self.sees([1, 1], 'return [chosen.asked, document.querySelectorAll("#second-body .progress").length]')
+        self.sees(True, self.browser.asks_before_leaving)
         self.ends_well(discs.game())
 
     def test_a_slow_choice_of_a_file_is_not_asked_for_twice(self) -> None:
@@ -231,7 +232,7 @@ class Unsaved(PageTest):
         self.browser.wait('#panel-script .say.warn', common.text('endTheSaving'))
         self.assertEqual(self.focused(), 'Check: Keep saving')
         self.browser.press(Keys.ESCAPE)
-        self.assertEqual(self.focused(), 'Check: Cancel')
+        self.sees('Check: Cancel', self.focused)
         self.browser.press(Keys.ESCAPE)
         self.press('Keep saving')
         self.browser.wait('#panel-script .progress')
@@ -366,6 +367,7 @@ class Unsaved(PageTest):
         self.browser.run('openGate()')
         self.browser.wait('#count-script', '400')
 
+    @common.in_check
     def test_a_search_ends_with_its_image(self) -> None:
         files = discs.written(game=discs.game(), other=discs.scratched())
         self.open_image(files['game'])
