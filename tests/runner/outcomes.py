@@ -22,12 +22,15 @@ class Outcome:
     unsteady: list[tuple[str, str]] = field(default_factory=list)
     # What was skipped, and why.
     skipped: list[str] = field(default_factory=list)
+    # The seconds that each test of pytest and node took.
+    times: list[tuple[float, str]] = field(default_factory=list)
 
     def add(self, other: Outcome) -> None:
         self.passed += other.passed
         self.failed += other.failed
         self.unsteady += other.unsteady
         self.skipped += other.skipped
+        self.times += other.times
 
 
 def of_lines(name: str, text: str, status: int) -> Outcome:
@@ -63,9 +66,10 @@ def of_case(test: xml.Element, prefix: str) -> tuple[str, Outcome]:
     name = prefix + notes.get('readable', test.get('name', ''))
     wrong = [*test.iter('failure'), *test.iter('error')]
     skip = test.find('skipped')
+    times = [(float(test.get('time', 0)), name)]
     if wrong:
-        return name, Outcome(failed=[(name, '\n'.join(it.text or it.get('message') or '' for it in wrong))])
+        return name, Outcome(failed=[(name, '\n'.join(it.text or it.get('message') or '' for it in wrong))], times=times)
     if skip is not None:
         why = skip.get('message', '')
         return name, Outcome(skipped=[] if why == UNNAMED else [why])
-    return name, Outcome(passed=1, unsteady=[(name, notes['failed before'])] if 'failed before' in notes else [])
+    return name, Outcome(passed=1, unsteady=[(name, notes['failed before'])] if 'failed before' in notes else [], times=times)

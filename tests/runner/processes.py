@@ -4,6 +4,7 @@ from __future__ import annotations
 
 import ctypes
 import os
+import resource
 import signal
 import subprocess
 import tempfile
@@ -22,7 +23,7 @@ PATIENCE = 10  # seconds between SIGTERM and SIGKILL
 class Ran:
     status: int
     text: str
-    processor: float  # seconds, with those of its children
+    processor: float  # seconds, with those of its descendants
 
 
 # Set once the run is to end: no command starts after it. A lock makes the test of it and the start one step.
@@ -49,24 +50,35 @@ def run(words: Sequence[str | Path], place: Path, environment: dict[str, str]) -
         hangs.cancel()
         process.returncode = os.waitstatus_to_exitcode(status)
         log.seek(0)
-        return Ran(process.returncode, log.read().decode(errors='replace'), used.ru_utime + used.ru_stime)
+        return Ran(process.returncode, log.read().decode(errors='replace'), seconds(used) + left_behind(process.pid))
 
 
-def parents() -> dict[int, int]:
-    """The parent of each running process."""
+def left_behind(session: int) -> float:
+    """The processor seconds of the ended processes of a session for which nobody has waited. Most of a browser's are left so, to this process."""
+    ended = [it for it, (state, parent, own) in all_processes().items() if state == 'Z' and parent == os.getpid() and own == session]
+    return sum(seconds(os.wait4(it, 0)[2]) for it in ended)
+
+
+def seconds(used: resource.struct_rusage) -> float:
+    return used.ru_utime + used.ru_stime
+
+
+def all_processes() -> dict[int, tuple[str, int, int]]:
+    """The state, the parent, and the session of each process."""
     found = {}
     for stat in Path('/proc').glob('[0-9]*/stat'):
         try:
-            state, parent = stat.read_text(errors='replace').rpartition(')')[2].split()[:2]
+            state, parent, _, session = stat.read_text(errors='replace').rpartition(')')[2].split()[:4]
         except (OSError, ValueError):
             continue
-        if state not in 'ZX':
-            found[int(stat.parent.name)] = int(parent)
+        found[int(stat.parent.name)] = state, int(parent), int(session)
     return found
 
 
 def descendants() -> set[int]:
-    parent_of, found = parents(), {os.getpid()}
+    """Those that run."""
+    parent_of = {it: parent for it, (state, parent, _) in all_processes().items() if state not in 'ZX'}
+    found = {os.getpid()}
     while more := {it for it, parent in parent_of.items() if parent in found} - found:
         found |= more
     return found - {os.getpid()}

@@ -18,8 +18,6 @@ TESTS = Path(__file__).resolve().parents[1]
 TOP = TESTS.parent
 MODULE = TOP / 'library/cdpatch.wasm'
 PYTHON = '/usr/bin/python3'  # Debian's, which has pytest
-# Suites that take long, or have several processes that mostly wait. All others yield to them.
-URGENT = {'browsers', 'release', 'fit'}
 PROCESSORS = len(os.sched_getaffinity(0))
 
 
@@ -62,8 +60,7 @@ class Suite:
 
     def run(self, words: Sequence[str | Path], **more: str | Path) -> tuple[int, str]:
         """Runs a command, and returns its status and its output."""
-        nice = [] if self.name in URGENT else ['nice', '-n', '10']
-        ran = run([*nice, *words], self.place, {**self.environment, **{name: str(value) for name, value in more.items()}})
+        ran = run(words, self.place, {**self.environment, **{name: str(value) for name, value in more.items()}})
         self.spent.append(ran.processor)
         return ran.status, ran.text
 
@@ -80,9 +77,9 @@ class Suite:
         status, text = self.run(words, NAMED='\n'.join(self.words))
         self.outcome.add(of_lines(self.name, text, status))
 
-    def node(self, directory: Path, **more: str | Path) -> None:
+    def node(self, directory: Path, names: str = '*', **more: str | Path) -> None:
         """Tests in node: each file in a process, several at a time. Words that begin as `search:` are about search.test.mjs alone."""
-        files = {file.name.removesuffix('.test.mjs'): file for file in sorted(directory.glob('*.test.mjs'))}
+        files = {file.name.removesuffix('.test.mjs'): file for file in sorted(directory.glob(f'{names}.test.mjs'))}
 
         def patterns(stem: str) -> Iterator[str]:
             for words in self.words:

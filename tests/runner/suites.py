@@ -15,6 +15,8 @@ PACK: list[str | Path] = [sys.executable, '-B', TOP / 'tools/pack.py']
 IN_GATE = 'GATE' in os.environ
 RANDOM_CASES = os.environ.get('RANDOM_CASES', '300' if IN_GATE else '100')
 PROCESS_CASES = os.environ.get('PROCESS_CASES', '300' if IN_GATE else '20')
+# The directory of node 18 (.ci/node18), if some suites are to run there too.
+NODE18 = os.environ.get('NODE18')
 LIBRARY = TOP / 'library/libcdpatch.so.2'
 # Sectors that other software encoded.
 VECTORS = TOP / 'crates/cd_low_tests/data/cdrkit-8.bin'
@@ -66,12 +68,21 @@ def cdscript(it: Suite) -> None:
     it.node(TESTS / 'cdscript', COMMAND=command)
 
 
-def in_node(directory: str) -> Callable[[Suite], None]:
-    return lambda it: it.node(TESTS / directory)
+def in_node18(suite: Callable[[Suite], None]) -> Callable[[Suite], None]:
+    """A suite in node 18, the oldest that runs cdscript, with files as large as `make check` has."""
+    def run(it: Suite) -> None:
+        it.environment['PATH'] = f'{NODE18}:{it.environment["PATH"]}'
+        it.environment.pop('GATE', None)
+        suite(it)
+    return run
+
+
+def in_node(directory: str, names: str = '*') -> Callable[[Suite], None]:
+    return lambda it: it.node(TESTS / directory, names)
 
 
 def browsers(it: Suite) -> None:
-    """The page in browsers. Only the gate runs all random actions and all states in another language."""
+    """The page in browsers. Without words, only the gate runs the tests that have no mark `in_check`."""
     if it.lacks('chromium', 'pytest-3', 'import pytest_rerunfailures', 'import xdist', what='the page in a browser'):
         return
     made = it.place / 'cdpatch.html'
@@ -81,9 +92,8 @@ def browsers(it: Suite) -> None:
         return
     # A test and its browser mostly wait for each other. WebKit needs an X server.
     processes = '0' if it.words else '4'
-    display = [] if 'DISPLAY' in os.environ or it.lacks('xvfb-run', what='WebKit') else ['xvfb-run', '-a']
-    fewer = {} if IN_GATE or it.words else {name: os.environ.get(name, value) for name, value in (('RANDOM_ACTIONS', '50'), ('LANGUAGE_STEP', '8'))}
-    it.pytest(TESTS / 'page', '-n', processes, before=display, PAGE=made, SCRATCH=it.place, **fewer)
+    display = [] if 'DISPLAY' in os.environ or not (IN_GATE or it.words) or it.lacks('xvfb-run', what='WebKit') else ['xvfb-run', '-a']
+    it.pytest(TESTS / 'page', '-n', processes, before=display, PAGE=made, SCRATCH=it.place)
 
 
 def python(it: Suite) -> None:
@@ -120,23 +130,26 @@ def script(path: str, *words: str) -> Callable[[Suite], None]:
     return suite
 
 
-# Suites of releases, of other systems, and of the runner itself. `make check` leaves them to the gate.
-OF_THE_GATE = {'release', 'fit', 'bare', 'runner', 'targets'}
+# Suites of growth, of releases, of other systems, and of the runner itself. `make check` leaves them to the gate.
+OF_THE_GATE = {'growth', 'release', 'fit', 'bare', 'runner', 'targets'}
 # Directories, and the page, with more than one suite.
 GROUPS = {
-    'page': ['browsers', 'page_in_node', 'hostile'],
+    'page': ['browsers', 'page_in_node', 'hostile', 'growth'],
     'process': ['program', 'images', 'faults', 'memory', 'system', 'random_faults'],
     'pages': ['examples', 'help', 'manual', 'messages', 'against_sources', 'rustdoc', 'sources', 'installing', 'release', 'completions', 'terminals'],
     'tools': ['pack', 'fit', 'forms', 'types', 'runner', 'bodies', 'bare'],
 }
+modules = script('modules/run')
+pack = script('tools/pack.sh', 'refusals', 'command', 'page', 'pairs', 'two_builds')
+IN_NODE18 = {'cdscript': cdscript, 'core': core, 'modules': modules, 'pack': pack} if NODE18 else {}
 # The suites. Those that take longest begin first.
 SUITES: dict[str, Callable[[Suite], None]] = {
-    'browsers': browsers, 'cdscript': cdscript, 'core': core, 'hostile': in_node('hostile'), 'release': script('pages/run', 'release'),
-    'library': script('library/run'), 'fit': script('tools/pack.sh', 'release'), 'examples': script('pages/run', 'examples'),
-    'page_in_node': in_node('page'), 'targets': script('targets/run'), 'runner': script('tools/runner.sh'), 'types': types,
-    'bare': script('tools/bare.sh'), 'forms': script('tools/pack.sh', 'forms'), 'cases': cases, 'modules': script('modules/run'),
-    'python': python, 'pack': script('tools/pack.sh', 'refusals', 'command', 'page', 'pairs', 'two_builds'),
-    'faults': script('process/faults.sh'), 'model': model,
+    'browsers': browsers, 'library': script('library/run'), 'targets': script('targets/run'), 'cdscript': cdscript, 'core': core,
+    **{f'{name}_in_node18': in_node18(suite) for name, suite in IN_NODE18.items()},
+    'growth': in_node('hostile', 'growth'), 'hostile': in_node('hostile', 'fuzz'), 'release': script('pages/run', 'release'),
+    'page_in_node': in_node('page'), 'examples': script('pages/run', 'examples'), 'runner': script('tools/runner.sh'), 'types': types,
+    'fit': script('tools/pack.sh', 'release'), 'bare': script('tools/bare.sh'), 'forms': script('tools/pack.sh', 'forms'), 'cases': cases,
+    'modules': modules, 'python': python, 'pack': pack, 'faults': script('process/faults.sh'), 'model': model,
     'memory': script('process/memory.sh'), 'images': script('process/images.sh'), 'system': script('process/system.sh'),
     **{name: script('pages/run', name) for name in GROUPS['pages'] if name not in ('release', 'examples')},
     'random_faults': random_faults, 'program': script('process/program.sh'), 'bodies': script('tools/bodies.sh'),

@@ -27,8 +27,12 @@ ended_by() {
 for signal in INT TERM HUP; do
     judge "SIG$signal ends all tests, and their files are removed" ended_by $signal
 done
-PROGRAM=/bin/false "$tests/run" program > log 2>&1
+# A program that only notes which signals it ignores.
+printf '#!/bin/sh\ngrep ^SigIgn: /proc/$$/status >> %q\nexit 1\n' "$PWD/ignored" > teller
+chmod +x teller
+(trap '' HUP INT && PROGRAM=$PWD/teller "$tests/run" program > log 2>&1)
 judge 'a program that does nothing fails' test $? = 1
+judge 'what the runner ignores, as under nohup, its tests do not' grep -q '[048c]$' ignored
 judge 'each failure has its name' test "$(grep -c '^FAILED: ' log)" -gt 10
 judge 'the last line has the counts' grep -qE '^[0-9]+ passed, [1-9][0-9]+ failed$' <(tail -n 1 log)
 "$tests/run" core 'no test has these words' > log 2>&1
