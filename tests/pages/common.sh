@@ -59,9 +59,16 @@ copied() {
 }
 # dist DIRECTORY [WORD..]: runs `make dist` there.
 dist() { make --no-print-directory -s -C "$1" dist distdir=made "${@:2}"; }
-# packed: creates `packed/made` with the tarball and the packages, once for all tests here, and `packed/printed` with the output.
+# packed: creates `packed/made` with the tarball and the packages, once for all suites of a run, `packed/printed` with the output, and
+# `packed/errors`.
 packed() {
-    [ -e "$scratch/packed" ] || { copied "$scratch/packed" && dist "$scratch/packed" > "$scratch/packed/printed"; }
+    local shared=${SHARED:-$scratch}/packed
+    if mkdir "$shared" 2> "$scratch/log"; then
+        copied "$shared" && dist "$shared" > "$shared/made.log" 2> "$shared/errors"
+        mv "$shared/made.log" "$shared/printed"
+    fi
+    until [ -e "$shared/printed" ]; do sleep 0.5; done
+    [ -e "$scratch/packed" ] || ln -s "$shared" "$scratch/packed"
 }
 
 # The shell and the awk for the examples: the simplest that are installed.

@@ -9,6 +9,8 @@ released() {
     name=$(cd one/made && ls ./*-linux.tar.gz)
     judge 'the tarball has the version in its name' test "$name" = "./cdpatch-$(cdpatch --help | sed -n '$s/cdpatch //p')-x86_64-linux.tar.gz"
     judge 'the checksums are those of the files' eval "(cd one/made && sha256sum --status -c ./*.sha256)"
+    judge 'it warns once of what the owner has not filled in' eval '! grep -q "^[a-z]*: *$" "$top/tools/owner.txt" ||
+        [ "$(grep -c "^unfit to be released: tools/owner.txt has no" one/errors)" = 1 ]'
     judge 'the checksums are printed' test "$(sort one/printed)" = "$(sort one/made/*.sha256)"
     judge 'cdscript.js lies beside the tarball' cmp -s "$top/cdscript" one/made/cdscript.js
     judge 'cdpatch.html lies beside the tarball' cmp -s "$top/cdpatch.html" one/made/cdpatch.html

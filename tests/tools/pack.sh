@@ -187,30 +187,31 @@ release_tree() {
 commit() { git -c user.name=a -c user.email=a@localhost commit -aqm changed; }
 release() { make --no-print-directory -s -C "$1" release distdir="$PWD/made" "${@:2}" > log 2>&1; }
 
-# unfit TEXT COMMAND..: judges that after a command, and a commit of its changes, nothing is released, and one of the reasons has this text.
-unfit() { judge "make release refuses: $1" is_unfit "$@"; }
-is_unfit() {
-    rm -rf unfit made
-    cp -r release unfit
-    mkdir made
-    (cd unfit && "${@:2}" && { commit > /dev/null || true; })
-    ! release unfit && grep -q "^unfit to be released: .*$1" log && [ -z "$(ls made)" ]
+# unfit TEXT COMMAND..: makes a mistake in the tree `unfit`, and records a part of the reason that must be given for it. `judge_unfit` judges
+# that nothing is released from this tree, for all these reasons.
+reasons=()
+unfit() {
+    [ -e unfit ] || cp -r release unfit
+    (cd unfit && "${@:2}")
+    reasons+=("$1")
+}
+judge_unfit() {
+    local reason
+    rm -rf made && mkdir made
+    release unfit
+    judge "nothing is released if ${reasons[0]}" test $? != 0 -a -z "$(ls made)"
+    for reason in "${reasons[@]}"; do
+        judge "make release refuses: $reason" grep -q "^unfit to be released: .*$reason" log
+    done
+    rm -rf unfit
+    reasons=()
 }
 
 names_release() { bash release/tools/fit.sh toolchain > log && grep -qF "release 'a-kit' is none that was tried" log; }
 
-# Runs make dist in a tree in which no entry of the owner is filled in.
-warns_once() {
-    rm -rf unfilled
-    cp -r release unfilled
-    sed -i 's/^\([a-z]*\):.*/\1:/' unfilled/tools/owner.txt
-    [ "$(bash unfilled/tools/dist.sh nothing 2>&1 > log | grep -c '^unfit to be released: tools/owner.txt has no address, licence, key')" = 1 ]
-}
-
 # Whether each released file has a valid signature, and no other file has one.
 signed() {
     local file
-    release release SIGN="$PWD/owner" || return
     echo "cdpatch $(cut -d ' ' -f 1,2 owner.pub)" > signers
     for file in made/*.sha256; do
         file=${file%.sha256}
@@ -228,37 +229,37 @@ test_release() {
     export LOGIC GIT_CONFIG_GLOBAL=/dev/null
     judge 'a tree to be released is made' release_tree
     mkdir -p made
-    judge 'make release makes what make dist makes' eval 'release release && [ -s made/cdpatch.html ] && (cd made && sha256sum --status -c ./*.sha256)'
-    judge 'what is not signed is said' grep -q '^Nothing was signed' log
-    judge 'systems for which nothing was built are said' eval \
-        '{ [ -e made/cdpatch.html ] || release release; } && [ "$(grep "^Nothing was built" log | grep -o "(.*)" | paste -sd " ")" = "(make windows) (make arm64)" ]'
+    judge 'make release makes what make dist makes' eval 'release release SIGN="$PWD/owner" && [ -s made/cdpatch.html ] && (cd made && sha256sum --status -c ./*.sha256)'
+    judge 'systems for which nothing was built are said' test "$(grep '^Nothing was built' log | grep -o '(.*)' | paste -sd ' ')" = '(make windows) (make arm64)'
     judge 'what is fit to be released has no warning' eval '! grep "^warning" log'
-    judge 'the address of the owner is in the package of the sources' eval \
-        '{ [ -e made/cdpatch.html ] || release release; } && grep -q "^Maintainer: .* <a@localhost>$" made/cdpatch_*.dsc'
+    judge 'the address of the owner is in the package of the sources' grep -q '^Maintainer: .* <a@localhost>$' made/cdpatch_*.dsc
     judge 'what make release signs is verified as INSTALL says' signed
-    judge 'a release is not signed with another key than the owner has given' eval '! release release SIGN="$PWD/another" && [ ! -e made/cdpatch.html.sig ]'
-    unfit 'changes that are not committed' touch docs/NEW.md
+    judge 'only what is not signed is said not to be' eval \
+        'make -n -C release release | grep -q "Nothing was signed" && ! make -n -C release release SIGN=owner | grep "Nothing was signed"'
+    judge 'nothing is signed with another key than the owner has given' eval '! bash release/tools/sign.sh another owner.pub 2> log && [ ! -e owner.pub.sig ]'
+    judge "a toolchain's release that was not tried is named, and passes" names_release
     unfit 'tools/owner.txt has no licence' sed -i 's/^licence:.*/licence:/' tools/owner.txt
-    unfit 'tools/owner.txt has no toolchain' sed -i 's/^toolchain:.*/toolchain:/' tools/owner.txt
-    unfit 'tools/owner.txt has no address, licence, key, toolchain, questions' sed -i 's/^\([a-z]*\):.*/\1:/' tools/owner.txt
-    judge 'make dist warns once of what the owner has not filled in' warns_once
     unfit 'there is no LICENSE' rm LICENSE
     unfit 'README.md says that there is no licence, or no release' sed -i '1s/$/ No licence has been chosen yet./' README.md
     unfit 'debian/copyright says that there is no licence, or no release' sed -i '1s/$/ no licence has been chosen yet/' debian/copyright
     unfit "the first entry of debian/changelog is not of version" sed -i '1s/([0-9.]*-/(1.2.3-/' debian/changelog
     unfit 'CHANGELOG.md, is not of version 9.9.9' sed -i '0,/^## [0-9.]* /s//## 9.9.9 /' CHANGELOG.md
-    unfit "is not of version $version with a date" sed -i '0,/^## [0-9.]* .*/s//## '"$version"' (soon)/' CHANGELOG.md
-    unfit "is not of version $version with a date" sed -i '0,/^## /s//## Unreleased\n\n&/' CHANGELOG.md
-    LOGIC=0123456789abcdef unfit "of the toolchain 'a-kit' is not the one that docs/TRUST.md names" true
-    judge "a toolchain's release that was not tried is named, and passes" names_release
     unfit 'the notices' sed -i 1d library/NOTICES
     unfit 'cdscript is not what these sources make' sed -i '$s/$/ /' cdscript
+    unfit 'cdpatch.html is not what these sources make' rm cdpatch.html
+    judge_unfit
+    unfit 'tools/owner.txt has no address, licence, key, toolchain, questions' sed -i 's/^\([a-z]*\):.*/\1:/' tools/owner.txt
+    unfit "is not of version $version with a date" sed -i '0,/^## [0-9.]* .*/s//## '"$version"' (soon)/' CHANGELOG.md
     unfit 'cdscript is not what these sources make' sed -i 's/is closed/is shut/' tools/pack.py
     unfit 'cdpatch.html is not what these sources make' sed -i 's/<title>/<title >/' cdpatch.html
-    unfit 'cdpatch.html is not what these sources make' rm cdpatch.html
+    unfit 'changes that are not committed' eval 'commit; touch docs/NEW.md'
+    judge_unfit
+    unfit "is not of version $version with a date" sed -i '0,/^## /s//## Unreleased\n\n&/' CHANGELOG.md
     printf '%s\n' '#!/bin/sh' '[ "$1" != --version ] || { echo 0.18.0; exit; }' "exec $(command -v esbuild) \"\$@\"" > stubs/esbuild
     chmod +x stubs/esbuild
-    unfit 'other tools made it than tools/versions.txt names: esbuild' true
+    unfit 'other tools made it than tools/versions.txt names: esbuild' commit
+    LOGIC=0123456789abcdef unfit "of the toolchain 'a-kit' is not the one that docs/TRUST.md names" true
+    LOGIC=0123456789abcdef judge_unfit
     rm stubs/esbuild
 }
 
