@@ -378,6 +378,13 @@ test('what no repair takes', () => inDirectory(async room => {
         '298 of 300 sectors are sound in old and in more, and differ: more is shifted from block 31 on, because there is 1 sector too many before that block', room);
     write(room, { strange: imageOf(room, 301, 29).subarray(2352) });
     await fails(['merge', 'old', 'strange', 'out'], '299 of 300 sectors are sound in old and in strange, and differ: one of them is patched, shifted, or of a different disc', room);
+    // The last of these sectors has no code.
+    const mode2 = tool('python3', ['-B', `${top}/tests/lib/mode2_sectors.py`, '8', '3']);
+    const changed = Buffer.from(mode2);
+    changed[7 * 2352 + 500] ^= 1;
+    write(room, { mode2, changed });
+    assert.match((await run(['merge', 'mode2', 'changed', 'out'], { cwd: room })).errors,
+        /^cdscript: 1 of 8 sectors were not tested in mode2, and are different in changed: /m);
     assert.equal(existsSync(join(room, 'out')), false);
     assert.match((await run(['merge', 'old', 'edited', 'out'], { cwd: room })).out, /\ntaken 1 damaged 0 disputed 0 different 3\n$/);
 }));

@@ -467,3 +467,12 @@ test('the status and the last line say what a DAT knows', () => inDirectory(asyn
         assert.equal((await run(['merge', 'b.bin', 'a.bin', `out ${dat}`, '--dat', dat], { cwd: room })).status, due, dat);
     }
 }));
+
+test('a cue sheet may have 128 KiB', () => inDirectory(async room => {
+    const sheet = 'FILE "disc.bin" BINARY\n TRACK 01 MODE1/2352\n INDEX 01 00:00:00\n';
+    for (const [size, kinds] of [[1 << 17, ['nosync 10']], [(1 << 17) + 1, ['audio', 'none: a text file']]]) {
+        write(room, { 'disc.bin': Buffer.alloc(2352 * 10), 'disc.cue': sheet.padEnd(size) });
+        const { out } = await run(['scan', '.'], { cwd: room });
+        assert.deepEqual(out.split('\n').filter(Boolean).map(row => row.split('\t')[1]), kinds, `${size}`);
+    }
+}));

@@ -8,6 +8,7 @@ const { TextRecogniser } = await core('texts/recognising.js');
 const { BAD, allScores, endedScores, tableScores } = await core('texts/scores.js');
 const { cellOf } = await core('texts/codes.js');
 const { keptOf } = await core('texts/candidates.js');
+const { joinedTexts } = await core('texts/runs.js');
 const { encodingOf } = await core('encodings/encodings.js');
 const { encodeText } = await core('encodings/encoding.js');
 
@@ -318,5 +319,15 @@ test('a text with many letters and digits is not cut by what may be lengths', ()
         const places = found(bytes);
         assert.deepEqual([places[0][0], places.at(-1)[1]], [2, bytes.length - 1], name);
         places.forEach(([start], i) => assert.ok(i === 0 || start === places[i - 1][1], name));
+    }
+});
+
+test('in an encoding of one byte a character two texts with at most 32 bytes between them are one, and in others with at most 512', () => {
+    for (const [scores, most] of [[tableScores(encodingOf('Windows-1252')), 32], [allScores()[0], 512]]) {
+        for (const [between, count] of [[most, 1], [most + 1, 2]]) {
+            const bytes = Buffer.concat([Buffer.alloc(9, 0x15), Buffer.from(`Start${' '.repeat(between)}Ende!`), Buffer.alloc(9, 0x15)]);
+            const textAt = from => ({ start: from, end: from + 5, from, to: from + 5, scores, score: 9, isBeside: false, text: '' });
+            assert.equal(joinedTexts(bytes, [textAt(9), textAt(14 + between)], 1000).length, count, `${scores.encoding.name} ${between}`);
+        }
     }
 });
