@@ -2,28 +2,11 @@
 
 import assert from 'node:assert/strict';
 import { test } from 'node:test';
-import { discOf, encoded, skip } from './discs.mjs';
-import { inDirectory, read, run, sameFile, write } from './common.mjs';
+import { discOf, skip } from './discs.mjs';
+import { inDirectory, read, run, sameFile, tool, top, write } from './common.mjs';
 
 const FILES = 10;
 const TEXTS = 30;
-const PEOPLE = ['勇者', '村人', '王様', '魔王', '盗賊', '戦士', '老人', '商人', '兵士', '神父さま'];
-const PLACES = ['北の塔', '東の洞窟', '城の地下', '海の向こう', '森の奥', '西の港町'];
-
-/** An event file: 16-bit pointers from the beginning of the file, and texts that end with 00. */
-function eventFile(file) {
-    const texts = Array.from({ length: TEXTS }, (_, i) => `${PEOPLE[(file + i) % 10]}は${PLACES[(file * i + i) % 6]}で${file * TEXTS + i}番目の薬草を手に入れた`);
-    const bytes = texts.map(text => Buffer.concat([encoded(text, 'CP932'), Buffer.of(0)]));
-    const head = Buffer.alloc(2 + 2 * TEXTS);
-    let at = head.length;
-    head.writeUInt16LE(TEXTS, 0);
-    bytes.forEach((it, i) => {
-        head.writeUInt16LE(at, 2 + 2 * i);
-        at += it.length;
-    });
-    return Buffer.concat([head, ...bytes]);
-}
-
 /** The texts of an event file as its game reads them. */
 const textsIn = bytes => Array.from({ length: bytes.readUInt16LE(0) }, (_, i) => {
     const at = bytes.readUInt16LE(2 + 2 * i);
@@ -33,17 +16,16 @@ const textsIn = bytes => Array.from({ length: bytes.readUInt16LE(0) }, (_, i) =>
 /** The English text of a row. */
 const english = (text, i) => `The hero found herb number ${/\d+/.exec(text)[0]}${i % 3 === 0 ? ', and took it home to the castle' : ''}.`;
 
-/** A directory with the disc and the lists of its texts and pointers; null if genisoimage or iconv is not installed. */
+/** Makes a disc with event files (tests/lib/event_files.py), and the lists of its texts and pointers. */
 async function madeDisc(room, files) {
-    if (skip || encoded('', 'CP932') === null) return null;
-    const events = Object.fromEntries(Array.from({ length: files }, (_, i) => [`EVENT${i}.DAT`, eventFile(i)]));
+    tool('python3', ['-B', `${top}/tests/lib/event_files.py`, `${files}`], { cwd: room });
+    const events = Object.fromEntries(Array.from({ length: files }, (_, i) => [`EVENT${i}.DAT`, read(room, `EVENT${i}.DAT`)]));
     await discOf(room, { ...events, 'MAIN.EXE': Buffer.alloc(1_300_000), 'FILM.STR': Buffer.alloc(3_000_000) }, { options: ['-R', '-J'] });
     return run(['texts', 'disc.bin', '-o', 'texts.tsv', '--pointers', 'pointers.tsv'], { cwd: room });
 }
 
-test('a translation of 300 texts that are longer than their room is on the patched disc, and undo takes it back', async context => inDirectory(async room => {
+test('a translation of 300 texts that are longer than their room is on the patched disc, and undo takes it back', { skip }, () => inDirectory(async room => {
     const listed = await madeDisc(room, FILES);
-    if (listed === null) return context.skip("Debian's packages genisoimage and libc-bin are needed");
     const notSearched = 'cdscript: not searched for pointers: /MAIN.EXE (1.3 MB), 1 more\n';
     assert.deepEqual([listed.status, listed.errors], [0, `cdscript: texts ${FILES * TEXTS}\ncdscript: tables of pointers ${FILES}\n${notSearched}`]);
     const lines = read(room, 'texts.tsv').toString().split('\n').slice(0, -1);
@@ -59,7 +41,7 @@ test('a translation of 300 texts that are longer than their room is on the patch
     const due = new Map(rows.slice(1).map(row => [row.split('\t')[5], row.split('\t')[7]]));
     for (let i = 0; i < FILES; i++) {
         assert.equal((await run(['extract', 'story.bin', `/EVENT${i}.DAT`, `${i}`], { cwd: room })).status, 0);
-        const old = eventFile(i);
+        const old = read(room, `EVENT${i}.DAT`);
         const wanted = Array.from({ length: TEXTS }, (_, k) => due.get(`/EVENT${i}.DAT+${old.readUInt16LE(2 + 2 * k)}`));
         assert.deepEqual(textsIn(read(room, String(i))), wanted);
     }
@@ -68,9 +50,8 @@ test('a translation of 300 texts that are longer than their room is on the patch
     sameFile(read(room, 'back.bin'), read(room, 'disc.bin'), 'the disc after undo');
 }));
 
-test('--keep leaves rows in place, tables that cannot be read are messages, and options need one another', async context => inDirectory(async room => {
+test('--keep leaves rows in place, tables that cannot be read are messages, and options need one another', { skip }, () => inDirectory(async room => {
     const listed = await madeDisc(room, 1);
-    if (listed === null) return context.skip("Debian's packages genisoimage and libc-bin are needed");
     const lines = read(room, 'texts.tsv').toString().split('\n').slice(0, -1);
     const rows = lines.map((line, i) => i === 0 ? line : line + english(line.split('\t')[6], i));
     write(room, { 'new.tsv': `${rows.join('\n')}\n`, 'wrong.tsv': read(room, 'pointers.tsv').toString().replace('\tlittle\t', '\tmiddle\t') });

@@ -6,6 +6,7 @@ from pathlib import Path
 import common
 import discs
 import pointed
+from event_files import event_file
 from keys import Keys
 from pages import PageTest
 from states import SENTENCES
@@ -131,7 +132,7 @@ class NamesTable(PageTest):
         self.assertEqual(self.saved('Export a table', 'game (names).csv'), mine.read_bytes().decode())
 
     def test_names_and_lines_are_in_the_script_at_once_though_other_texts_may_move(self) -> None:
-        self.begin(disc(records(), **{'EVENT0.DAT': pointed.event_file(0)}))
+        self.begin(disc(records(), **{'EVENT0.DAT': event_file(0)}))
         self.press('Show all texts')
         self.press('Find pointers')
         self.browser.wait('#let-move:enabled')

@@ -5,6 +5,7 @@ from pathlib import Path
 
 import common
 import discs
+import event_files
 import pointed
 from keys import Keys
 from pages import GATE, PageTest, applied
@@ -89,7 +90,7 @@ class PointersPage(PageTest):
         path = discs.written(patched=data)['patched']
         out = path.with_name('event')
         common.cdscript_prints('extract', path, f'/EVENT{file}.DAT', out)
-        return pointed.texts_in(out.read_bytes())
+        return event_files.texts_in(out.read_bytes())
 
 
 class Pointers(PointersPage):
@@ -159,7 +160,7 @@ class Pointers(PointersPage):
         self.assertEqual(self.script_now(), due)
         texts = self.texts_after(image, due)
         self.assertEqual(texts[:2], [LONG, 'A villager'])
-        self.assertEqual(texts[2:], [pointed.text_of(0, i) for i in range(2, pointed.TEXTS)])
+        self.assertEqual(texts[2:], [event_files.text_of(0, i) for i in range(2, event_files.TEXTS)])
         # The script is generated again after a further text, as cdscript generates it from all texts.
         self.browser.click('#tab-text')
         self.becomes(1, 0, LONG)
