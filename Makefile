@@ -1,5 +1,5 @@
 # `make help` prints the targets: the lines with ## here, below the headings ##@.
-.PHONY: all help try check test test-outside must-fail mutants fuzz bench web pages english design version map contracts audit weight clean
+.PHONY: all help try check test test-outside mutants fuzz bench web pages english design version map contracts audit weight clean
 .PHONY: program packages toolchain
 
 # Targets are built one after another, in the given order. Crates are proved in parallel, at most N with `make -j N`.
@@ -90,10 +90,6 @@ arm64:                      ## build the program and the library for Linux on aa
 
 test-outside:               ## test pages, completions, and installing, and skip nothing
 	WHOLE=1 PROGRAM='$(PROGRAM)' tests/run pages
-
-# `make test` tries the wrong bodies that are not recorded, and a fifth of the others.
-must-fail:                  ## try all wrong bodies of the crates, and record those that were refused
-	python3 -B tests/wrong/bodies.py
 
 # By hand before a release: COUNT random changes of the sources of JavaScript and Python, and random input, SECONDS for each kind. SEED repeats
 # an earlier run.

@@ -19,6 +19,8 @@ from contracts import TOP, crates, code_of
 # contract of the program over files in memory.
 HEADLINE = ('crates/cd_image/src/applying.rt', 'crates/cd_stream/src/source.rt', 'crates/cd_stream/src/sink.rt')
 THEOREM = ('crates/cd_memory/src/run.rt',)
+# The contracts of libcdpatch are those of its exports.
+LIBRARY = tuple(str(path.relative_to(TOP)) for path in sorted(TOP.glob('crates/cd_c*/src/*.rt')) if 'extern "C" fn' in path.read_text(encoding='utf-8'))
 
 # The marks of a file's first comment: at each line, or at both ends. Files of other types have no row.
 LINES = {'.rt': '//[/!]', '.antt': '--', '.js': '//', '.ts': '//', '.mjs': '//', '.rs': '//!', '.sh': '#', '': '#'}
@@ -185,11 +187,12 @@ def visit(path: Path, seen: set[Path], order: list[Path], types: set[str]) -> No
 
 
 def reading() -> tuple[list[list[Path]], list[str]]:
-    """The files to read for the headline, the additional ones for the whole theorem, and the files of types that they name."""
+    """The files to read for the headline, those for the whole theorem and for libcdpatch that the earlier parts lack, and the files of types
+    that they name."""
     seen: set[Path] = set()
     types: set[str] = set()
     parts = []
-    for roots in HEADLINE, THEOREM:
+    for roots in HEADLINE, THEOREM, LIBRARY:
         order: list[Path] = []
         for root in roots:
             visit(TOP / root, seen, order, types)
@@ -202,31 +205,32 @@ def reading_table(order: Sequence[Path]) -> list[str]:
     return table(('File', 'Lines', 'What it has'), rows) + ['', f'{sum(map(lines_of, order))} lines in {len(order)} files.']
 
 
-def blocks(pattern: str) -> int:
-    """The number of blocks in these tables; each begins with a line `[NAME]`."""
-    return sum(line.startswith('[') for table in TOP.glob(pattern) for line in table.read_text(encoding='utf-8').splitlines())
+def wrong_definitions() -> int:
+    """The number of wrong definitions, each of which begins with a line `[NAME]`."""
+    return len(re.findall(r'(?m)^\[', (TOP / 'tests/wrong/definitions/definitions.wrong').read_text(encoding='utf-8')))
 
 
 def figures() -> list[str]:
-    (headline, rest), _ = reading()
+    counts = [str(sum(map(lines_of, order))) for order in reading()[0]]
     return table(('What', 'How many'), [
         ('crates', str(len(crates()))),
-        ('wrong bodies of functions that the prover refuses (`crates/*/must-fail` and `wrong-bodies`)',
-         str(len(list(TOP.glob('crates/*/must-fail/*.edit'))) + blocks('crates/*/wrong-bodies/*.edits'))),
-        ('wrong definitions that a worked case refuses (`tests/wrong/definitions`)', str(blocks('tests/wrong/definitions/*.wrong'))),
-        ('lines of definitions to read for the headline of `apply`', str(sum(map(lines_of, headline)))),
-        ('more lines for the whole theorem', str(sum(map(lines_of, rest)))),
+        ('wrong bodies of functions that the prover refuses (`crates/*/must-fail`)', str(len(list(TOP.glob('crates/*/must-fail/*.edit'))))),
+        ('wrong definitions that a worked case refuses (`tests/wrong/definitions`)', str(wrong_definitions())),
+        ('lines of definitions to read for the headline of `apply`', counts[0]),
+        ('more lines for the whole theorem', counts[1]),
+        ('more lines for libcdpatch', counts[2]),
     ])
 
 
 def audit_page() -> list[str]:
     """The files to read in order to know what is promised, each after those that it uses."""
-    (headline, rest), types = reading()
+    (headline, rest, library), types = reading()
     return ['# What to read', '', 'docs/TRUST.md says what the theorem is. `make contracts` prints what each crate promises.', *figures(),
             '', '## For the headline of `apply`', '', f'Its contract is in `{HEADLINE[0]}`.', *reading_table(headline),
             '', '## For the whole theorem', '', f'It is the contract of `run_on_files` in `{THEOREM[0]}`, and adds these.',
             *reading_table(rest),
-            '', '## Types and constants of the code that both name', '', *(f'- `{name}`' for name in types), '',
+            '', '## For libcdpatch', '', 'The contracts of its calls, and these definitions besides.', *reading_table(library),
+            '', '## Types and constants of the code that these name', '', *(f'- `{name}`' for name in types), '',
             "They also use the terms of the toolchain's `std` for lists, bits, numbers and text, and those of its `clap` for the parser."]
 
 

@@ -5,7 +5,7 @@ import re
 from pathlib import Path
 
 TOP = Path(__file__).resolve().parents[1]
-FILES = ('README.md', 'crates/cd_args/src/help.rt', 'crates/cd_c/src/version.rt', 'crates/cd_c/wrong-bodies/version.edits', 'include/cdpatch.h',
+FILES = ('README.md', 'crates/cd_args/src/help.rt', 'crates/cd_c/src/version.rt', 'include/cdpatch.h',
          'man/cdpatch.1', 'man/cdscript.1', 'man/libcdpatch.3', 'python/cdpatch/__init__.py', 'web/npm/cdpatch.ts')
 # What is before the version in these files. A version after other words, such as 'a line of version 1.3.0', stays.
 BEFORE = ('cdpatch ', 'version is ', 'CDPATCH_VERSION "', "__version__ = '", "for example '", 'CDPATCH_VERSION_NUMBER ', 'VERSION: u32 = ',

@@ -16,7 +16,7 @@ import contracts  # noqa: E402
 STD = {'Fail': 'std::test::Fail', 'io': 'std::io', 'u8x32': 'std::simd::u8x32'}
 # The result of a test, and the traits whose methods examples call.
 ALWAYS = {'Fail', 'Host', 'Sink', 'Source'}
-UNUSED = shutil.ignore_patterns('incremental', 'proofs', 'must-fail', 'wrong-bodies')
+UNUSED = shutil.ignore_patterns('incremental', 'proofs', 'must-fail')
 
 
 def examples(crate: str) -> Iterator[tuple[str, list[str]]]:

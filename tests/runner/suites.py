@@ -113,7 +113,7 @@ def types(it: Suite) -> None:
         return
     tools = [TOP / 'tools' / f'{name}.py'
              for name in ('contracts', 'frequencies', 'header', 'options', 'pack', 'pages', 'pairs', 'retarget', 'strip', 'weight')]
-    it.command('the types of the tools', [*MYPY, *tools, TESTS / 'wrong/bodies.py', TESTS / 'wrong/mutants.py'], MYPYPATH=TOP / 'tools')
+    it.command('the types of the tools', [*MYPY, *tools, TESTS / 'wrong/definitions/edits.py', TESTS / 'wrong/mutants.py'], MYPYPATH=TOP / 'tools')
     it.command('the types of tests/run', [*MYPY, TESTS / 'run', TESTS / 'runner'], MYPYPATH=TESTS / 'runner')
     it.command('the types of the tests of the page', ['mypy', '--cache-dir', '/dev/null', '--config-file', TESTS / 'page/mypy.ini', TESTS / 'page'],
                MYPYPATH=f'{TOP / "tools"}:{TESTS / "lib"}:{TESTS / "page"}')
@@ -137,7 +137,7 @@ GROUPS = {
     'page': ['browsers', 'page_in_node', 'hostile', 'growth'],
     'process': ['program', 'images', 'faults', 'memory', 'system', 'random_faults'],
     'pages': ['examples', 'help', 'manual', 'messages', 'against_sources', 'rustdoc', 'sources', 'installing', 'release', 'completions', 'terminals'],
-    'tools': ['pack', 'fit', 'forms', 'types', 'runner', 'bodies', 'bare'],
+    'tools': ['pack', 'fit', 'forms', 'types', 'runner', 'bare'],
 }
 modules = script('modules/run')
 pack = script('tools/pack.sh', 'refusals', 'command', 'page', 'pairs', 'two_builds')
@@ -152,5 +152,5 @@ SUITES: dict[str, Callable[[Suite], None]] = {
     'modules': modules, 'python': python, 'pack': pack, 'faults': script('process/faults.sh'), 'model': model,
     'memory': script('process/memory.sh'), 'images': script('process/images.sh'), 'system': script('process/system.sh'),
     **{name: script('pages/run', name) for name in GROUPS['pages'] if name not in ('release', 'examples')},
-    'random_faults': random_faults, 'program': script('process/program.sh'), 'bodies': script('tools/bodies.sh'),
+    'random_faults': random_faults, 'program': script('process/program.sh'),
 }

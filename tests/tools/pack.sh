@@ -272,7 +272,7 @@ test_pairs() {
 
 typed_tools() {
     mypy --strict --cache-dir=types "$top"/tools/{contracts,frequencies,header,options,pack,pages,pairs,retarget,strip}.py \
-        "$tests/wrong/bodies.py" > log || { cat log; false; }
+        "$tests/wrong/definitions/edits.py" > log || { cat log; false; }
 }
 
 # lint DIRECTORY WORD..: runs eslint there. If node is not Debian's, Debian's eslint finds its parts by NODE_PATH.

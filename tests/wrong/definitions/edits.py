@@ -1,16 +1,30 @@
 """Reads wrong definitions: `edits.py` prints their names, and `edits.py NAME CRATES` makes one in a copy of the crates. In definitions.wrong
-a block has, after each line `crate: NAME`, the lines of an edit as those in `must-fail`, which rt reads."""
+a block begins with a line `[NAME]`, and has, after each line `crate: NAME`, the lines of an edit as those in `must-fail`, which rt reads."""
+
+from __future__ import annotations
 
 import re
+import shutil
 import sys
+from importlib.machinery import SourceFileLoader
+from importlib.util import module_from_spec, spec_from_loader
 from pathlib import Path
+from typing import Any
 
-sys.path.append(str(Path(__file__).resolve().parents[1]))
-from bodies import rt  # noqa: E402
-from tables import blocks  # noqa: E402
+
+def module_of_rt() -> Any:
+    rt = Path(shutil.which('rt') or sys.exit('There is no rt on the path.')).resolve()
+    sys.path.insert(0, str(rt.parent))
+    loader = SourceFileLoader('rt_command', str(rt))
+    spec = spec_from_loader(loader.name, loader)
+    assert spec
+    module = module_from_spec(spec)
+    loader.exec_module(module)
+    return module
 
 
 def make(text: str, crates: Path) -> None:
+    rt = module_of_rt()
     for crate, edit in re.findall(r'(?ms)^crate: (\w+)\n(.*?)(?=^crate: |\Z)', text):
         texts, why = rt.edited(edit, str(crates / crate))
         if why:
@@ -20,7 +34,8 @@ def make(text: str, crates: Path) -> None:
 
 
 def main(names: list[str]) -> None:
-    found = {it.name: it.text for it in blocks(Path(__file__).with_name('definitions.wrong'))}
+    text = Path(__file__).with_name('definitions.wrong').read_text(encoding='utf-8')
+    found = dict(re.findall(r'(?ms)^\[(\S+)\]\n(.*?)(?=^\[|\Z)', text))
     if names:
         make(found[names[0]], Path(names[1]))
     else:
