@@ -199,3 +199,13 @@ test('a large list is read in bounded memory, and a longer one is refused by its
     const { status, stderr } = spawnSync(process.execPath, [command, 'replace', 'image', '--list', 'rows'], { cwd: room, encoding: 'utf8' });
     assert.deepEqual([status, stderr.split('\n').slice(-2)[0]], [2, 'cdscript: rows has 268435457 bytes, but a list may have at most 268435456']);
 }));
+
+test('a script with more patches than cdpatch accepts is reported with their number, before the rows are fitted', () => inDirectory(async room => {
+    writeImage(room, ...PLACES);
+    const said = 'cdscript: the script will have about 65,536 patches, and cdpatch accepts 65,535 at most: it will need cdscript apply --long';
+    const rows = Array.from({ length: 65536 }, (_, i) => `99\t${i}\tア\tx`);
+    const done = await listed(room, 'block\toffset\ttext\tnew', rows, '--encoding', 'CP932');
+    assert.deepEqual([done.status, done.errors.split('\n')[0]], [2, said]);
+    const fewer = await listed(room, 'block\toffset\ttext\tnew', [...rows.slice(1), rows[1]], '--encoding', 'CP932');
+    assert.equal(fewer.errors.includes('patches'), false);
+}));

@@ -183,6 +183,18 @@ test('texts that do not fit name the file and the missing bytes, and others stay
         long.filter(row => row.new !== '' && !left.some(({ text }) => text.number === row.number))), []);
 });
 
+test('a text in place is one patch, and the number of patches is known before the script is made', async () => {
+    const { opened, rows, pointers } = await prepared(gameNamed('16 bits from the file'));
+    const news = rows.filter(row => row.new !== '');
+    const counts = [];
+    const counted = count => counts.push(count);
+    // The old texts have these characters too, so not all of their bytes change.
+    const inPlace = news.map(row => ({ ...row, new: row.text.replace(/。/g, '、') })).filter(row => row.new !== row.text);
+    const { script: short } = await moved(opened, inPlace, pointers, { counted });
+    const { script: long } = await moved(opened, news, pointers, { counted });
+    assert.deepEqual([short.patches, counts], [inPlace.length, [short.patches, long.patches]]);
+});
+
 test('a text goes to the free end of the last sector, and the directory has the new length', async () => {
     const game = gameNamed('32-bit addresses in records');
     const { reader, opened, rows, pointers } = await prepared(game);

@@ -3,6 +3,7 @@
 import { PieceCutter, wholeOf } from '../core/bytes.js';
 import { SEARCHED, encodingOf, linesLeftOut, tableInTurns, tableTextOf, withEnd, type Encoding } from '../core/encodings/views.js';
 import { tablesOfList } from '../core/pointers/views.js';
+import { MOST_PATCHES } from '../core/module/index.js';
 import {
     checkLists, findText, importIntoFile, importMoving, importTable, openPlainFile, type ImportedTable, type OpenedTrack,
 } from '../core/tasks/index.js';
@@ -112,10 +113,18 @@ async function importedMoving(job: Job, opened: OpenedTrack, names: string[], po
     const [{ reader }] = await filesNamed(job, [pointers]);
     const options = await importOptions(job, names);
     const isKept = ({ number }: { number: number }) => keep.includes(number);
-    const made = await importMoving(job, opened, { ...options, tables: await tablesOfList(reader), isKept }, job.watch);
+    const tables = await tablesOfList(reader);
+    const made = await importMoving(job, opened, { ...options, tables, isKept, counted: countedBy(job) }, job.watch);
     for (const remarks of [made.moved, made.few, made.sharing]) sayOfRuns(job, remarks, it => sentenceOf(it));
     job.say(`texts moved ${made.moved.length}`);
     return made;
+}
+
+/** A function that reports a number of patches if cdpatch does not accept as many. */
+function countedBy(job: Job) {
+    return (patches: number) => {
+        if (patches > MOST_PATCHES) job.say(sentenceOf({ code: 'script/many', facts: { patches, most: MOST_PATCHES } }));
+    };
 }
 
 /** @param names of the lists */
@@ -123,7 +132,8 @@ export async function replaceListJob(job: Job, names: string[]) {
     const target = await job.target();
     const opened = await openTrackOf(job, job.names[0]);
     const { pointers } = job.options;
-    const { script, ...made } = pointers === undefined ? await importTable(job, opened, await importOptions(job, names))
+    const options = async () => ({ ...await importOptions(job, names), counted: countedBy(job) });
+    const { script, ...made } = pointers === undefined ? await importTable(job, opened, await options())
         : await importedMoving(job, opened, names, pointers);
     sayOfLists(job, made, 'script');
     if (script === null) throw ownFault('no row fits, so no script was written');

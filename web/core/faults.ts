@@ -117,6 +117,7 @@ export interface Facts {
     'script/conflict': {};
     'script/too-large': { most: number };
     'script/full': { most: number };
+    'script/many': { patches: number; most: number };
     'script/wrong-sector': { block: number };
     /** Sectors of an image that a script cannot produce, all for one reason, and the most runs of them that are listed. */
     'script/left': { runs: LeftRun[]; image: string; most?: number };

@@ -255,6 +255,8 @@ export const ENGLISH: Sentences = {
     'script/conflict': () => 'the patches conflict, so no script is written',
     'script/too-large': ({ most }) => `the script would have more than ${most} bytes: too much differs`,
     'script/full': ({ most }) => `the script would have more than ${most.toLocaleString('en')} patches`,
+    'script/many': ({ patches, most }) => `the script will have about ${patches.toLocaleString('en')} patches, and cdpatch accepts `
+        + `${most.toLocaleString('en')} at most: it will need cdscript apply --long`,
     'script/wrong-sector': ({ block }) => `the script for block ${block} would not give the right sector, so it is not written`,
     'script/left': leftClause,
 

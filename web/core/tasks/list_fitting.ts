@@ -65,17 +65,18 @@ function assertKnown(name: string) {
 
 /**
  * Fits the new texts of lists in a place. Throws a Fault if the lists have no row with a new text or cannot be read, or `cancelled`.
- * @param options `isAlso` selects rows without a new text
+ * @param options `isAlso` selects rows without a new text; `counted` receives the number of places with new texts before they are fitted
  * @param watch receives the number of rows
  */
-export async function fittedLists(lists: DiscFile[], place: ListPlace, options: RowEncodings & { isAlso?: (row: ListRow) => boolean },
-    watch: Watch = {}): Promise<FittedLists> {
+export async function fittedLists(lists: DiscFile[], place: ListPlace, options: RowEncodings & { isAlso?: (row: ListRow) => boolean,
+    counted?: (places: number) => void }, watch: Watch = {}): Promise<FittedLists> {
     const { rows, fuzzy, glyphs } = await rowsOfLists(lists, options.isAlso, watch.signal);
     const isNew = ({ fresh, fault }: ListRow) => fresh !== '' || fault !== null;
     const fresh = rows.filter(isNew);
-    const fitted = await fittedRows(fresh, place, options, watch);
     const keyOf = ({ block, offset, isInFile }: ListRow) => `${isInFile} ${block} ${offset}`;
     const known = new Set(fresh.map(keyOf));
+    options.counted?.(known.size);
+    const fitted = await fittedRows(fresh, place, options, watch);
     const others = rows.filter(row => !isNew(row) && !known.has(keyOf(row)));
     return { ...fitted, fuzzy, glyphs: [...glyphs, ...fitted.glyphs], others };
 }

@@ -117,9 +117,10 @@ export type FreshOf = (listed: ListedText) => string | Promise<string>;
 export type RowOptions = RowEncodings & { fill?: Filler, earlier?: EarlierTexts };
 /**
  * The files with the lists, which rows without a new text are read too, and whether a script is created from the rows that fit if others do
- * not.
+ * not. `counted` receives the number of patches before the script is made: of texts in place before they are fitted.
  */
-export type ImportOptions = RowOptions & { lists: DiscFile[], isAlso?: (row: ListRow) => boolean, partial: boolean };
+export type ImportOptions = RowOptions & { lists: DiscFile[], isAlso?: (row: ListRow) => boolean, partial: boolean,
+    counted?: (patches: number) => void };
 /** The finished script, null if no row fits or some do not and all are needed; and the bytes of the rows without a new text. */
 export type ImportedTable = FittedLists & { script: Script | null, empty: UserRange[] };
 

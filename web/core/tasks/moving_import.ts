@@ -72,12 +72,12 @@ class MovingRows {
         const { engine: { calls }, options: { fill } } = this;
         const claim = mayMove ? this.claimByScript() : () => 0;
         return placeInImage(part, fill, async (row, window, old, bytes) => {
-            const lines = await replaceBytes(calls, window, row, old, bytes, true);
+            this.parts.push(await replaceBytes(calls, window, row, old, bytes, true));
             const spot = this.files.spotOf(row);
-            if (spot === null) return this.parts.push(lines);
+            if (spot === null) return;
             const { file, at } = spot;
-            this.fresh.of(file).bytes.set(bytes, at);
-            return this.inPlace.push({ file, first: at, after: at + old.length });
+            this.fresh.note(file, at, bytes);
+            this.inPlace.push({ file, first: at, after: at + old.length });
         }, async (row, found, bytes) => {
             const { known, room, size, encoding } = found;
             const claimed = await claim(row, found, bytes);
@@ -226,9 +226,9 @@ class MovingRows {
         }
         if (volume === null) return;
         this.reportSharing(volume);
-        const { earlier } = this.options;
+        const { earlier, counted } = this.options;
         const isKept = earlier && ((range: UserRange) => earlier.lines.hasStaying(range));
-        await pushFreshFiles(this.engine.calls, part, { names: volume, isKept }, this.fresh, this.parts, signal);
+        await pushFreshFiles(this.engine.calls, part, { names: volume, isKept, counted }, this.fresh, this.parts, signal);
     }
 
     reportSharing(names: VolumeNames) {

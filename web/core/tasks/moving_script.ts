@@ -4,7 +4,7 @@ import { wholeOf } from '../bytes.js';
 import type { OrderedImage } from '../disc/index.js';
 import { Fault, newBytes } from '../faults.js';
 import { filesOf, readerOfFile, wholeFile } from '../iso/index.js';
-import type { Calls } from '../module/index.js';
+import { PATCH_SIZE, type Calls } from '../module/index.js';
 import { numberFor, putNumber, storedAt, targetOf, type Span } from '../pointers/index.js';
 import { pieceReader, sliceOf } from '../readers/index.js';
 import type { Script, ScriptParts, UserRange } from '../script/index.js';
@@ -132,19 +132,44 @@ const COMPARED_AT_ONCE = 1 << 16;
 /** The byte that fills ranges that no text has any more. */
 const FILLER = 0x00;
 
+/** The ranges of texts that move, each with those directly behind it; and of the other new texts, each by itself. */
+function runsOf(places: TextLayout['places']) {
+    const runs: Span[] = [];
+    const spans = [...places].map(([{ first: old, bytes, rows }, first]) =>
+        ({ first, after: first + bytes.length, isMoved: first !== old, isNew: rows.length > 0 }));
+    let isBeforeMoved = false;
+    for (const { first, after, isMoved, isNew } of spans.sort((a, b) => a.first - b.first)) {
+        const last = runs[runs.length - 1];
+        if (isMoved && isBeforeMoved && first - last.after <= JOINED) last.after = Math.max(last.after, after);
+        else if (isMoved || isNew) runs.push({ first, after });
+        isBeforeMoved = isMoved;
+    }
+    return runs;
+}
+
 /** The new bytes of files. */
 export class FreshFiles {
-    /** The bytes of the sectors, and the new size of the file. */
-    files = new Map<PointedFile, { bytes: Uint8Array, size: number }>();
+    /**
+     * The bytes of the sectors, and the new size of the file; the ranges that lines write already; and those whose differences are written
+     * together.
+     */
+    files = new Map<PointedFile, { bytes: Uint8Array, size: number, written: Span[], runs: Span[] }>();
 
     of(file: PointedFile) {
         const known = this.files.get(file);
         if (known !== undefined) return known;
         const bytes = newBytes(file.bytes.length);
         bytes.set(file.bytes);
-        const made = { bytes, size: file.size };
+        const made = { bytes, size: file.size, written: [], runs: [] };
         this.files.set(file, made);
         return made;
+    }
+
+    /** Notes bytes that a line writes already. */
+    note(file: PointedFile, at: number, bytes: Uint8Array) {
+        const own = this.of(file);
+        own.bytes.set(bytes, at);
+        own.written.push({ first: at, after: at + bytes.length });
     }
 
     /**
@@ -154,6 +179,7 @@ export class FreshFiles {
     async write(file: PointedFile, { places, left, end: size }: TextLayout, end: number, signal?: Signal) {
         const own = this.of(file);
         own.size = Math.max(own.size, size);
+        own.runs.push(...runsOf(places));
         for (const { first, after } of left) own.bytes.fill(end || FILLER, first, after);
         for (const [text, place] of places) {
             if (isTurnDue()) await letOthersIn(signal);
@@ -166,21 +192,50 @@ export class FreshFiles {
     }
 }
 
+/** Finds the ranges in which places are. The places have to rise, and the ranges must not overlap. */
+class RisingSpans {
+    spans;
+    index = 0;
+
+    constructor(spans: Span[]) {
+        this.spans = [...spans].sort((a, b) => a.first - b.first);
+    }
+
+    /** The range with a place, or null. */
+    around(place: number) {
+        const { spans } = this;
+        while (this.index < spans.length && spans[this.index].after <= place) this.index += 1;
+        return this.index < spans.length && spans[this.index].first <= place ? spans[this.index] : null;
+    }
+
+    /** The end of the last range before the last place. */
+    get passed() {
+        return this.index > 0 ? this.spans[this.index - 1].after : 0;
+    }
+}
+
 /**
- * The ranges of bytes that differ. Those that are close together are joined.
+ * The ranges of bytes that differ, without those that lines write already. All differences of a run are in one, and others that are close
+ * together are joined.
  * @param fresh as many bytes
  * @param mayJoin whether the equal bytes of a range may be between joined ones
  */
-async function differingSpans(old: Uint8Array, fresh: Uint8Array, mayJoin: (first: number, after: number) => boolean, signal?: Signal) {
+async function differingSpans(old: Uint8Array, { bytes: fresh, ...ranges }: { bytes: Uint8Array, written: Span[], runs: Span[] },
+    mayJoin: (first: number, after: number) => boolean, signal?: Signal) {
     const spans: Span[] = [];
+    const [written, runs] = [new RisingSpans(ranges.written), new RisingSpans(ranges.runs)];
+    let run = null as Span | null;
     for (let from = 0; from < old.length; from += COMPARED_AT_ONCE) {
         if (isTurnDue()) await letOthersIn(signal);
         const end = Math.min(from + COMPARED_AT_ONCE, old.length);
         for (let at = from; at < end; at++) {
-            if (old[at] === fresh[at]) continue;
+            if (old[at] === fresh[at] || written.around(at) !== null) continue;
             const last = spans[spans.length - 1];
-            if (last !== undefined && at - last.after <= JOINED && mayJoin(last.after, at)) last.after = at + 1;
+            const own = runs.around(at);
+            const isFree = last !== undefined && own === null && run === null && written.passed <= last.after;
+            if ((own !== null && own === run) || (isFree && at - last.after <= JOINED && mayJoin(last.after, at))) last.after = at + 1;
             else spans.push({ first: at, after: at + 1 });
+            run = own;
         }
     }
     return spans;
@@ -189,15 +244,22 @@ async function differingSpans(old: Uint8Array, fresh: Uint8Array, mayJoin: (firs
 /**
  * Adds the lines that give files their new bytes and sizes. Throws a Fault if a sector is not consistent.
  * @param image whose reader may read ahead
- * @param options the names of the volume, and whether other lines write in a range, which is then not written again
+ * @param options the names of the volume; whether other lines write in a range, which is then not written again; and a function that
+ *     receives the number of patches before the lines are made
  */
-export async function pushFreshFiles(calls: Calls, image: OrderedImage,
-    { names, isKept = () => false }: { names: VolumeNames, isKept?: (range: UserRange) => boolean }, { files }: FreshFiles,
-    parts: ScriptParts, signal?: Signal) {
-    for (const [{ file, bytes, size, placeOf }, fresh] of files) {
+export async function pushFreshFiles(calls: Calls, image: OrderedImage, { names, isKept = () => false, counted }: { names: VolumeNames,
+    isKept?: (range: UserRange) => boolean, counted?: (patches: number) => void }, { files }: FreshFiles, parts: ScriptParts,
+    signal?: Signal) {
+    const changes: { file: PointedFile, fresh: { bytes: Uint8Array, size: number }, spans: Span[] }[] = [];
+    for (const [file, fresh] of files) {
         const mayJoin = (first: number, after: number) =>
-            first === after || !isKept({ ...placeOf(first), size: after - first });
-        for (const { first, after } of await differingSpans(bytes, fresh.bytes, mayJoin, signal)) {
+            first === after || !isKept({ ...file.placeOf(first), size: after - first });
+        changes.push({ file, fresh, spans: await differingSpans(file.bytes, fresh, mayJoin, signal) });
+    }
+    const sizes = changes.flatMap(({ spans }) => spans.map(({ first, after }) => after - first));
+    counted?.(parts.patches + sizes.reduce((sum, size) => sum + Math.ceil(size / PATCH_SIZE), 0));
+    for (const { file: { file, bytes, size, placeOf }, fresh, spans } of changes) {
+        for (const { first, after } of spans) {
             await letOthersIn(signal);
             const [old, own] = [bytes, fresh.bytes].map(it => it.subarray(first, after));
             parts.push(await replaceBytes(calls, image, placeOf(first), old, own, true));
