@@ -171,16 +171,19 @@ test('rows that are kept stay in place, and have to fit there', async () => {
     assert.equal((await moved(opened, rows, pointers, { isKept: row => row.number === number, partial: false })).script, null);
 });
 
-test('texts that do not fit name the file and the missing bytes, and others stay in place', async () => {
-    const game = gameNamed('32-bit addresses in records');
-    const { reader, opened, rows, pointers } = await prepared(game);
-    const long = rows.map(row => ({ ...row, new: row.new === '' ? '' : `${row.new}${'x'.repeat(row.number === 3 ? 1 : 200)}` }));
-    const { left, moved: movedRows, script } = await moved(opened, long, pointers);
-    assert.equal(movedRows.length, 0);
-    const [{ why }] = left;
-    assert.deepEqual([why.code, why.facts.path, why.facts.missing > 1000], ['pointers/no-room', '/TEXT.BIN', true]);
-    assert.deepEqual(script === null ? [] : misread(game, await filesAfter(reader, opened, script),
-        long.filter(row => row.new !== '' && !left.some(({ text }) => text.number === row.number))), []);
+test('the longest texts are left out if not all fit, with the missing bytes, and all others go in', async () => {
+    for (const name of ['32-bit addresses in records', '16 bits from the file']) {
+        const game = gameNamed(name);
+        const { reader, opened, rows, pointers } = await prepared(game);
+        const news = rows.map(row => ({ ...row, new: row.new === '' ? '' : `${row.new}${'x'.repeat(37 * row.number % 60)}` }));
+        const { left, moved: { length: movedCount }, script } = await moved(opened, news, pointers);
+        const isLeft = row => left.some(({ text }) => text.number === row.number);
+        const growthOf = row => bytesOfCell(row.new).length - row.bytes;
+        const written = news.filter(row => row.new !== '' && !isLeft(row));
+        assert.ok(left.length > 2 && left.every(({ why: { code, facts } }) => code === 'pointers/no-room' && facts.path === '/TEXT.BIN' && facts.missing > 50));
+        assert.ok(movedCount > 5 && Math.max(...written.map(growthOf)) <= Math.min(...news.filter(isLeft).map(growthOf)) + 3, name);
+        assert.deepEqual(misread(game, await filesAfter(reader, opened, script), written), []);
+    }
 });
 
 test('a text in place is one patch, and the number of patches is known before the script is made', async () => {

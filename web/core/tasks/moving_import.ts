@@ -2,7 +2,7 @@
 
 import { fillerOf } from '../encodings/index.js';
 import { Fault, failedBy, remark, type Remark } from '../faults.js';
-import { layOut, type ListedTable, type Span } from '../pointers/index.js';
+import { layOut, type ListedTable, type Movable, type Span } from '../pointers/index.js';
 import { ScriptParts, type Script, type UserRange } from '../script/index.js';
 import { sortedInTurns } from '../turns.js';
 import {
@@ -11,7 +11,7 @@ import {
 import { claimByScript, rangeOfRow } from './list_patched.js';
 import type { ListRow } from './list_rows.js';
 import type { ImportOptions } from './list_tables.js';
-import { OrderedTexts, laidInOrder } from './moving_order.js';
+import { OrderedTexts, laidInOrder, placesInOrder, type Piece, type Segment } from './moving_order.js';
 import { openPointedFiles, type PointedFile, type PointedFiles } from './moving_pointers.js';
 import { FreshFiles, checkMoved, pushFreshFiles, type FileLayout } from './moving_script.js';
 import { MovedTexts, type MovedText, type PointedRow } from './moving_texts.js';
@@ -45,6 +45,24 @@ function whyNotSized({ fresh, known, encoding }: PointedRow, fill: ImportOptions
     const missing = known - fresh.length;
     return missing > 0 && filler !== null ? remark('replace/filler', { missing, filler })
         : remark('replace/no-room', { name: encoding.name, size: fresh.length, room: known });
+}
+
+/**
+ * The fewest texts without which the others have room: those that grow most. Null if the others have none even without all that grow.
+ * @param growthOf how many bytes a text has more than the old one
+ * @param missingWithout how many bytes are missing without some texts
+ */
+async function longestTexts<T extends MovedText>(texts: T[], growthOf: (text: T) => number,
+    missingWithout: (omitted: Set<T>) => number | Promise<number>) {
+    const growing = texts.filter(it => it.rows.length > 0 && growthOf(it) > 0).sort((a, b) => growthOf(b) - growthOf(a));
+    if (await missingWithout(new Set(growing)) > 0) return null;
+    let [fewest, fitting] = [0, growing.length];
+    while (fewest < fitting) {
+        const count = (fewest + fitting) >> 1;
+        if (await missingWithout(new Set(growing.slice(0, count))) > 0) fewest = count + 1;
+        else fitting = count;
+    }
+    return new Set(growing.slice(0, fitting));
 }
 
 /** The import of lists into a track, whose texts may move. */
@@ -151,9 +169,48 @@ class MovingRows {
         for (const { text, reason } of texts.staying) {
             await this.fitInPlace(place, text, insteadOfNoRoom(why => remark('pointers/stays', { reason, why })));
         }
-        const layout = await layOut(texts.movable, ordered.hasGrown ? { ...free, after: free.first } : free, this.watch.signal);
-        if (layout.missing === 0) this.layouts.push({ file, texts, layout });
-        else await this.leaveInPlace(place, file, texts.movable, layout.missing);
+        await this.layOutMixed(place, file, texts, ordered.hasGrown ? { ...free, after: free.first } : free);
+    }
+
+    /** Lays out texts without an order. If they do not fit, the longest ones are left out, and keep their places. */
+    async layOutMixed(place: ListPlace, file: PointedFile, { movable, end }: MovedTexts, free: Span) {
+        const laidWithout = async (omitted: Set<Movable & MovedText>) => {
+            const some = movable.filter(it => !omitted.has(it));
+            return { some, layout: await layOut(some, free, this.watch.signal) };
+        };
+        const { layout: { missing } } = await laidWithout(new Set());
+        const omitted = missing === 0 ? new Set<Movable & MovedText>() : await longestTexts(movable,
+            ({ first, after, bytes }) => bytes.length - (after - first), async it => (await laidWithout(it)).layout.missing);
+        if (omitted !== null) {
+            const { some, layout } = await laidWithout(omitted);
+            this.layouts.push({ file, texts: { movable: some, end }, layout });
+        }
+        await this.leaveInPlace(place, file, omitted === null ? movable : [...omitted], missing);
+    }
+
+    /**
+     * Lays out a segment. If its texts do not fit, the longest new ones are left out, and the old ones move instead. Returns the end of the
+     * last text, or null if the texts do not fit, but need no order.
+     * @param end the byte that ends the texts of the file
+     */
+    async layOutSegment(place: ListPlace, file: PointedFile, { pieces, limit, isLast, areAddresses }: Segment, end: number, free: Span) {
+        const last = isLast ? free.after : limit;
+        const { missing } = placesInOrder(pieces, last);
+        if (missing > 0 && areAddresses) return null;
+        const without = (omitted: Set<Piece>) =>
+            pieces.map(it => omitted.has(it) ? { ...it, bytes: it.old, rows: [], lengths: [], padding: null } : it);
+        const omitted = missing === 0 ? new Set<Piece>() : await longestTexts(pieces, ({ bytes, old }) => bytes.length - old.length,
+            it => placesInOrder(without(it), last).missing);
+        if (omitted === null) {
+            await this.leaveInPlace(place, file, pieces, missing);
+            return 0;
+        }
+        const movable = without(omitted);
+        const { places, left, end: after } = laidInOrder(movable, last);
+        this.layouts.push({ file, texts: { movable, end }, layout: { places, left, end: after > file.size ? after : 0 } });
+        const why = remark('pointers/no-room', { path: file.path, missing });
+        for (const { row } of [...omitted].flatMap(({ rows }) => rows)) this.left.push({ text: row, why });
+        return after;
     }
 
     /** Fits texts in place that have no room where they could move. `missing` is how many bytes of room are missing. */
@@ -174,19 +231,15 @@ class MovingRows {
         const { end, inBlocks, segments, staying } = texts;
         await texts.read(this.watch.signal);
         let hasGrown = false;
-        for (const { pieces, limit, isLast, areAddresses: areOfAddresses } of segments) {
-            const own = pieces.flatMap(it => it.rows);
-            const { missing, end: after, ...layout } = laidInOrder(pieces, isLast ? free.after : limit);
+        for (const segment of segments) {
+            const own = segment.pieces.flatMap(it => it.rows);
             if (own.every(hasRoom)) {
                 for (const text of own) await this.fitInPlace(place, text, why => why);
-            } else if (missing === 0) {
-                hasGrown = hasGrown || after > file.size;
-                this.layouts.push({ file, texts: { movable: pieces, end }, layout: { ...layout, end: after > file.size ? after : 0 } });
-            } else if (areOfAddresses) {
-                own.forEach(({ at }) => inBlocks.delete(at));
-            } else {
-                await this.leaveInPlace(place, file, pieces, missing);
+                continue;
             }
+            const after = await this.layOutSegment(place, file, segment, end, free);
+            if (after === null) own.forEach(({ at }) => inBlocks.delete(at));
+            else hasGrown = hasGrown || after > file.size;
         }
         for (const { text, reason } of staying) {
             const stays = (why: LeftRow['why']) => remark('pointers/stays', { reason, why });

@@ -59,12 +59,21 @@ function pad(piece: Piece, missing: number) {
 }
 
 /**
- * Lays out pieces in their order. As many as possible keep their places, since each piece that moves costs if a pointer to it is unknown.
+ * The places of pieces in their order. As many as possible keep their places, since each piece that moves costs if a pointer to it is
+ * unknown.
+ * @param limit where their room ends
+ */
+export function placesInOrder(pieces: Piece[], limit: number) {
+    const kept = placesFor(pieces, limit, true);
+    return kept.missing === 0 ? kept : placesFor(pieces, limit, false);
+}
+
+/**
+ * Lays out pieces in their order, and pads their texts.
  * @param limit where their room ends
  */
 export function laidInOrder(pieces: Piece[], limit: number) {
-    const kept = placesFor(pieces, limit, true);
-    const { places, align, end, missing } = kept.missing === 0 ? kept : placesFor(pieces, limit, false);
+    const { places, align, end, missing } = placesInOrder(pieces, limit);
     for (const [i, piece] of missing === 0 ? pieces.slice(0, -1).entries() : []) {
         const gap = places[i + 1] - places[i] - piece.bytes.length;
         if (gap >= align) pad(piece, gap);
@@ -76,10 +85,10 @@ export function laidInOrder(pieces: Piece[], limit: number) {
 
 /**
  * The bytes from a place to which pointers lead to the next such place: a text with everything behind it, such as texts that are not
- * listed, which moves with it. `isFixed` is whether it must not move, and `isOpen` whether it is fixed because its end was not found.
- * `padding` is the place in its bytes where its last new text may be padded, and the filler, or null.
+ * listed, which moves with it. `old` has its bytes without new texts. `isFixed` is whether it must not move, and `isOpen` whether it is
+ * fixed because its end was not found. `padding` is the place in its bytes where its last new text may be padded, and the filler, or null.
  */
-type Piece = MovedText & { isFixed: boolean, isOpen: boolean, padding: { at: number, filler: Uint8Array } | null };
+export type Piece = MovedText & { old: Uint8Array, isFixed: boolean, isOpen: boolean, padding: { at: number, filler: Uint8Array } | null };
 /** The range of a file that a new text replaces. */
 type RowChange = { from: number, to: number, text: PointedRow };
 /**
@@ -91,7 +100,7 @@ type FoundTexts = { starts: number[], changes: RowChange[], end: number, after: 
  * Pieces between two that must not move, and where their room ends. `isLast` is whether nothing but the end of the file limits it, and
  * `areAddresses` whether all pointers to them are addresses, which need no order.
  */
-type Segment = { pieces: Piece[], limit: number, isLast: boolean, areAddresses: boolean };
+export type Segment = { pieces: Piece[], limit: number, isLast: boolean, areAddresses: boolean };
 
 /** Filling at the end of a block ends at a multiple of this, or at something known, and has this many bytes at least. */
 const FILLED_UNIT = 2048;
@@ -202,7 +211,7 @@ export class OrderedTexts {
         const { file } = this;
         const bytes = new Uint8Array(0);
         const rows = this.rowsIn(first, next);
-        const fixed = { first, after: next, bytes, pointers, rows, lengths: [], padding: null, isFixed: true, isOpen: false };
+        const fixed = { first, after: next, bytes, old: bytes, pointers, rows, lengths: [], padding: null, isFixed: true, isOpen: false };
         if (behind === null && pointers.every(({ isEnd }) => isEnd) && (first >= next || this.rowFrom(first, file.size) < 0)) {
             return { ...fixed, after: first, rows: [], isFixed: !this.isFirmEnd(first, next) };
         }
@@ -214,7 +223,8 @@ export class OrderedTexts {
         const isDoubtful = found.isFixed || pointers.some(it => this.strange.has(it)) || this.isInRow(first)
             || file.isDoubtful(first, Math.max(start, first) + 1) || file.isStray(first, end) || file.hasPointer(first, after);
         const piece = { ...fixed, after, rows: this.rowsIn(first, after) };
-        return isKept || isDoubtful ? piece : this.changed({ ...piece, isFixed: false }, changes, end);
+        const old = file.bytes.slice(first, end);
+        return isKept || isDoubtful ? piece : this.changed({ ...piece, old, isFixed: false }, changes, end);
     }
 
     /**
@@ -249,7 +259,7 @@ export class OrderedTexts {
     /** A piece with its new bytes. `end` is where its last text ends. */
     changed(piece: Piece, changes: RowChange[], end: number): Piece {
         const { bytes } = this.file;
-        if (changes.length === 0) return { ...piece, bytes: bytes.slice(piece.first, end) };
+        if (changes.length === 0) return { ...piece, bytes: piece.old };
         if (!this.lengths.have(piece.pointers)) return this.joined(piece, changes, changes.map(({ text }) => text.fresh), end);
         const measured = this.measured(piece, changes, end);
         if (measured !== null) return { ...this.joined(piece, changes, [measured.fresh], end), lengths: measured.lengths, padding: null };
