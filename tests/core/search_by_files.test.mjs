@@ -68,6 +68,17 @@ function imageOf(user) {
     return { name: 'image', reader: readerOf(calls.encodeBlocks(0, sector)), base: 0, sectors: 1, order: undefined };
 }
 
+test('hits that are near one another share a read', async () => {
+    const { opened } = await openedDisc();
+    const { image } = await findText(engine, opened, { ...wanted, text: '0' });
+    let reads = 0;
+    const read = (...args) => (reads++, image.reader.read(...args));
+    const hits = Array.from({ length: 100 }, (_, i) => ({ block: 36 + Math.floor(i / 25), offset: 300 + 2 * i, size: 1 }));
+    const counted = { ...image, reader: { size: image.reader.size, read } };
+    const made = await replaceHits(engine, opened, { image: counted, encoding: encodingOf('hex'), hits, freshFor: () => Uint8Array.of(9) });
+    assert.deepEqual([made.left.length, linesOf(made).length, reads], [0, 100, 1]);
+});
+
 test('hits that overlap are not replaced both, and what is left is named', async () => {
     const image = imageOf(Uint8Array.from([7, 7, 7, 0, 7, 7]));
     const places = { image, encoding: encodingOf('hex'), hits: [hit(0, 0, 2), hit(0, 1, 2), hit(0, 4, 2)] };

@@ -4,10 +4,10 @@ import { firstAfter, joinedBytes, readBytes, sameBytes, type Reader } from '../b
 import type { DiscImage, OrderedImage } from '../disc/index.js';
 import { isSpaceIn, type Encoding } from '../encodings/index.js';
 import { Fault, newBytes, remark, type Remark } from '../faults.js';
-import { SIZE_FIELD, endOfExtent, type FileEntry, type VolumeFiles, type WholeFile } from '../iso/index.js';
+import { FileOrder, SIZE_FIELD, endOfExtent, type FileEntry, type VolumeFiles, type WholeFile } from '../iso/index.js';
 import { PATCH_SIZE, RECORD, RECORD_SIZE, SECTOR_KIND, SECTOR_SIZE, USER_SIZE, sectorCount, type Calls } from '../module/index.js';
 import type { Sharing } from '../pool/index.js';
-import { filledReader, sliceOf } from '../readers/index.js';
+import { ReadAhead, filledReader, sliceOf } from '../readers/index.js';
 import {
     LineList, ScriptParts, assertLeads, linesBetween, scriptForBase, type Left, type Lines, type Script, type UserRange,
 } from '../script/index.js';
@@ -328,6 +328,12 @@ export async function fittedEach<T>(texts: T[], placeOf: (text: T) => number, { 
     return left;
 }
 
+/** A reader for places in their order. Those that are near one another share a read: many short reads of a file are slow in a browser. */
+function nearReader(reader: Reader): Reader {
+    const ahead = new ReadAhead(reader);
+    return { size: reader.size, read: async (at, length) => (await ahead.bytesAt(at, length)).slice() };
+}
+
 /**
  * Creates the script that replaces the hits of a text, and fits the image; null if no hit can be replaced. Also returns the hits that are
  * left out, each with the reason: a hit may begin in the middle of a character, overlap the one before it, have no room for the text, or
@@ -339,11 +345,13 @@ export async function replaceHits({ calls }: Pick<Engine, 'calls'>, opened: Pick
     { image, encoding, hits, freshFor, inside = false }: Places & { freshFor: (size: number) => Uint8Array, inside?: boolean },
     watch: Watch = {}) {
     const parts = new ScriptParts();
+    const window = { ...image, reader: nearReader(image.reader) };
+    const near = { ...window, order: image.order && new FileOrder(window, image.order.runs) };
     const left = await fittedEach(hits, hit => bytesBefore(image, hit), watch, async (hit, before) => {
-        const { bytes, doubt } = await contextOf(image, encoding, hit, 0);
+        const { bytes, doubt } = await contextOf(near, encoding, hit, 0);
         if (before !== null) throw new Fault('replace/overlaps', {});
         if (doubt !== null && !inside) throw new Fault(doubt.code, doubt.facts);
-        parts.push(await replaceBytes(calls, image, hit, bytes, freshFor(hit.size)));
+        parts.push(await replaceBytes(calls, near, hit, bytes, freshFor(hit.size), true));
         return hit.size;
     });
     return { script: await fittingScript(calls, opened.image, parts), left };
