@@ -26,11 +26,11 @@ test('the version is that of the header', () => {
     assert.equal(calls.version(), header.match(/CDPATCH_VERSION "(.*)"/)[1]);
 });
 
-// The interfaces patch by steps, not by pieces.
-const BY_PIECES = /^cdpatch_(index_script|apply_entries|script_base|block|failure_line)$/;
+// Calls on an image in memory and on runs, which will go before the release.
+const OLDER = /^cdpatch_(list|audit|check|apply|run_begin|run_next)$/;
 
 test('each call of cdpatch.h that takes no memory has a method', () => {
-    const names = header.match(/\bcdpatch_\w+(?=\()/g).filter(name => !/^cdpatch_(check|apply)$/.test(name) && !BY_PIECES.test(name));
+    const names = header.match(/\bcdpatch_\w+(?=\()/g).filter(name => !OLDER.test(name));
     const files = ['out/web/core/module/calls.js', 'tests/core/calls.mjs'];
     const code = files.map(file => readFileSync(join(top, file), 'utf8')).join('');
     for (const name of names) assert.match(code, new RegExp(`\\b${name}\\b`));
@@ -99,6 +99,8 @@ test('addresses and their blocks', () => {
     for (const address of [[0, 0x60, 0], [0, 2, 0x75], [0, 2, 0x0A], [0xA0, 2, 0]]) {
         assert.equal(blockAt(calls, Uint8Array.from(address)), null);
     }
+    assert.equal(calls.block(Uint8Array.of(0, 1, 0x74)), null);
+    assert.throws(() => calls.block(Uint8Array.of(0, 2)), RangeError);
 });
 
 test('the arena grows, and is used again', () => {
@@ -126,14 +128,45 @@ test('what is lent stays as it is until it is given back, and is used again', ()
     own.giveBack(second);
     assert.equal(own.lend(1), first);
     const script = new TextEncoder().encode(`cdpatch 1\n#${'x'.repeat(1e6)}\n`);
-    own.runEnd(own.runBegin([script], 0, 0, 0));
+    own.jobEnd(own.jobBegin([script]));
     const grown = own.memory.length;
-    for (let i = 0; i < 20; i++) own.runEnd(own.runBegin([script], 0, 0, 0));
+    for (let i = 0; i < 20; i++) own.jobEnd(own.jobBegin([script]));
     assert.equal(own.memory.length, grown);
-    for (const base of [449850, -1, 2 ** 32]) assert.throws(() => own.runBegin([script], base, 0, 0), RangeError);
-    assert.throws(() => own.runBegin([script], 0, 0, 8), RangeError);
-    own.runEnd(own.runBegin([script], 449849, 0, 7));
+    for (const base of [449850, -1, 2 ** 32]) assert.throws(() => own.jobBegin([script], base), RangeError);
+    own.jobEnd(own.jobBegin([script], 449849, 5));
     assert.equal(own.memory.length, grown);
+});
+
+test('what a job does with sectors, and when it stops', () => {
+    const own = newCalls();
+    const place = own.lend(3 * SECTOR_SIZE);
+    own.memory.set(vectors.subarray(0, 3 * SECTOR_SIZE), place);
+    const script = new TextEncoder().encode('cdpatch 1\nset 1 2047 4142\nset 0 0 43\nset 2 2047 4142\nfill 9 0 1 44\n');
+    const job = own.jobBegin([script.subarray(0, 20), script.subarray(20)], 0, 0);
+    assert.deepEqual([0, 1, 2, 3].map(i => own.jobBlocks(job, i)), [[0, 1], [1, 3], [2, 4], [9, 10]]);
+    assert.deepEqual(own.jobLines(job).map(it => it.number), [3, 2, 4, 5]);
+    const ok = number => ({ number, result: records.RESULT.OK, block: 0, offset: 0 });
+    assert.deepEqual(own.jobApply(job, place, 2, 0, false), [ok(3)]);
+    assert.deepEqual([job.left, job.stop], [3, records.STOP.PIECE]);
+    assert.deepEqual(own.jobApply(job, place, 3, 0, false), [ok(2)]);
+    const { NO_BLOCK } = records.RESULT;
+    assert.deepEqual(own.jobApply(job, place, 3, 0, true), [{ ...ok(4), result: NO_BLOCK, block: 3 }, { ...ok(5), result: NO_BLOCK, block: 9 }]);
+    assert.deepEqual([job.left, job.stop], [0, records.STOP.ALL]);
+    for (const [i, at, byte] of [[0, 0, 0x43], [1, 2047, 0x41], [2, 0, 0x42]]) {
+        const sector = own.memory.slice(place + i * SECTOR_SIZE, place + (i + 1) * SECTOR_SIZE);
+        assert.ok(calls.isConsistent(sector) && userOf(sector, 0)[at] === byte);
+    }
+    own.jobEnd(job);
+    const many = own.jobBegin([new TextEncoder().encode(`cdpatch 1\n${'rebuild 0\n'.repeat(300)}`)]);
+    assert.equal(own.jobApply(many, place, 1, 0, false).length, 256);
+    assert.equal(many.stop, records.STOP.CAPACITY);
+    assert.equal(own.jobApply(many, place, 1, 0, false).length, 44);
+    const odd = own.jobBegin([script], 0, 8);
+    assert.throws(() => own.jobApply(odd, place, 3, 0, true), RangeError);
+    for (const [text, due] of [['cdpatch 1\nset 0 0 4\n', 'script line 2: '], [' '.repeat(records.MOST_SCRIPT_BYTES + 1), 'cdpatch: ']]) {
+        const refused = newCalls().jobBegin([new TextEncoder().encode(text)]);
+        assert.ok(decoded(refused.refusal).startsWith(due) && refused.left === 0, decoded(refused.refusal));
+    }
 });
 
 test('bytes of a wrong size, and what is no longer held, are refused', () => {

@@ -8,7 +8,7 @@ import { CHANGES, RAW, blocksOf, changedImage, countOf, patchedBy, sectorAt, sou
 
 const { SECOND_STATE, compareTrack, diffRange, differRange, findDifferences } = await core('tasks/scripts.js');
 const { ScriptParts } = await core('script/script_writer.js');
-const { MOST_SCRIPT_BYTES, RESULT, STATUS, STEP } = await core('module/records.js');
+const { MOST_SCRIPT_BYTES, RESULT } = await core('module/records.js');
 
 const BASE = 33;
 const SAID = ['bytes', 'run', 'whole', 'address', 'both', 'sound'];
@@ -286,17 +286,17 @@ test('sectors that lines for what differs make right are not surveyed', () => {
     const old = soundImage(dice, 300, BASE);
     const fresh = changedImage(dice, old, ['bytes', 'whole', 'address'], 1);
     const counted = image => {
-        const asked = { survey: 0, runBegin: 0 };
+        const asked = { survey: 0, jobBegin: 0 };
         const counting = Object.assign(Object.create(calls), Object.fromEntries(Object.keys(asked).map(name =>
-            [name, (...given) => { asked[name] += 1; return calls[name](...given); }])));
+            [name, function counted(...given) { asked[name] += 1; return calls[name].apply(this, given); }])));
         return { ...diffRange(counting, image, fresh, BASE), asked };
     };
     const { left, asked } = counted(old);
-    assert.deepEqual([left, asked], [[], { survey: 0, runBegin: 2 }]);
+    assert.deepEqual([left, asked], [[], { survey: 0, jobBegin: 2 }]);
     const hurt = old.slice();
     hurt[280 * RAW + 2100] ^= 1;
     const { patches, asked: more } = counted(hurt);
-    assert.deepEqual(more, { survey: 2, runBegin: 3 });
+    assert.deepEqual(more, { survey: 2, jobBegin: 3 });
     assert.ok(patches > 300);
 });
 
@@ -304,21 +304,19 @@ test('lines that the module does not take, or that give other sectors, are not g
     const dice = diceOf(13);
     const old = soundImage(dice, 6, BASE);
     const fresh = changedImage(dice, old, ['bytes'], 1);
-    const step = change => ({
-        runNext(run, done) {
-            return change(calls.runNext.call(this, run, done));
+    const apply = change => ({
+        jobApply(job, ...given) {
+            return change(calls.jobApply.call(this, job, ...given), job, ...given);
         },
     });
     const wrongs = [
-        step(it => ({ ...it, result: it.kind === STEP.LOG ? RESULT.DIFFERS : it.result, block: BASE + 9 })),
-        step(it => ({ ...it, status: STATUS.FAILED })),
-        step(it => ({ ...it, status: STATUS.FOUND })),
-        step(it => ({ ...it, at: it.kind === STEP.WRITE ? it.at + RAW : it.at })),
-        {
-            stepBytes(it) {
-                return it.kind === STEP.WRITE ? new Uint8Array(RAW) : calls.stepBytes.call(this, it);
-            },
-        },
+        apply(made => made.map(it => ({ ...it, result: RESULT.DIFFERS, block: BASE + 9 }))),
+        { jobBegin(...given) { return { ...calls.jobBegin.apply(this, given), refusal: new Uint8Array(1) }; } },
+        apply((made, job, place) => {
+            calls.memory[place] ^= 1;
+            return made;
+        }),
+        { jobApply: job => { job.left = 0; return []; } },
     ];
     for (const wrong of wrongs) {
         const broken = Object.assign(Object.create(calls), wrong);

@@ -8,7 +8,8 @@ import { recordOf } from './strangers.mjs';
 
 const { OpenedTrack, openTrack } = await core('tasks/index.js');
 const { openDisc } = await core('disc/disc.js');
-const { basesNamed, scriptForBase } = await core('script/language.js');
+const { scriptForBase } = await core('script/language.js');
+const { basesNamed } = await core('script/script.js');
 const { MOST_SCRIPT_BYTES } = await core('module/index.js');
 
 const USER = 2048;
@@ -51,7 +52,7 @@ test('a script is finished with the comment that says its base, which can make i
     const finished = scriptForBase(script, 7);
     const text = Buffer.concat(finished.pieces);
     assert.deepEqual([decoded(text), finished.size], ['cdpatch 2\n# base 7\nrebuild 7\n', text.length]);
-    assert.deepEqual(basesNamed(text), [{ line: 2, base: 7 }]);
+    assert.deepEqual(basesNamed(calls, text), [{ line: 2, base: 7 }]);
     assert.deepEqual([decoded(Buffer.concat(scriptForBase(script, 0).pieces)), scriptForBase(script, 0).size], ['cdpatch 2\nrebuild 7\n', 20]);
     for (const [size, long] of [[MOST_SCRIPT_BYTES - 9, false], [MOST_SCRIPT_BYTES - 8, true]]) {
         assert.equal(scriptForBase({ ...script, size }, 7).long, long);

@@ -5,7 +5,6 @@ import { test } from 'node:test';
 import { calls, core, decoded, diceOf, encoded, joinedPieces, newCalls, readerOf, sameBytes, someBytes, someImage } from './common.mjs';
 
 const { Refusal, readScript, Part, readLines } = await core('script/script.js');
-const { STEP } = await core('module/records.js');
 const { BETWEEN_WRITTEN, applyPatches, passPatched } = await core('script/patches.js');
 const { PieceKeeper, bytesOfPieces } = await core('bytes.js');
 const { ReadAhead, pieceReader } = await core('readers/index.js');
@@ -278,32 +277,21 @@ test('an image that shrinks is no shorter image', async () => {
     await assert.rejects(async () => { for await (const bytes of bytesOfPieces(shrunk, [{ from: 0, to: image.length }])) assert.ok(bytes); }, ended);
 });
 
-test('of a run of known size fewer bytes are a failed read, and a step that failed ends each run', () => {
-    const script = encoded('cdpatch 1\nset 5 0 41\n');
-    /** The log and the status of a run. The first step of this kind reports that `moved` bytes were moved. */
-    const ended = (size, kind, moved) => {
-        const run = calls.runBegin([script], 0, size, 0);
-        let [step, log, is] = [calls.runNext(run, 0), '', false];
-        while (step.kind !== STEP.END) {
-            if (step.kind === STEP.LOG) log += decoded(calls.stepBytes(step));
-            const done = step.kind === kind && !is ? moved(step.size) : step.size;
-            is ||= step.kind === kind;
-            step = calls.runNext(run, done);
-        }
-        calls.runEnd(run);
-        return { log, status: step.status };
-    };
-    const line = 'cdpatch: reading the image failed\n';
-    for (const kind of [STEP.READ, STEP.COPY]) {
-        assert.deepEqual(ended(9 * 2352, kind, size => size - 1), { log: line, status: 2 });
-        assert.deepEqual(ended(null, kind, size => size - 1), { log: 'line 2: refused: no block 5\napplied 0 refused 1\n', status: 1 });
-    }
-    // -1 is CDPATCH_MOVE_FAILED.
-    for (const size of [9 * 2352, null]) {
-        for (const kind of [STEP.READ, STEP.COPY, STEP.WRITE, STEP.LOG]) {
-            const { log, status } = ended(size, kind, () => -1);
-            assert.deepEqual([status, log.includes('cdpatch:')], [2, false]);
-        }
+test('an image that is too long has no outcome of a patch that needs what is too much', async () => {
+    const size = (MOST_SECTORS + 2) * 2352;
+    const line = 'cdpatch: the image has more than 1000000 sectors\n';
+    const blank = block => `refused: block ${block} is not mode 1\n`;
+    const sector = calls.encode(calls.address(0), new Uint8Array(2048));
+    for (const [lines, kept, due] of [
+        ['', 0, line], ['set 999999 2047 41\nset 1000000 0 42\n', 1, `line 2: applied\n${line}`],
+        ['rebuild 999998\nset 999999 2047 4142\n', 0, `line 2: ${blank(999998)}${line}`],
+    ]) {
+        const reader = { size, read: async (at, length) => kept ? sector.slice(0, length) : new Uint8Array(length) };
+        const pieces = [];
+        const made = await passPatched(calls, reader, await readScript(calls, [encoded(`cdpatch 1\n${lines}`)]), { base: 0 }, it => { pieces.push(it); });
+        assert.deepEqual([made.status, decoded(made.text), made.outcomes.length], [2, due, due.split('\n').length - 2]);
+        const ends = pieces.map(it => it.to ?? it.at + it.bytes.length);
+        assert.ok(ends.every(end => end <= MOST_SECTORS * 2352), `${ends}`);
     }
 });
 

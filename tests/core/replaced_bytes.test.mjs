@@ -60,7 +60,7 @@ test('old bytes that differ are refused with the place of the first', async () =
 test('bytes that a run would not replace so are not given out, unless they are tried with others later', async () => {
     const image = soundImage(diceOf(1), 3, BASE);
     const [place, old] = [{ block: BASE, offset: 7 }, Uint8Array.from(userOf(image).subarray(7, 9))];
-    const broken = Object.assign(Object.create(calls), { runNext: (run, done) => ({ ...calls.runNext(run, done), status: 2 }) });
+    const broken = Object.assign(Object.create(calls), { jobBegin(...given) { return { ...calls.jobBegin.apply(this, given), refusal: new Uint8Array(1) }; } });
     await assert.rejects(replaceBytes(broken, imageOf(image), place, old, old.map(byte => byte ^ 1)), { code: 'script/wrong-sector', facts: { block: BASE } });
     const later = await replaceBytes(broken, imageOf(image), place, old, old.map(byte => byte ^ 1), true);
     assert.equal(later.patches, 1);

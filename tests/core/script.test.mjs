@@ -73,11 +73,11 @@ test('a later version of the language is no fault', async () => {
         const head = decoded(later.held(from, from + size)) === 'cdpatch 9';
         return version === 0 && head ? 256 : readLine(version === 256 ? 2 : version, earlier, from, size);
     };
-    const runBegin = later.runBegin.bind(later);
-    later.runBegin = (script, ...how) => runBegin(script.map(it => decoded(it) === 'cdpatch 9' ? encoded('cdpatch 2') : it), ...how);
+    const jobBegin = later.jobBegin.bind(later);
+    later.jobBegin = (script, ...how) => jobBegin(script.map(it => decoded(it) === 'cdpatch 9' ? encoded('cdpatch 2') : it), ...how);
     const lines = readLines(later, encoded('cdpatch 9\naddress 3 00:02:05\n'));
     assert.deepEqual(lines.patches, readLines(calls, encoded('cdpatch 2\naddress 3 00:02:05\n')).patches);
-    assert.equal(decoded(scriptParts(lines)[0].text()), 'cdpatch 9\naddress 3 00:02:05\n');
+    assert.equal(decoded(Buffer.concat(scriptParts(lines)[0].pieces())), 'cdpatch 9\naddress 3 00:02:05\n');
 });
 
 test('what a patch says', async () => {
@@ -112,7 +112,7 @@ test('of a long script only the lines that say something are read by a call each
         [`cdpatch 1\nset 9 0 00\n${empty}#\r\nrebuild 3\n${empty}rebuild 2`, [(6 << 20) + 5, (3 << 20) + 4, 2], 100]]) {
         const counting = newCalls();
         let count = 0;
-        for (const name of ['firstLine', 'readLine', 'runBegin']) {
+        for (const name of ['firstLine', 'readLine', 'jobBegin']) {
             const call = counting[name].bind(counting);
             counting[name] = (...given) => { count += 1; return call(...given); };
         }
@@ -148,18 +148,19 @@ test('a long script is cut into parts that a run takes', async () => {
     assert.deepEqual(sizes([line(third), line(third), line(third), line(third - 10)]), [4]);
 });
 
-test('the bases that comments say are those that stand there, with their lines', async () => {
+test('the bases of a script are the first that a comment says, and the first other one, with their lines', async () => {
     const said = async (script, long) => (await read([encoded(`cdpatch 1\n${script}`)], long)).bases;
+    const between = '#\n'.repeat(1 << 19);
     const rows = [
         ['# base 150\n', [{ line: 2, base: 150 }]],
-        ['\r\n# base 7\r\n#\n# base 0\n# base 1', [{ line: 3, base: 7 }, { line: 5, base: 0 }, { line: 6, base: 1 }]],
-        ['# base 7 \t \n# base 1234567\n# base x\n #base 1\n # base 1\n#base 1\n## base 1\n# base 9 # base 1\n', [{ line: 2, base: 7 }]],
-        [`# base 5${' '.repeat(13)}\n# base 6${' '.repeat(14)}\n# base 7${' '.repeat(12)}\r\n# base 8${' '.repeat(14)}`, [{ line: 2, base: 5 }, { line: 4, base: 7 }]],
-        ['# base 3\r', [{ line: 2, base: 3 }]],
+        ['\r\n# base 7\r\n#\n# base 7\n# base 0\n# base 1', [{ line: 3, base: 7 }, { line: 6, base: 0 }]],
+        ['# base 7 \t \n# base 1234567890\n# base x\n #base 1\n # base 1\n#base 1\n## base 1\n# base 9 # base 1\n', [{ line: 2, base: 7 }]],
+        [`# base 5${' '.repeat(1000)}\n# base 123456789\n`, [{ line: 2, base: 5 }, { line: 3, base: 123456789 }]],
         ['# base 3\u00E9\n', []],
+        [`${between}# base 3\n${between}# base 4\n`, [{ line: 2 + (1 << 19), base: 3 }, { line: 3 + (1 << 20), base: 4 }]],
     ];
     for (const [script, due] of rows) {
-        for (const long of [false, true]) assert.deepEqual(await said(script, long), due, script);
+        for (const long of [false, true]) assert.deepEqual(await said(script, long), due, script.slice(0, 100));
     }
     assert.deepEqual((await read([encoded('# base 4\ncdpatch 1\n')])).bases, [{ line: 1, base: 4 }]);
     assert.deepEqual((await read([encoded(' # base 4\ncdpatch 1\n')])).bases, []);

@@ -1,4 +1,4 @@
-// Surveys by ranges, compared with the module's own reports on the whole image.
+// Surveys by ranges, compared with reports that are made sector by sector.
 
 import assert from 'node:assert/strict';
 import { test } from 'node:test';

@@ -45,7 +45,7 @@ export class Cdpatch {
 
     /** @param module `cdpatch.wasm` of this package */
     constructor(module: WebAssembly.Module) {
-        const isOurs = WebAssembly.Module.exports(module).some(({ name }) => name === 'cdpatch_run_next');
+        const isOurs = WebAssembly.Module.exports(module).some(({ name }) => name === 'cdpatch_apply_entries');
         if (!isOurs) throw new TypeError('the module is not cdpatch.wasm of this package');
         /** @private */
         this.calls = new Calls(module);
@@ -69,7 +69,7 @@ export class Cdpatch {
 
     /** The output of `cdpatch list`. For an image of more than 1000000 sectors, it is only the line that says so. */
     async list(image: Input, settings: SurveySettings = {}): Promise<Report> {
-        return spoken(reported(this.calls, image, settings, listText));
+        return spoken(reported(this.calls, image, settings, listText, bytes => this.calls.kinds(bytes)));
     }
 
     /** The output of `cdpatch audit`. For an image of more than 1000000 sectors, it is only the line that says so. */
@@ -108,7 +108,8 @@ export function patchedStream(cdpatch: Cdpatch, image: Input, script: ScriptInpu
     settings?: Settings): { stream: ReadableStream<Uint8Array>, report: Promise<Patched> } {
     const { readable, writable } = new TransformStream();
     const writer = writable.getWriter();
-    const report = cdpatch.apply(image, script, bytes => writer.write(bytes.slice()), settings);
+    const report = cdpatch.apply(image, script, bytes => writer.write(bytes.slice()), settings)
+        .catch(error => { throw error ?? new DOMException('the stream was cancelled', 'AbortError'); });
     const end = ({ status, text }: Report) => status === STATUS.FAILED
         ? writer.abort(new Fault(text.trimEnd().split('\n').slice(-1)[0])) : writer.close();
     report.then(end, error => writer.abort(error)).catch(() => {});

@@ -1,12 +1,11 @@
 // The jobs of the package, which use the core.
 
 import { PieceKeeper, READ_SIZE, bytesOfPieces, readBytes, type Piece } from '../core/bytes.js';
-import { LAST_BASE, RECORD_SIZE, SECTOR_SIZE, STATUS, sectorCount, type Calls } from '../core/module/index.js';
+import { FAILURE, LAST_BASE, RECORD_SIZE, SECTOR_SIZE, STATUS, sectorCount, type Calls } from '../core/module/index.js';
 import { watchedReader } from '../core/readers/views.js';
 import { readLines } from '../core/script/views.js';
 import { imageTooLong, type listText } from '../core/sectors/views.js';
 import { applyScript, validScript } from '../core/tasks/index.js';
-import { LONG_IMAGE } from '../sentences/index.js';
 import type { Input, Patched, Report, ScriptInput, Settings, Source, Watch } from './cdpatch.js';
 import { ScriptError } from './errors.js';
 
@@ -103,8 +102,12 @@ function reportOf({ status, text }: { status: number, text: Uint8Array }): Repor
     return { status: status as 0 | 1 | 2, text: textOf(text) };
 }
 
-/** Surveys an image: the records of its sectors, and how many bytes follow the last sector. */
-export async function surveyed(calls: Calls, image: Input, settings: Settings) {
+/**
+ * Surveys an image: the records of its sectors, and how many bytes follow the last sector.
+ * @param survey returns the records of some sectors
+ */
+export async function surveyed(calls: Calls, image: Input, settings: Settings, survey = (bytes: Uint8Array, block: number) =>
+    calls.survey(bytes, block)) {
     const { base, signal, progress } = settingsOf(settings);
     const source = watchedSource(sourceOf(image), signal);
     const count = sectorCount(source.size);
@@ -113,17 +116,18 @@ export async function surveyed(calls: Calls, image: Input, settings: Settings) {
     for (let i = 0; i < count; i += step) {
         progress(i * SECTOR_SIZE, source.size);
         const bytes = await readBytes(source, i * SECTOR_SIZE, Math.min(step, count - i) * SECTOR_SIZE);
-        records.set(calls.survey(bytes, base + i), RECORD_SIZE * i);
+        records.set(survey(bytes, base + i), RECORD_SIZE * i);
     }
     progress(source.size, source.size);
     return { survey: { block: base, records }, tail: source.size - count * SECTOR_SIZE };
 }
 
 /** The report of a command on an image's sectors. If the image is too long, it is only the line that says so, and nothing is read. */
-export async function reported(calls: Calls, image: Input, settings: Settings, made: typeof listText): Promise<Report> {
+export async function reported(calls: Calls, image: Input, settings: Settings, made: typeof listText,
+    records?: (bytes: Uint8Array, block: number) => Uint8Array): Promise<Report> {
     settingsOf(settings);
-    if (imageTooLong(sourceOf(image).size)) return { status: STATUS.FAILED, text: `cdpatch: ${LONG_IMAGE}\n` };
-    const { survey, tail } = await surveyed(calls, image, settings);
+    if (imageTooLong(sourceOf(image).size)) return reportOf({ status: STATUS.FAILED, text: calls.failureLine(FAILURE.LONG_IMAGE) });
+    const { survey, tail } = await surveyed(calls, image, settings, records);
     return reportOf(made(calls, survey, tail));
 }
 

@@ -65,9 +65,6 @@ const MEGABYTE = 1e6;
 
 const NO_DAT = 'not a DAT in Logiqx XML';
 
-/** The program's message about an image that is too long, without its `cdpatch: `. */
-export const LONG_IMAGE = `the image has more than ${MOST_SECTORS} sectors`;
-
 /** The beginning of the sentence about a bad dump. */
 const BAD_DUMP = 'known as a bad dump:';
 

@@ -1,5 +1,5 @@
 // The sentences for the failures and remarks of the core, which the interfaces share.
 
 export { blocksText, verdictText } from './verdict.js';
-export { ENGLISH, LONG_IMAGE, rowName } from './english.js';
+export { ENGLISH, rowName } from './english.js';
 export { ownFault, sentenceOf } from './sentences.js';

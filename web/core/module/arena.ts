@@ -1,7 +1,7 @@
 // The memory of a libcdpatch module: fixed rooms, lent ranges, and after these an arena that grows and is reused.
 
 import { inMemory } from '../faults.js';
-import { COLUMNS, DIAGONALS, PATCH_SIZE, PATCH_STRUCT, STEP_STRUCT } from './numbers.js';
+import { COLUMNS, DIAGONALS, LINE_SIZE, PATCH_SIZE, PATCH_STRUCT } from './numbers.js';
 
 // What the module needs of an engine.
 
@@ -13,8 +13,8 @@ export function hasVectors() {
     return WebAssembly.validate(ON_A_VECTOR);
 }
 
-// The largest answers of all calls.
-const ANSWER_SIZE = Math.max(STEP_STRUCT.BYTES, COLUMNS + DIAGONALS);
+// The largest answers of all calls, in whole vectors.
+const ANSWER_SIZE = Math.ceil(Math.max(LINE_SIZE, COLUMNS + DIAGONALS) / 16) * 16;
 const PAGE_SIZE = 65536;
 
 /** Manages the memory of a module. Held bytes are valid until others are put, so nothing may be awaited while they are used. */

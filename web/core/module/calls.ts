@@ -2,16 +2,19 @@
 
 import { Arena } from './arena.js';
 import {
-    ADDRESS_SIZE, COLUMNS, DIAGONALS, DIGEST_SIZE, ENTRY_STRUCT, FIT, LINE_STRUCT, PATCH_STRUCT, ROOMS_STRUCT, RUN_STRUCT, SECTOR_SIZE,
-    SHA1_STRUCT, STEP_STRUCT, USER_SIZE,
+    ADDRESS_SIZE, ANSWER_STRUCT, COLUMNS, DIAGONALS, DIGEST_SIZE, ENTRY_STRUCT, FAILURE, FIT, INDEX_STRUCT, JOB_FLAG, JOB_STRUCT, LAST_BASE,
+    LINE_STRUCT, NAMED_BASE_STRUCT, PATCH_STRUCT, SCRIPT, SECTOR_SIZE, SHA1_STRUCT, STOP, USER_SIZE,
 } from './numbers.js';
-import { MOST_PATCHES, RECORD_SIZE, SECTORS_IN_HAND, STEP, VERB, sectorCount } from './records.js';
+import { MOST_PATCHES, RECORD, RECORD_SIZE, VERB, sectorCount } from './records.js';
 
 // The calls of libcdpatch on sectors and images, with JavaScript bytes and numbers. cdpatch.h documents each call.
 
 /** The place of the header in a sector, and its size. */
 const HEADER_AT = 12;
 const HEADER_SIZE = 4;
+
+/** The size of a block's number. */
+const BLOCK_SIZE = 4;
 
 /** Returns the bytes if they have the size that a call relies on. Throws a RangeError if they do not. */
 export function sized(bytes: Uint8Array, size: number) {
@@ -35,6 +38,13 @@ export class SectorCalls extends Arena {
     address(block: number) {
         const made = block === block >>> 0 && this.exports.cdpatch_address(block, this.answer);
         return made ? this.copied(this.answer, ADDRESS_SIZE) : null;
+    }
+
+    /** The block that has an address, or null if none has. */
+    block(address: Uint8Array) {
+        const place = this.answer + BLOCK_SIZE;
+        this.memory.set(sized(address, ADDRESS_SIZE), place);
+        return this.exports.cdpatch_block(place, this.answer) ? this.view.getUint32(this.answer, true) : null;
     }
 
     encode(address: Uint8Array, user: Uint8Array) {
@@ -65,6 +75,14 @@ export class SectorCalls extends Arena {
         const known = block === block >>> 0 && this.exports.cdpatch_survey(from, BigInt(count), block, records, BigInt(count));
         if (!known) throw new RangeError(`${count} sectors from block ${block} on`);
         return this.copied(records, RECORD_SIZE * count);
+    }
+
+    /** Records of whole sectors that have only their kinds. They take far less time than `survey`. */
+    kinds(sectors: Uint8Array) {
+        const records = new Uint8Array(RECORD_SIZE * sectorCount(sectors.length));
+        let [at] = this.put(sized(sectors, sectorCount(sectors.length) * SECTOR_SIZE));
+        for (let i = RECORD.KIND; i < records.length; i += RECORD_SIZE, at += SECTOR_SIZE) records[i] = this.exports.cdpatch_kind(at);
+        return records;
     }
 
     /** The line of `list` for a run of blocks of one kind. It is empty if the run has no block, or if the kind does not exist. */
@@ -157,11 +175,14 @@ export class SectorCalls extends Arena {
 }
 
 /**
- * A run, with the addresses of the memory that is lent to it (`at`, where the run itself lies, is the first), the size of its script, the
- * number of entries that have room, and the number of patches in the script.
+ * A script that is applied, with addresses of the memory that is lent to it: `at` is the first, and `next` that of the first entry whose
+ * patch is not done. `left` is the number of such entries, `stop` the STOP of the last call, and `refusal` the program's line if the script
+ * is refused, else null.
  */
-export type ScriptRun = { at: number, step: number, rooms: number, sectors: number, entries: number, room: bigint, text: number,
-    size: bigint, patches: number };
+export type ScriptJob = { at: number, answers: number, next: number, left: number, flags: number, stop: number,
+    refusal: Uint8Array | null };
+/** What was done with a patch: the number of its line, its RESULT, and the block and the offset of the user byte that refuses it. */
+export type Answer = { number: number, result: number, block: number, offset: number };
 /** A line's number, and the range of its bytes in the script. */
 type LinePlace = { number: number, start: number, size: number };
 /**
@@ -169,15 +190,8 @@ type LinePlace = { number: number, start: number, size: number };
  * many old bytes it names (null if none).
  */
 export type PatchRange = { verb: number, block: number, offset: number, size: number, old: number | null };
-/**
- * A step of a run. `kind` is a STEP, and `status` is set for END. `number` is the line of a patch, `result` its RESULT, and `block` and
- * `offset` name the user byte that refuses it. `at` is the place of its bytes in the image, `from` their address, and `size` their count.
- */
-export type Step = { kind: number, status: number, number: number, result: number, block: number, offset: number, at: number, from: number,
-    size: number };
-
-// What begins a run of an invalid script returns, as a signed number; its first step is the line that says why.
-const INVALID = -2;
+/** How many patches a call applies at most, which is a few milliseconds of work. */
+const MOST_ANSWERS = 256;
 
 /** Has a method for each call that the core makes. Arguments are copied to the arena, or held there, and answers are copies. */
 export class Calls extends SectorCalls {
@@ -228,59 +242,94 @@ export class Calls extends SectorCalls {
         return this.line('cdpatch_fault_line', number, fault);
     }
 
+    /** The program's line for a FAILURE. */
+    failureLine(failure: number) {
+        return this.line('cdpatch_failure_line', failure);
+    }
+
+    /** The first line of the held text that names a base other than `base`, or null. */
+    otherBase(base: number) {
+        if (!this.exports.cdpatch_script_base(this.arena, BigInt(this.heldSize), base, this.answer)) return null;
+        const number = (place: number) => this.view.getUint32(this.answer + place, true);
+        return { line: number(NAMED_BASE_STRUCT.LINE), base: number(NAMED_BASE_STRUCT.BASE) };
+    }
+
     /**
-     * Begins a run of a script, to which memory is lent until `runEnd`.
+     * Reads a script that is to be applied, and lends memory to it until `jobEnd`.
      * @param script in pieces
-     * @param imageSize null if it is not known
+     * @param flags of RUN_FLAG
      */
-    runBegin(script: Uint8Array[], base: number, imageSize: number | null, flags: number): ScriptRun {
-        const length = script.reduce((sum, piece) => sum + piece.length, 0);
-        const room = Math.min(length, MOST_PATCHES);
-        const [RUN, STEP_SIZE, ROOMS, ENTRY] = [RUN_STRUCT, STEP_STRUCT, ROOMS_STRUCT, ENTRY_STRUCT].map(struct => struct.BYTES);
-        const sizes = [RUN, STEP_SIZE, ROOMS, SECTORS_IN_HAND * SECTOR_SIZE, room * ENTRY, length];
-        const at = this.lend(sizes.reduce((sum, size) => sum + size, 0));
+    jobBegin(script: Uint8Array[], base: number = 0, flags: number = 0): ScriptJob {
+        if (base !== base >>> 0 || base > LAST_BASE) throw new RangeError(`no image begins with block ${base}`);
+        const size = script.reduce((sum, piece) => sum + piece.length, 0);
+        const most = Math.min(size, MOST_PATCHES);
+        const sizes = [JOB_STRUCT.BYTES, MOST_ANSWERS * ANSWER_STRUCT.BYTES, most * ENTRY_STRUCT.BYTES, size];
+        const at = this.lend(sizes.reduce((sum, it) => sum + it, 0));
         let end = at;
-        const [, step, rooms, sectors, entries, text] = sizes.map(size => (end += size) - size);
+        const [, answers, next, text] = sizes.map(it => (end += it) - it);
         let filled = text;
         for (const piece of script) {
             this.memory.set(piece, filled);
             filled += piece.length;
         }
-        const run = { at, step, rooms, sectors, entries, room: BigInt(room), text, size: BigInt(length), patches: -1 };
-        const known = BigInt(imageSize === null ? -1 : imageSize);
-        const begin = this.exports.cdpatch_run_begin;
-        if (base === base >>> 0) run.patches = Number(begin(at, text, run.size, base, known, flags, entries, run.room));
-        if (run.patches === INVALID) run.patches = 0;
-        if (run.patches >= 0) return run;
-        this.runEnd(run);
-        throw new RangeError(`no run from block ${base} on`);
+        const found = this.exports.cdpatch_index_script(text, BigInt(size), next, BigInt(most), this.answer);
+        const number = (place: number) => this.view.getUint32(this.answer + place, true);
+        const { COUNT, VERSION, FAULT, LINE } = INDEX_STRUCT;
+        const [left, version, fault, line] = [COUNT, VERSION, FAULT, LINE].map(number);
+        // The patch bytes are the arena's own: each call writes them anew.
+        const fields = [[JOB_STRUCT.SCRIPT, text], [JOB_STRUCT.SCRIPT_SIZE, size], [JOB_STRUCT.PATCH_BYTES, this.fresh],
+            [JOB_STRUCT.VERSION, version], [JOB_STRUCT.BASE, base]];
+        this.memory.fill(0, at, answers);
+        for (const [place, value] of fields) this.view.setUint32(at + place, value, true);
+        let refusal = null;
+        if (found === SCRIPT.TOO_LONG) refusal = this.failureLine(FAILURE.LONG_SCRIPT);
+        else if (found !== SCRIPT.VALID) refusal = this.faultLine(line, fault);
+        return { at, answers, next, left, flags, stop: STOP.ALL, refusal };
     }
 
-    /** The lines of the patches of a run, in the order of application. */
-    runLines({ entries, patches }: ScriptRun): LinePlace[] {
+    /** The lines of the patches that are left, in the order of application. */
+    jobLines({ next, left }: ScriptJob): LinePlace[] {
         const { BYTES, NUMBER, START, SIZE } = ENTRY_STRUCT;
-        return Array.from({ length: patches }, (_, i) => {
-            const number = (place: number) => this.view.getUint32(entries + i * BYTES + place, true);
+        return Array.from({ length: left }, (_, i) => {
+            const number = (place: number) => this.view.getUint32(next + i * BYTES + place, true);
             return { number: number(NUMBER), start: number(START), size: number(SIZE) };
         });
     }
 
-    /** The next step of a run. `done` is how many bytes of the last step were moved, 0 at first. */
-    runNext({ at: run, step, rooms, sectors, entries, room, text, size: length }: ScriptRun, done: number): Step {
-        this.exports.cdpatch_run_next(run, BigInt(done), text, length, entries, room, sectors, BigInt(SECTORS_IN_HAND), rooms, step);
-        const number = (place: number) => this.view.getUint32(step + place, true);
-        const { KIND, STATUS, NUMBER, RESULT, BLOCK, OFFSET, AT, PLACE, SIZE, TEXT } = STEP_STRUCT;
-        const kind = number(KIND);
-        return { kind, status: number(STATUS), number: number(NUMBER), result: number(RESULT), block: number(BLOCK),
-            offset: number(OFFSET), at: number(AT), from: kind === STEP.LOG ? step + TEXT : sectors + number(PLACE), size: number(SIZE) };
+    /** The first block that the i-th of the patches that are left touches, and the one after its last. */
+    jobBlocks({ next }: ScriptJob, i: number): [number, number] {
+        const at = next + i * ENTRY_STRUCT.BYTES;
+        const block = this.view.getUint32(at + ENTRY_STRUCT.BLOCK, true);
+        return [block, block + this.view.getUint32(at + ENTRY_STRUCT.BLOCKS_MET, true)];
     }
 
-    /** The bytes of a step in the hand of its run, or the line that it logs; not copied. */
-    stepBytes({ from, size }: Step) {
-        return this.memory.subarray(from, from + size);
+    /**
+     * Applies the next patches to sectors in the module's memory, in place, and returns what was done. If `stop` is CAPACITY then, more of
+     * them belong to these sectors.
+     * @param at the address of `count` sectors, of which the first is block `first`
+     * @param isLast whether the image ends with them
+     */
+    jobApply(job: ScriptJob, at: number, count: number, first: number, isLast: boolean): Answer[] {
+        const { NUMBER, RESULT, BLOCK, OFFSET, BYTES } = ANSWER_STRUCT;
+        const { view, answer } = this;
+        view.setUint32(job.at + JOB_STRUCT.ENTRIES, job.next, true);
+        view.setUint32(job.at + JOB_STRUCT.COUNT, job.left, true);
+        view.setUint32(job.at + JOB_STRUCT.FIRST, first, true);
+        view.setUint32(job.at + JOB_STRUCT.FLAGS, job.flags | (isLast ? JOB_FLAG.LAST : 0), true);
+        job.stop = this.exports.cdpatch_apply_entries(job.at, at, BigInt(count), job.answers, BigInt(MOST_ANSWERS), answer);
+        if (job.stop > STOP.CAPACITY || isLast && job.stop === STOP.PIECE) throw new RangeError(`patches stopped for reason ${job.stop}`);
+        const made: Answer[] = [];
+        const done = view.getUint32(answer, true);
+        for (let place = job.answers; made.length < done; place += BYTES) {
+            made.push({ number: view.getUint32(place + NUMBER, true), result: view.getUint32(place + RESULT, true),
+                block: view.getUint32(place + BLOCK, true), offset: view.getUint32(place + OFFSET, true) });
+        }
+        job.next += done * ENTRY_STRUCT.BYTES;
+        job.left -= done;
+        return made;
     }
 
-    runEnd({ at }: ScriptRun) {
+    jobEnd({ at }: ScriptJob) {
         this.giveBack(at);
     }
 }

@@ -1,9 +1,9 @@
 // The calls of the WebAssembly module, and the numbers of cdpatch.h.
 
-export { Calls, type PatchRange, type ScriptRun, type Step } from './calls.js';
+export { Calls, type Answer, type PatchRange, type ScriptJob } from './calls.js';
 export { hasVectors } from './arena.js';
 export { DIAGONALS, LAST_BASE, LAST_BLOCK, MOST_SECTORS, SECTOR_SIZE, USER_SIZE } from './numbers.js';
 export {
-    CONTENT, FIT, MOST_PATCHES, MOST_SCRIPT_BYTES, PATCH_SIZE, RECORD, RECORD_SIZE, RESULT, RUN_FLAG, SECTOR_KIND, STATUS, STEP, VERB,
-    isFault, kindName, sectorCount,
+    CONTENT, FAILURE, FIT, MOST_PATCHES, MOST_SCRIPT_BYTES, PATCH_SIZE, RECORD, RECORD_SIZE, RESULT, RUN_FLAG, SECTOR_KIND, STATUS, STOP,
+    VERB, isFault, kindName, sectorCount,
 } from './records.js';

@@ -1,13 +1,10 @@
 // The constants and records of cdpatch.h, under the names that the core uses. `make` generates numbers.ts from the header.
 
-import { CONTENT, RECORD_STRUCT, SECTOR_KIND, SECTOR_SIZE, STEP_KIND } from './numbers.js';
+import { CONTENT, RECORD_STRUCT, SECTOR_KIND, SECTOR_SIZE } from './numbers.js';
 
 export {
-    CONTENT, FIT, RESULT, RUN_FLAG, SECTOR_KIND, STATUS, VERB, MOST_PATCHES, MOST_SCRIPT_BYTES, PATCH_SIZE, SECTORS_IN_HAND,
+    CONTENT, FAILURE, FIT, RESULT, RUN_FLAG, SECTOR_KIND, STATUS, STOP, VERB, MOST_PATCHES, MOST_SCRIPT_BYTES, PATCH_SIZE,
 } from './numbers.js';
-
-/** The kinds of steps of a run. */
-export const STEP = STEP_KIND;
 
 /** The offsets of the members of a sector's record, and the size of a record in bytes. */
 export const RECORD = RECORD_STRUCT;

@@ -124,15 +124,7 @@ export function isMeantAsScript(calls: Calls, text: Uint8Array) {
     return words.length > 1 && (/^cdpatch$/i.test(words[0]) || first.content !== CONTENT.UNKNOWN_VERB);
 }
 
-// Reads and writes the comment that names the base of a script.
-
-/** The comment's line, and the base that it names. */
-export type NamedBase = { line: number, base: number };
-
-const BASE_COMMENT = /^# base (\d{1,6})\s*$/;
-const LONGEST_BASE_COMMENT = 21;
-const HASH = 0x23;
-const LETTER_B = 0x62;
+// Writes the comment that names the base of a script.
 
 /** The comment that names the base of a script, with its line end; '' for base 0. */
 export function baseComment(base: number) {
@@ -147,22 +139,4 @@ export function scriptForBase({ pieces: [head, ...lines], ...script }: Script, b
     const comment = new TextEncoder().encode(baseComment(base));
     const size = script.size + comment.length;
     return { ...script, pieces: [head, comment, ...lines], size, long: script.long || size > MOST_SCRIPT_BYTES };
-}
-
-/** The bases that comments of a text name. */
-export function basesNamed(text: Uint8Array) {
-    const found: NamedBase[] = [];
-    let line = 1;
-    let counted = 0;
-    for (let at = text.indexOf(HASH); at >= 0; at = text.indexOf(HASH, at + 1)) {
-        if (text[at + 2] !== LETTER_B || at > 0 && text[at - 1] !== LINE_FEED) continue;
-        const end = text.indexOf(LINE_FEED, at);
-        const comment = text.subarray(at, end < 0 ? text.length : end);
-        const match = comment.length <= LONGEST_BASE_COMMENT && BASE_COMMENT.exec(String.fromCharCode(...comment));
-        if (!match) continue;
-        line += endsOfLines(text, counted, at);
-        counted = at;
-        found.push({ line, base: Number(match[1]) });
-    }
-    return found;
 }

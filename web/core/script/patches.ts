@@ -1,13 +1,16 @@
 // Applies the patches of a script to an image, of which only the sectors that they meet are read.
 
-import { ByteList, PieceCutter, PieceKeeper, pieceWithin, type Piece, type Reader } from '../bytes.js';
-import { RESULT, RUN_FLAG, SECTOR_SIZE, STATUS, STEP, type Calls, type ScriptRun, type Step } from '../module/index.js';
-import { ReadAhead, pieceReader } from '../readers/index.js';
+import { ByteList, PieceCutter, PieceKeeper, type Piece, type Reader } from '../bytes.js';
+import {
+    FAILURE, MOST_SECTORS, RESULT, RUN_FLAG, SECTOR_SIZE, STATUS, STOP, sectorCount, type Answer, type Calls, type ScriptJob,
+} from '../module/index.js';
+import { ReadAhead } from '../readers/index.js';
+import { imageTooLong } from '../sectors/index.js';
 import { isTurnDue, letOthersIn } from '../turns.js';
 import type { ScriptModel } from './model.js';
-import type { Part, ReadScript } from './script.js';
+import type { ReadScript } from './script.js';
 
-// Runs a script on an image. The calls decide everything, and this file only moves the bytes.
+// Runs a script on an image. The calls decide what the patches do, and this file reads the image, and passes it on.
 
 export type Take = (piece: Piece) => void | Promise<void>;
 
@@ -47,133 +50,151 @@ class JoinedPieces extends PieceCutter {
     }
 }
 
-/**
- * Yields the steps of a run, of which the last one is END. The caller does each step before it requests the next one. If it cannot move the
- * bytes of a step, it throws, and the run is ended.
- * @param script in pieces
- * @param size of the image
- */
-export function* stepsOf(calls: Calls, script: Uint8Array[], base: number, size: number, flags: number) {
-    const scriptRun = calls.runBegin(script, base, size, flags);
-    try {
-        let step = calls.runNext(scriptRun, 0);
-        for (; step.kind !== STEP.END; step = calls.runNext(scriptRun, step.size)) yield step;
-        yield step;
-    } finally {
-        calls.runEnd(scriptRun);
-    }
-}
+/** How many sectors are patched at a time. */
+const PATCHED_AT_ONCE = 64;
 
 /**
- * Runs a script, and returns its status. The pieces of the patched image are passed to `take` in order, as soon as no later patch can meet
- * them. Their bytes may be overwritten once `take` is done. Each line of the log is passed to `log`, with its step.
- * @param take null if the image is not needed
+ * What the caller of `stepsOf` does next with the bytes of the image from `at` on. `read`: it puts `size` bytes at the address `place`.
+ * `write`: the bytes at that address are those of the patched image. `copy`: no patch changes these bytes. `log`: it notes the answers.
+ * `fail`: it prints the line, and no step follows.
  */
-async function runScript(calls: Calls, reader: Reader, script: Uint8Array, how: How, log: (step: Step, line: Uint8Array) => void,
-    take: Take | null) {
-    const { base, carry = false, withoutOld = false, mostBetween = BETWEEN_HELD } = how;
-    const ahead = new ReadAhead(reader);
-    const out = take && new JoinedPieces(take);
-    const flags = (carry ? RUN_FLAG.CARRY : 0) + (withoutOld ? RUN_FLAG.WITHOUT_OLD : 0);
-    let status = STATUS.DONE;
-    for (const step of stepsOf(calls, [script], base, reader.size, flags)) {
-        const { kind, at, size } = step;
-        if (kind === STEP.READ) {
-            const bytes = ahead.here(at, size) || await ahead.read(at, size);
-            calls.stepBytes(step).set(bytes);
-        } else if (kind === STEP.LOG) log(step, calls.stepBytes(step));
-        else if (kind === STEP.END) status = step.status;
-        else if (out !== null) {
-            const isNear = kind !== STEP.WRITE && size <= mostBetween;
-            const between = isNear ? ahead.here(at, size) || await ahead.bytesOn(at, size) : null;
-            const bytes = kind === STEP.WRITE ? calls.stepBytes(step) : between;
-            await (bytes === null ? out.giveBytes() : out.join(at, bytes));
+export type Step = { kind: 'read' | 'write', at: number, size: number, place: number } | { kind: 'copy', at: number, size: number }
+    | { kind: 'log', answers: Answer[] } | { kind: 'fail', line: Uint8Array };
+/** A script in pieces; for a part of a long script, also the numbers that its lines have there. */
+type ScriptText = { pieces(): Uint8Array[], numberOf?(number: number): number };
+
+/**
+ * The sectors of an image that the next patches touch, at an address in the module's memory. Sectors stay there as long as a patch may
+ * touch them: they are not read again, because the patches before it may have changed them.
+ */
+class PatchedSectors {
+    place; first; end; isTooLong;
+    held = 0;
+
+    constructor(readonly calls: Calls, readonly base: number, readonly size: number) {
+        this.place = calls.lend(PATCHED_AT_ONCE * SECTOR_SIZE);
+        this.first = base;
+        this.end = base + Math.min(sectorCount(size), MOST_SECTORS);
+        this.isTooLong = imageTooLong(size);
+    }
+
+    /** The place of a block in the image. */
+    placeOf(block: number) {
+        return (block - this.base) * SECTOR_SIZE;
+    }
+
+    /** The blocks of the image that the i-th of the patches that are left touches. A patch that begins before the image touches none. */
+    blocksOf(job: ScriptJob, i: number) {
+        const [block, after] = this.calls.jobBlocks(job, i);
+        const first = Math.min(Math.max(block, this.base), this.end);
+        return [first, block < this.base ? first : Math.min(after, this.end)];
+    }
+
+    /**
+     * Passes on the image up to a block, from which on sectors stay.
+     * @param to the place up to which it is passed on if no sector stays
+     */
+    *passOn(block: number, to: number = this.placeOf(block)): Generator<Step> {
+        const sent = Math.min(block - this.first, this.held);
+        const size = sent * SECTOR_SIZE;
+        if (sent > 0) yield { kind: 'write', at: this.placeOf(this.first), size, place: this.place };
+        this.calls.memory.copyWithin(this.place, this.place + size, this.place + this.held * SECTOR_SIZE);
+        this.first += sent;
+        this.held -= sent;
+        if (this.held > 0) return;
+        const at = this.placeOf(this.first);
+        if (at < to) yield { kind: 'copy', at, size: to - at };
+        this.first = block;
+    }
+
+    /** Reads the sectors that the next patches touch, up to the first patch that touches sectors elsewhere. */
+    *fill(job: ScriptJob): Generator<Step> {
+        for (let i = 0; i < job.left; i++) {
+            const [from, end] = this.blocksOf(job, i);
+            const last = this.first + this.held;
+            if (from > last || end - this.first > PATCHED_AT_ONCE) return;
+            if (end <= last) continue;
+            const place = this.place + this.held * SECTOR_SIZE;
+            yield { kind: 'read', at: this.placeOf(last), size: (end - last) * SECTOR_SIZE, place };
+            this.held = end - this.first;
         }
-        if (isTurnDue()) await letOthersIn();
     }
-    if (out !== null) await out.giveBytes();
-    if (out !== null && status !== STATUS.FAILED) await out.keep(reader.size);
-    return status;
+
+    /** Applies the patches of a script. Some are left if the image is too long for them. */
+    *apply(job: ScriptJob, script: ScriptText): Generator<Step> {
+        for (let left = -1; job.left > 0 && job.left !== left;) {
+            left = job.left;
+            yield* this.passOn(this.blocksOf(job, 0)[0]);
+            yield* this.fill(job);
+            do {
+                const isLast = this.first + this.held === this.end && !this.isTooLong;
+                const answers = this.calls.jobApply(job, this.place, this.held, this.first, isLast);
+                if (script.numberOf) for (const it of answers) it.number = script.numberOf(it.number);
+                yield { kind: 'log', answers };
+            } while (job.stop === STOP.CAPACITY);
+        }
+    }
 }
 
 /**
- * The line that refuses a script, or the result of `read` for a run of it. On an image of unknown size, the first step of a script without
- * faults does not log anything.
- * @param script in pieces
+ * Yields the steps by which the parts of a script, in order, are applied to an image of `size` bytes whose first sector is block `base`.
+ * The caller does each step before it requests the next one.
  */
-export function faultOr<T>(calls: Calls, script: Uint8Array[], read: (scriptRun: ScriptRun) => T) {
-    const scriptRun = calls.runBegin(script, 0, null, 0);
+export function* stepsOf(calls: Calls, parts: Iterable<ScriptText>, base: number, size: number, flags: number): Generator<Step> {
+    const sectors = new PatchedSectors(calls, base, size);
+    let isDone = true;
     try {
-        const step = calls.runNext(scriptRun, 0);
-        return step.kind === STEP.LOG ? calls.stepBytes(step).slice() : read(scriptRun);
+        for (const part of parts) {
+            const job = calls.jobBegin(part.pieces(), base, flags);
+            try {
+                if (job.refusal === null) yield* sectors.apply(job, part);
+                else return yield { kind: 'fail', line: job.refusal };
+                isDone = job.left === 0;
+            } finally {
+                calls.jobEnd(job);
+            }
+            if (!isDone) break;
+        }
+        if (isDone) yield* sectors.passOn(sectors.end, sectors.isTooLong ? sectors.placeOf(sectors.end) : size);
+        if (!isDone || sectors.isTooLong) yield { kind: 'fail', line: calls.failureLine(FAILURE.LONG_IMAGE) };
     } finally {
-        calls.runEnd(scriptRun);
+        calls.giveBack(sectors.place);
     }
 }
 
-/** The outcome of a patch: its line, a RESULT, and the block and the offset of the user byte that refuses it. */
-export type Outcome = { number: number, result: number, block: number, offset: number };
+/** The steps of a whole script. */
+export function stepsOfScript(calls: Calls, script: Uint8Array[], base: number, size: number, flags: number) {
+    return stepsOf(calls, [{ pieces: () => script }], base, size, flags);
+}
+
+/** The outcome of a patch. */
+export type Outcome = Answer;
 
 /** The result of all patches: the status of the command, its output, and the outcomes in the order of application. */
 export type Patched = { status: number, text: Uint8Array, outcomes: Outcome[] };
 
-/** The log lines of runs, and the outcomes of their patches. */
+/** The log of a script, and the outcomes of its patches. */
 class PatchLog {
     text = new ByteList();
     outcomes: Outcome[] = [];
 
-    add({ number, result, block, offset }: Step, line: Uint8Array) {
-        this.text.push(line);
-        if (number > 0) this.outcomes.push({ number, result, block, offset });
-    }
+    constructor(readonly calls: Calls) {}
 
-    patched(status: number): Patched {
-        return { status, text: this.text.bytes(), outcomes: this.outcomes };
-    }
-}
-
-/**
- * Runs a part of a long script on the pieces that the parts before it have left of the image. Passes on the bytes that no later part can
- * meet, and returns the pieces after them; null if the run failed.
- * @param end the place of the next part's first block, which may be outside the image
- */
-async function passPart(calls: Calls, reader: Reader, part: Part, image: Piece[], end: number,
-    { how, log, take }: { how: How, log: PatchLog, take: Take }): Promise<Piece[] | null> {
-    const left: Piece[] = [];
-    const keeper = new PieceKeeper();
-    let last = new Uint8Array(0);
-    const note = (step: Step, line: Uint8Array) => {
-        const { result, block, offset } = step;
-        if (step.number === 0) return void (last = line.slice());
-        const number = part.numberOf(step.number);
-        return log.add({ ...step, number }, calls.outcomeLine(number, result, block, offset));
-    };
-    const status = await runScript(calls, pieceReader(reader, image), part.text(), how, note, async piece => {
-        const made = 'bytes' in piece ? [piece] : image.flatMap(it => pieceWithin(it, piece.from, piece.to) || []);
-        for (const it of made) {
-            const [ready, rest] = [pieceWithin(it, 0, end), pieceWithin(it, end, Infinity)];
-            if (ready !== null) await take(ready);
-            if (rest !== null) left.push(keeper.kept(rest));
+    add(answers: Answer[]) {
+        for (const it of answers) {
+            this.text.push(this.calls.outcomeLine(it.number, it.result, it.block, it.offset));
+            this.outcomes.push(it);
         }
-    });
-    if (status !== STATUS.FAILED) return left;
-    log.text.push(last);
-    return null;
-}
-
-/** Applies a long script by a run of each of its parts. */
-async function passParts(calls: Calls, reader: Reader, parts: Part[], how: How, take: Take): Promise<Patched> {
-    const log = new PatchLog();
-    let left: Piece[] | null = [{ from: 0, to: reader.size }];
-    for (const [i, part] of parts.entries()) {
-        const next = parts[i + 1];
-        const end = next ? SECTOR_SIZE * (next.patches[0].block - how.base) : Infinity;
-        left = await passPart(calls, reader, part, left, end, { how, log, take });
-        if (left === null) return log.patched(STATUS.FAILED);
     }
-    const refused = log.outcomes.filter(({ result }) => result !== RESULT.OK).length;
-    log.text.push(calls.lastLine(log.outcomes.length - refused, refused));
-    return log.patched(refused > 0 ? STATUS.FOUND : STATUS.DONE);
+
+    /** @param failure the line of a failure, or null */
+    patched(failure: Uint8Array | null): Patched {
+        const { text, outcomes } = this;
+        const refused = outcomes.filter(({ result }) => result !== RESULT.OK).length;
+        text.push(failure || this.calls.lastLine(outcomes.length - refused, refused));
+        const status = refused > 0 ? STATUS.FOUND : STATUS.DONE;
+        return { status: failure === null ? status : STATUS.FAILED, text: text.bytes(), outcomes };
+    }
 }
 
 /**
@@ -182,9 +203,32 @@ async function passParts(calls: Calls, reader: Reader, parts: Part[], how: How, 
  * @param take null if the image is not needed
  */
 export async function passPatched(calls: Calls, reader: Reader, script: ReadScript, how: How, take: Take | null = null): Promise<Patched> {
-    if ('parts' in script) return passParts(calls, reader, script.parts, how, take || (() => {}));
-    const log = new PatchLog();
-    return log.patched(await runScript(calls, reader, script.text, how, (step, line) => log.add(step, line), take));
+    const { base, carry = false, withoutOld = false, mostBetween = BETWEEN_HELD } = how;
+    const ahead = new ReadAhead(reader);
+    const out = take && new JoinedPieces(take);
+    const log = new PatchLog(calls);
+    const flags = (carry ? RUN_FLAG.CARRY : 0) + (withoutOld ? RUN_FLAG.WITHOUT_OLD : 0);
+    const steps = 'parts' in script ? stepsOf(calls, script.parts, base, reader.size, flags)
+        : stepsOfScript(calls, [script.text], base, reader.size, flags);
+    let failure: Uint8Array | null = null;
+    for (const step of steps) {
+        if (step.kind === 'read') {
+            const bytes = ahead.here(step.at, step.size) || await ahead.read(step.at, step.size);
+            calls.memory.set(bytes, step.place);
+        } else if (step.kind === 'log') log.add(step.answers);
+        else if (step.kind === 'fail') failure = step.line;
+        else if (out !== null) {
+            const { at, size } = step;
+            const isNear = step.kind === 'copy' && size <= mostBetween;
+            const between = isNear ? ahead.here(at, size) || await ahead.bytesOn(at, size) : null;
+            const bytes = step.kind === 'write' ? calls.memory.subarray(step.place, step.place + size) : between;
+            await (bytes === null ? out.giveBytes() : out.join(at, bytes));
+        }
+        if (isTurnDue()) await letOthersIn();
+    }
+    if (out !== null) await out.giveBytes();
+    if (out !== null && failure === null) await out.keep(reader.size);
+    return log.patched(failure);
 }
 
 /** Applies a script to an image, and returns the outcomes and the pieces of the patched image. */

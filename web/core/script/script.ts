@@ -3,9 +3,11 @@
 import { joinedBytes, type Reader } from '../bytes.js';
 import { kindOfEnds } from '../disc/index.js';
 import { Fault, type FileKind } from '../faults.js';
-import { CONTENT, MOST_PATCHES, MOST_SCRIPT_BYTES, STATUS, isFault, type Calls, type PatchRange } from '../module/index.js';
-import { LINE_FEED, basesNamed, endsOfLines, headLine, type NamedBase } from './language.js';
-import { faultOr, passPatched } from './patches.js';
+import {
+    CONTENT, MOST_PATCHES, MOST_SCRIPT_BYTES, STATUS, isFault, type Calls, type PatchRange, type ScriptJob,
+} from '../module/index.js';
+import { LINE_FEED, endsOfLines, headLine } from './language.js';
+import { passPatched } from './patches.js';
 import type { Script } from './script_writer.js';
 
 // Reads the patches of a script. Splits a script that exceeds the limits of a run into parts, each of which is run separately.
@@ -32,6 +34,37 @@ function* windowsOf(text: Uint8Array) {
     }
 }
 
+/** The line that refuses a script, or the result of `read` for it. `script` is in pieces. */
+function faultOr<T>(calls: Calls, script: Uint8Array[], read: (job: ScriptJob) => T) {
+    const job = calls.jobBegin(script);
+    try {
+        return job.refusal || read(job);
+    } finally {
+        calls.jobEnd(job);
+    }
+}
+
+/** The comment's line, and the base that it names. */
+type NamedBase = { line: number, base: number };
+
+/** A number that is not a base. */
+const NO_BASE = 2 ** 32 - 1;
+
+/** The first base that a comment of a text names, and the first one that differs from it: one of them differs from any other base. */
+export function basesNamed(calls: Calls, text: Uint8Array) {
+    const found: NamedBase[] = [];
+    for (const lines of windowsOf(text)) {
+        calls.hold(lines);
+        const before = lines.byteOffset - text.byteOffset;
+        while (found.length < 2) {
+            const other = calls.otherBase(found.length === 0 ? NO_BASE : found[0].base);
+            if (other === null) break;
+            found.push({ line: endsOfLines(text, 0, before) + other.line, base: other.base });
+        }
+    }
+    return found;
+}
+
 /** Reads the lines of a script. One call skips all lines of a window that are blank or comments. */
 class LineReader {
     version = 0;
@@ -44,7 +77,7 @@ class LineReader {
 
     /** Reads whole lines. Returns the program's line for their first fault, null if they have none. */
     read(lines: Uint8Array): Uint8Array | null {
-        const found = faultOr(this.calls, [this.head, END_OF_LINE, lines], run => this.calls.runLines(run));
+        const found = faultOr(this.calls, [this.head, END_OF_LINE, lines], job => this.calls.jobLines(job));
         this.calls.hold(lines);
         if (found instanceof Uint8Array || (this.version === 0 && found.length > 0)) return this.readEach(lines);
         for (const { number, start, size } of found) {
@@ -112,8 +145,8 @@ export function oldBytesOf(calls: Calls, script: string) {
 export class Part {
     constructor(readonly head: Uint8Array, readonly patches: PatchLine[]) {}
 
-    text() {
-        return joinedBytes([this.head, ...this.patches.map(({ line }) => line)].flatMap(line => [line, END_OF_LINE]));
+    pieces() {
+        return [this.head, ...this.patches.map(({ line }) => line)].flatMap(line => [line, END_OF_LINE]);
     }
 
     /** The number that a line of this part has in the long script. */
@@ -164,7 +197,7 @@ export async function readScript(calls: Calls, pieces: Pieces, long: boolean = f
         const kind = await kindOfEnds({ size: text.length, read: async (at, length) => text.subarray(at, at + length) });
         return new Refusal(lines, !long && text.length > MOST_SCRIPT_BYTES, kind || null);
     }
-    return { bases: basesNamed(text), ...lines ? { parts: scriptParts(lines) } : { text } };
+    return { bases: basesNamed(calls, text), ...lines ? { parts: scriptParts(lines) } : { text } };
 }
 
 // Checks that a script written by this core fits its image.

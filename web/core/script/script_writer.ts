@@ -3,15 +3,14 @@
 import { ByteList, joinedBytes, sameBytes } from '../bytes.js';
 import { Fault } from '../faults.js';
 import {
-    CONTENT, LAST_BASE, MOST_SCRIPT_BYTES, RECORD, RECORD_SIZE, RESULT, RUN_FLAG, SECTOR_KIND, SECTOR_SIZE, STATUS, STEP, USER_SIZE,
-    type Calls,
+    CONTENT, LAST_BASE, MOST_SCRIPT_BYTES, RECORD, RECORD_SIZE, RESULT, RUN_FLAG, SECTOR_KIND, SECTOR_SIZE, USER_SIZE, type Calls,
 } from '../module/index.js';
 import type { Job } from '../pool/index.js';
 import {
     USER_OFFSET, addToRuns, addressIn, addressText, asWords, differingSectors, hasZeroByte, isDamaged, runOf, sameAddress, sectorOf, userOf,
 } from '../sectors/index.js';
 import { NEWEST_VERSION, VERBS, headLine } from './language.js';
-import { stepsOf } from './patches.js';
+import { stepsOfScript } from './patches.js';
 
 // Writes the lines of a script.
 
@@ -250,13 +249,19 @@ function firstWrong(calls: Calls, { version, text }: Text, { blocks, old, fresh 
     const made = old.slice();
     const places = new Map(blocks.map((block, i) => [block, i]));
     const head = new TextEncoder().encode(`${headLine(version)}\n`);
-    for (const step of stepsOf(calls, [head, text], base, size, carry ? RUN_FLAG.CARRY : 0)) {
-        const { kind, result, status } = step;
-        const i = places.get(base + step.at / SECTOR_SIZE);
-        if (kind === STEP.READ) calls.stepBytes(step).set(i === undefined ? NO_DATA : sectorOf(old, i));
-        else if (kind === STEP.WRITE && i !== undefined) sectorOf(made, i).set(calls.stepBytes(step));
-        else if (kind === STEP.LOG && result !== RESULT.OK) return Math.max(blocks.findIndex(block => block >= step.block), 0);
-        else if (kind === STEP.END && status !== STATUS.DONE) return 0;
+    for (const step of stepsOfScript(calls, [head, text], base, size, carry ? RUN_FLAG.CARRY : 0)) {
+        if (step.kind === 'fail') return 0;
+        if (step.kind === 'log') {
+            const refused = step.answers.find(({ result }) => result !== RESULT.OK);
+            if (refused !== undefined) return Math.max(blocks.findIndex(block => block >= refused.block), 0);
+        }
+        if (step.kind !== 'read' && step.kind !== 'write') continue;
+        const sectors = calls.memory.subarray(step.place, step.place + step.size);
+        for (let k = 0; k * SECTOR_SIZE < step.size; k++) {
+            const i = places.get(base + step.at / SECTOR_SIZE + k);
+            if (step.kind === 'read') sectorOf(sectors, k).set(i === undefined ? NO_DATA : sectorOf(old, i));
+            else if (i !== undefined) sectorOf(made, i).set(sectorOf(sectors, k));
+        }
     }
     return differingSectors(made, fresh)[0] ?? -1;
 }

@@ -250,8 +250,8 @@ export function hasOtherAddress(calls: Calls, address: Uint8Array, block: number
  * @param address three bytes in BCD
  */
 export function blockAt(calls: Calls, address: Uint8Array) {
-    const [minute, second, frame] = Array.from(address, byte => 10 * (byte >> 4) + (byte & 15));
-    const block = (minute * 60 + second) * 75 + frame - PAUSE;
-    const made = addressOf(calls, block);
-    return made !== null && sameBytes(made, address) ? block : null;
+    const [minute, second, frame] = address;
+    const isInPause = minute === 0 && second < PAUSE_SECONDS;
+    const block = calls.block(isInPause ? Uint8Array.of(minute, second + PAUSE_SECONDS, frame) : address);
+    return isInPause && block !== null ? block - PAUSE : block;
 }
