@@ -2,10 +2,16 @@
 
 import assert from 'node:assert/strict';
 import { spawnSync } from 'node:child_process';
-import { mkdirSync, symlinkSync, writeFileSync } from 'node:fs';
+import { createHash } from 'node:crypto';
+import { linkSync, mkdirSync, rmSync, symlinkSync, writeFileSync } from 'node:fs';
+import { createRequire } from 'node:module';
 import { join } from 'node:path';
 import { test } from 'node:test';
-import { command, imageOf, inDirectory, read, run, write } from './common.mjs';
+import { recordOf, volumeOf } from '../core/strangers.mjs';
+
+// Must run before cdscript is loaded, which binds the calls.
+const faults = createRequire(import.meta.url)('./faulty.cjs');
+const { READING, command, imageOf, inDirectory, read, run, write } = await import('./common.mjs');
 
 const sheet = name => `FILE "${name}" BINARY\n TRACK 01 MODE1/2352\n INDEX 01 00:00:00\n`;
 const namesIn = text => text.split('\n').filter(Boolean).map(line => line.split('\t')[0]).sort();
@@ -104,41 +110,97 @@ test('- is standard input for scan too', () => inDirectory(async room => {
     assert.deepEqual([status, stdout.split('\t').slice(0, 2), stdout.split('\t').slice(7)], [0, ['-', 'mode1 20'], [`${image.length}`, '-', '-', '-\n']]);
 }));
 
-/** Runs cdscript without threads. Returns its status, and how many bytes of files it read by their places. */
-function bytesRead(room, words) {
-    write(room, { 'count.cjs': `require('node:worker_threads').Worker = class { constructor() { throw new Error('EAGAIN'); } };
-        const fs = require('node:fs');
-        const { readSync } = fs;
-        let bytes = 0;
-        fs.readSync = (...given) => {
-            const length = readSync(...given);
-            if (typeof given[4] === 'number') bytes += length;
-            return length;
-        };
-        process.on('exit', () => fs.writeFileSync('bytes', String(bytes)));` });
-    const { status, stderr } = spawnSync(process.execPath, ['-r', './count.cjs', command, ...words], { cwd: room, encoding: 'utf8' });
-    assert.equal(stderr, '', words.join(' '));
-    return [status, Number(read(room, 'bytes'))];
+/** Runs cdscript in this process. Returns its status, and how many bytes of files it read by their places. */
+async function bytesRead(room, words) {
+    let bytes = 0;
+    faults.hit = (name, [, , , length, place]) => {
+        if (name === 'readSync' && typeof place === 'number') bytes += length;
+        return null;
+    };
+    const { status, out, errors } = await run(words, { cwd: room });
+    faults.hit = () => null;
+    return { status, bytes, out, errors };
 }
 
-test('an image is tested and hashed once, however many sheets, links, and tracks lead to it', () => inDirectory(async room => {
+test('an image is tested and hashed once, however many sheets, links, and hard links lead to it', () => inDirectory(async room => {
     const image = imageOf(room, 8000);
     const shapes = {
         sheets: (set, count) => Array.from({ length: count }, (_, i) => write(set, { [`${i}.cue`]: sheet('z.bin') })),
         links: (set, count) => Array.from({ length: count }, (_, i) => symlinkSync('z.bin', join(set, `${i}.bin`))),
-        tracks: (set, count) => write(set, { 'a.cue': `FILE "z.bin" BINARY\n${Array.from({ length: count }, (_, i) =>
-            ` TRACK ${String(i + 1).padStart(2, '0')} MODE1/2352\n INDEX 01 00:0${i}:00\n`).join('')}` }),
+        'hard links': (set, count) => Array.from({ length: count }, (_, i) => linkSync(join(set, 'z.bin'), join(set, `${i}.bin`))),
+        'a sheet for each hard link': (set, count) => Array.from({ length: count }, (_, i) => {
+            linkSync(join(set, 'z.bin'), join(set, `${i}.bin`));
+            write(set, { [`${i}.cue`]: sheet(`${i}.bin`) });
+        }),
     };
     for (const [shape, make] of Object.entries(shapes)) {
-        const costs = [1, 8].map(count => {
+        const runs = [];
+        for (const count of [1, 8]) {
             const set = join(room, `${shape}${count}`);
             mkdirSync(set);
             write(set, { 'z.bin': image });
             make(set, count);
-            return bytesRead(room, ['scan', `${shape}${count}`]);
-        });
-        assert.deepEqual(costs.map(([status]) => status), [0, 0], shape);
+            const { status, bytes, out } = await bytesRead(room, ['scan', `${shape}${count}`]);
+            // Each hard link has its line, and all lines say the same.
+            const lines = out.split('\n').filter(Boolean).map(line => line.split('\t').slice(1).join('\t'));
+            assert.deepEqual([status, lines.length, new Set(lines).size], [0, shape.includes('hard') ? count + 1 : 1, 1], shape);
+            runs.push(bytes);
+        }
         // To open a sheet reads samples of the image.
-        assert.ok(costs[1][1] < 3 * costs[0][1], `${shape}: ${costs}`);
+        assert.ok(runs[0] >= image.length && runs[1] < 3 * image.length, `${shape}: ${runs}`);
+    }
+}));
+
+/** The bytes of files that jobs read may grow by this factor if eight times as many names lead to the same bytes. */
+const MOST_GROWTH = 1.5;
+
+test('no job reads the same bytes again for each directory record, track, name in a sheet, or entry of a DAT', () => inDirectory(async room => {
+    const [extent, first] = [100000, 28];
+    const user = count => {
+        const made = volumeOf(first + 100, sector => sector === 18 ? Array.from({ length: count }, (_, i) => recordOf(`FILE${i === 0 ? '' : i}`, first, extent, { flags: 0 })) : []);
+        for (let i = 0; i < 100; i++) made.set(new TextEncoder().encode(`Text number ${i} of the game.`), (first + i) * 2048);
+        return made;
+    };
+    const names = count => Array.from({ length: count }, (_, i) => i);
+    const hash = bytes => createHash('sha1').update(bytes).digest('hex');
+    write(room, { script: `cdpatch 1\nset ${first} 0 55\n`, table: '54=T\n41=A\n', list: `block\toffset\ttext\tnew\n${first}\t0\tText\tTEXT\n`, file: 'x' });
+    const shapes = {
+        records: async count => { write(room, { iso: user(count) }); return 'image'; },
+        tracks: async count => {
+            write(room, { iso: user(1), 'tracks.cue': `FILE "image" BINARY\n${names(count).map(i =>
+                ` TRACK ${String(i + 1).padStart(2, '0')} MODE1/2352\n INDEX 01 00:0${i === 0 ? '0:00' : `1:${15 + 2 * i}`}\n`).join('')}` });
+            return 'tracks.cue';
+        },
+        'names in a sheet': async count => {
+            write(room, { iso: user(1), 'names.cue': `${'FILE "image" BINARY\n'.repeat(count - 1)}${sheet('image')}` });
+            return 'names.cue';
+        },
+        'entries of a DAT': async count => { write(room, { iso: user(1), entries: String(count) }); return 'image'; },
+    };
+    const others = { check: 'script', apply: 'script', undo: 'script', find: 'table', show: 'table', texts: 'list', replace: 'list', 'replace-file': 'file',
+        diff: 'image', merge: 'other' };
+    for (const [shape, make] of Object.entries(shapes)) {
+        const costs = {};
+        for (const count of [1, 8]) {
+            const image = await make(count);
+            await inDirectory(async made => {
+                await run(['raw', join(room, 'iso'), join(made, 'image')], { cwd: room });
+                write(room, { image: read(made, 'image'), other: read(made, 'image') });
+            });
+            const entries = shape === 'entries of a DAT' ? count : 1;
+            const [size, sha1] = [read(room, 'image').length, hash(read(room, 'image'))];
+            write(room, { dat: `<datafile>${names(entries).map(i => `<game name="${i}"><rom name="${i}" size="${size}" sha1="${sha1}"/></game>`).join('')}</datafile>` });
+            for (const [job, form] of [...Object.entries(READING), ['texts', 'texts IMAGE --encoding Windows-1252 --pointers NEW']]) {
+                if (job === 'raw') continue;
+                const words = form.replace('IMAGE', image).replace('OTHER', others[job] ?? 'dat').replace('NEW', 'new').split(' ');
+                const { status, bytes, errors } = await bytesRead(room, words);
+                assert.ok(status < 2, `${words.join(' ')}: ${errors}`);
+                costs[form] = [...costs[form] ?? [], bytes];
+                rmSync(join(room, 'new'), { force: true });
+            }
+        }
+        for (const [form, [one, eight]] of Object.entries(costs)) {
+            assert.ok(one > 0 && eight < MOST_GROWTH * one, `${shape}, ${form}: ${one} and ${eight} bytes`);
+        }
     }
 }));

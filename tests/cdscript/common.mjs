@@ -102,6 +102,12 @@ export function sameFile(came, due, name) {
     assert.equal(Buffer.compare(came, due), 0, `${name}: bytes`);
 }
 
+/** Every job that reads an image, with its name and that of another file that is read. NEW is the name of a new file. */
+export const READING = { info: 'info IMAGE --dat OTHER', scan: 'scan IMAGE --dat OTHER', check: 'check IMAGE OTHER', apply: 'apply IMAGE OTHER NEW',
+    files: 'files IMAGE', find: 'find IMAGE A --table OTHER', texts: 'texts IMAGE --list OTHER', show: 'show IMAGE 1 0 --table OTHER',
+    extract: 'extract IMAGE /FILE NEW', replace: 'replace IMAGE --list OTHER', 'replace-file': 'replace-file IMAGE /FILE OTHER', diff: 'diff IMAGE OTHER',
+    merge: 'merge IMAGE OTHER NEW', rebuilds: 'rebuilds IMAGE', undo: 'undo IMAGE OTHER', raw: 'raw IMAGE NEW', user: 'user IMAGE NEW' };
+
 /** An image that repeats the eight sectors of other software. The program sets the addresses of the blocks from `base` on. */
 export function imageOf(directory, count, base = 0) {
     const image = Buffer.concat(Array.from({ length: count }, (_, i) => vectors.subarray(2352 * (i % 8), 2352 * (i % 8 + 1))));

@@ -126,7 +126,7 @@ test('fields that differ, and a tail that does', () => inDirectory(async room =>
     const image = imageOf(room, 4);
     write(room, { one: Buffer.concat([image, Buffer.from('a')]), two: Buffer.concat([image, Buffer.from('b')]) });
     const { status, out, errors } = await run(['diff', '--fields', 'one', 'two'], { cwd: room });
-    assert.deepEqual([status, out, errors], [1, 'sectors 4 differ 0\n', 'cdscript: the bytes after the last sector differ\n']);
+    assert.deepEqual([status, out, errors], [1, 'sectors 4 differ 0\n', 'cdscript: the incomplete last sectors differ\n']);
     assert.equal((await run(['diff', '--fields', 'one', 'one'], { cwd: room })).status, 0);
 }));
 

@@ -68,7 +68,7 @@ test('diff --partial leaves out what no script can make', () => inDirectory(asyn
     assert.match(refused.errors, /\ncdscript: no script can produce fresh, so none was written; use --partial to leave out these differences\n$/);
     const { status, out, errors } = await run(['diff', 'old', 'fresh', '--partial'], { cwd: room });
     assert.deepEqual([status, errors], [1, 'cdscript: nosync and mode1 in block 20, and a script changes only mode1\n' +
-        'cdscript: fresh is damaged in block 50\ncdscript: the bytes after the last sector differ, and a script cannot change them\n' +
+        'cdscript: fresh is damaged in block 50\ncdscript: the incomplete last sectors differ, and a script cannot change them\n' +
         'cdscript: blocks left out: 2\n']);
     write(room, { script: out });
     tool(program, ['apply', 'old', 'script', 'made'], { cwd: room });

@@ -106,7 +106,7 @@ async function writeGames(room) {
     return { said, states, faults };
 }
 
-const countsOf = ({ whole, inPart, missing }) => `games: whole ${whole.length}, in part ${inPart.length}, missing ${missing.length}`;
+const countsOf = ({ whole, inPart, missing }) => `games: complete ${whole.length}, incomplete ${inPart.length}, missing ${missing.length}`;
 
 /** The verdicts in lines, by the names. */
 const saidIn = lines => new Map(lines.map(line => line.split('\t')).map(row => [row[0], row[6]]));
@@ -127,9 +127,9 @@ test('each file, sheet, and game of a collection has its verdict, in text and in
     assert.deepEqual(linesIn(done.errors).slice(-2), summaryOf(made));
     assert.ok([...saidIn(linesIn(done.out)).keys()].every((name, i) => !name.endsWith('.cue') || linesIn(done.out)[i].split('\t').slice(1, 5).join() === 'none: a cue sheet,-,-,-'));
     const listed = await run(['scan', 'set', '--dat', 'a.dat', '--missing'], { cwd: room });
-    assert.deepEqual(linesIn(listed.errors).filter(line => / (missing|in part): /.test(line)), [
+    assert.deepEqual(linesIn(listed.errors).filter(line => / (missing|incomplete): /.test(line)), [
         ...states.missing.map(({ game }) => `cdscript: missing: ${game}`),
-        ...states.inPart.map(({ game, missing }) => `cdscript: in part: ${game} lacks ${missing[0]}${missing.length > 1 ? `, and ${missing.length - 1} more` : ''}`)]);
+        ...states.inPart.map(({ game, missing }) => `cdscript: incomplete: ${game} lacks ${missing[0]}${missing.length > 1 ? `, and ${missing.length - 1} more` : ''}`)]);
     for (const words of [[], ['--missing']]) {
         const objects = linesIn(runProcess(['scan', 'set', '--dat', 'a.dat', '--json', ...words], { cwd: room }).out).map(line => JSON.parse(line));
         const { whole, inPart, missing } = states;
@@ -158,6 +158,6 @@ test('a list that is continued says the same of sheets and games', () => inDirec
     unlinkSync(join(room, 'set', 'duplicate 2.bin'));
     const { errors } = await scan(['--dat', 'a.dat']);
     const { whole, inPart, missing } = made.states;
-    assert.equal(linesIn(errors).at(-2), `cdscript: games: whole ${whole.length - 2}, in part ${inPart.length + 2}, missing ${missing.length}`);
+    assert.equal(linesIn(errors).at(-2), `cdscript: games: complete ${whole.length - 2}, incomplete ${inPart.length + 2}, missing ${missing.length}`);
     assert.deepEqual(list(), due.map(([name, words]) => [name, name === 'set/sound.cue' ? 'not in the DAT' : words]));
 }));

@@ -97,10 +97,10 @@ test('the user data of sectors that are not Mode 1 are named, and a tail is', ()
     write(room, { 'image.bin': Buffer.concat([image, Buffer.from('tail')]) });
     const { status, errors } = await run(['user', 'image.bin', 'out'], { cwd: room });
     assert.deepEqual([status, errors], [1, 'cdscript: block 3: mode2, so the bytes written may not be user data\n' +
-        'cdscript: the 4 bytes after the last sector are left out\n']);
+        'cdscript: the incomplete last sector is left out\n']);
     const user = Buffer.concat(Array.from({ length: 8 }, (_, i) => image.subarray(2352 * i + 16, 2352 * i + 2064)));
     sameFile(read(room, 'out'), user, 'user data');
-    for (const [tail, due] of [[0, [0, '']], [1, [1, 'cdscript: the byte after the last sector is left out\n']]]) {
+    for (const [tail, due] of [[0, [0, '']], [1, [1, 'cdscript: the incomplete last sector is left out\n']]]) {
         write(room, { [`${tail}.bin`]: Buffer.concat([imageOf(room, 8), Buffer.alloc(tail)]) });
         const came = await run(['user', `${tail}.bin`, `${tail}.iso`], { cwd: room });
         assert.deepEqual([came.status, came.errors], due);
@@ -296,7 +296,7 @@ test('a repair of many places names the first of them', () => inDirectory(async 
     good.copy(other, 2352 * 11, 2352 * 12, 2352 * 13);
     write(room, { old: Buffer.concat([damaged(good, 0, ...odd), Buffer.from('a')]), other });
     const { status, out, errors } = await run(['merge', 'old', 'other', 'out'], { cwd: room });
-    assert.deepEqual([status, errors], [1, 'cdscript: the bytes after the last sector differ in other; those in old are kept\n' +
+    assert.deepEqual([status, errors], [1, 'cdscript: the incomplete last sector is different in other; that of old is kept\n' +
         'cdscript: out: the last sector is cut\n']);
     const lines = out.split('\n');
     const due = odd.map(([block]) => block).filter(block => block !== 11).slice(0, 1000).map(block => `${block}-${block} from other`);

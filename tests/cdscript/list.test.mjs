@@ -85,7 +85,7 @@ test('all rows that do not fit are named, and left out only if that is asked for
     const why = ['row 2: CP932 cannot encode \'é\' (U+00E9), character 1 of the text', 'row 3: the old text is not there',
         'row 4: the image has only the blocks 0 to 7', 'row 5: block or offset is not a number', 'row 7: it overlaps the text of row 6',
         'row 8: the old text is not there', 'row 9: CP932 cannot encode \'é\' (U+00E9), character 1 of the text',
-        'if the font of the game can show a character that the encoding lacks, a table of characters (--table) gives it a code'];
+        'if the font of the game can show a character that the encoding lacks, a character table (--table) gives it a code'];
     assert.deepEqual([refused.status, refused.out, refused.errors.split('\n').slice(0, -2)], [2, '', why.map(line => `cdscript: ${line}`)]);
     const partial = await listed(room, head, rows, '--encoding', 'CP932', '--partial');
     assert.deepEqual([partial.status, partial.out], [1, 'cdpatch 1\nset 3 2046 6F6B2020 was 83418343\n']);
@@ -101,8 +101,8 @@ test('a list is TSV or CSV, in UTF-8 or UTF-16, and has to name its columns', ()
     }
     const said = async words => (await run(words, { cwd: room })).errors;
     write(room, { none: 'block\toffset\ttext\tnew\n2\t100\tアイ\t\n', headless: '2\t100\tアイ\tok\n' });
-    assert.equal(await said(['replace', 'image', '--list', 'none']), 'cdscript: no row of the list has a translation\n');
-    assert.match(await said(['replace', 'image', '--list', 'headless']), /^cdscript: the header in row 1 of the list lacks the columns /);
+    assert.equal(await said(['replace', 'image', '--list', 'none']), 'cdscript: none: no row of the list has a translation\n');
+    assert.match(await said(['replace', 'image', '--list', 'headless']), /^cdscript: headless: the header in row 1 of the list lacks the columns /);
     assert.match(await said(['replace', 'image', '--list', 'none', 'アイ', 'ok']), /^cdscript: replace needs IMAGE; /);
     assert.match(await said(['replace', 'image', '--list', 'none', '--all']), /cannot be used together/);
     assert.match(await said(['replace', 'image', 'a', 'b', '--partial']), /--partial needs --list/);

@@ -161,6 +161,6 @@ test('info and scan agree on an image that is cut within a sector', () => inDire
     for (const [name, tail] of [['tail', 1000], ['ps', 5]]) {
         const info = await run(['info', name], { cwd: room });
         assert.deepEqual([info.status, (await run(['scan', name], { cwd: room })).status], [1, 1]);
-        assert.ok(info.out.includes(`\ntail ${tail}: ${name} is cut within a sector\n`));
+        assert.ok(info.out.includes(`\ntail ${tail}: the last sector of ${name} is incomplete\n`));
     }
 }));

@@ -146,7 +146,7 @@ test('each of 300 files has its line, its object, and its place in the games of 
     const listed = new Set(names.filter(name => said.has(name)).map(name => files.get(name).bytes.length));
     const unknown = names.map(name => [files.get(name), said.has(name)]).filter(([{ kind, bytes }, isKnown]) => !isKnown && (kind === 'image' || listed.has(bytes.length)));
     const bad = [...said.values()].filter(({ isBad }) => isBad).length;
-    assert.deepEqual(linesIn(errors).slice(-2), [`cdscript: games: whole ${counts[0]}, in part ${counts[1]}, missing ${counts[2]}`,
+    assert.deepEqual(linesIn(errors).slice(-2), [`cdscript: games: complete ${counts[0]}, incomplete ${counts[1]}, missing ${counts[2]}`,
         `cdscript: verified ${said.size - bad}, known as bad ${bad}, not in the DAT ${unknown.length}`]);
     const objects = linesIn((await run([...words, '--json'], { cwd: room })).out).map(line => JSON.parse(line));
     assert.deepEqual(objects.pop(), { kind: 'games', whole: counts[0], inPart: counts[1], missing: counts[2] });

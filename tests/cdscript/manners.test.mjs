@@ -5,7 +5,7 @@ import { mkdirSync, readdirSync } from 'node:fs';
 import { join } from 'node:path';
 import { test } from 'node:test';
 import { harmlessVolume } from '../core/strangers.mjs';
-import { ENCODINGS_KNOWN, command, damaged, imageOf, inDirectory, read, run, runProcess, tool, write } from './common.mjs';
+import { ENCODINGS_KNOWN, READING, command, damaged, imageOf, inDirectory, read, run, runProcess, tool, write } from './common.mjs';
 import { makeDisc, skip } from './discs.mjs';
 
 const hasTerminal = tool('script', ['--version']) !== null;
@@ -86,12 +86,6 @@ test('a dash after -o is standard output', () => inDirectory(async room => {
     const came = await run(['rebuilds', 'image', '-o', '-'], { cwd: room });
     assert.deepEqual([came.status, came.out, read(room, '-')], [due.status, due.out, null]);
 }));
-
-/** Every job that reads an image, with its name and that of another file that is read. NEW is the name of a new file. */
-const READING = { info: 'info IMAGE --dat OTHER', scan: 'scan IMAGE --dat OTHER', check: 'check IMAGE OTHER', apply: 'apply IMAGE OTHER NEW',
-    files: 'files IMAGE', find: 'find IMAGE A --table OTHER', texts: 'texts IMAGE --list OTHER', show: 'show IMAGE 1 0 --table OTHER',
-    extract: 'extract IMAGE /FILE NEW', replace: 'replace IMAGE --list OTHER', 'replace-file': 'replace-file IMAGE /FILE OTHER', diff: 'diff IMAGE OTHER',
-    merge: 'merge IMAGE OTHER NEW', rebuilds: 'rebuilds IMAGE', undo: 'undo IMAGE OTHER', raw: 'raw IMAGE NEW', user: 'user IMAGE NEW' };
 
 test('every job names the file that cannot be read, and the reason, and makes no file', () => inDirectory(async room => {
     assert.deepEqual(Object.keys(READING).sort(), JSON.parse((await run(['--forms'])).out).jobs.map(it => it.name).sort());

@@ -79,10 +79,10 @@ test('an unknown encoding in a row is an error of that row, and a character that
     const { status, errors } = await run(['replace', '--file', 'a.bin', '--list', 'list', 'out.bin'], { cwd: room });
     assert.equal(status, 2);
     assert.match(errors, /^cdscript: row 2: unknown encoding 'cp1259'; known encodings: hex, CP932, .*Windows-1252/m);
-    assert.match(errors, /^cdscript: row 3: CP932 cannot encode .*\ncdscript: if the font .*table of characters \(--table\)/m);
+    assert.match(errors, /^cdscript: row 3: CP932 cannot encode .*\ncdscript: if the font .*character table \(--table\)/m);
     write(room, { list: Buffer.from('msgid ""\nmsgstr ""\n"Content-Type: text/plain; charset=CP932\\n"\n\n#: -+100\nmsgid "\x82\xCD"\nmsgstr "a"\n', 'latin1') });
     const po = await run(['replace', '--file', 'a.bin', '--list', 'list', 'out.bin'], { cwd: room });
-    assert.deepEqual([po.status, po.errors], [2, 'cdscript: the list is not in UTF-8 or UTF-16; msgconv -t UTF-8 converts it\n']);
+    assert.deepEqual([po.status, po.errors], [2, 'cdscript: list: the list is not in UTF-8 or UTF-16; msgconv -t UTF-8 converts it\n']);
 }));
 
 test('rows that do not fit a file are named, and left out only if that is asked for', () => inDirectory(async room => {

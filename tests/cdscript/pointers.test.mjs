@@ -61,8 +61,14 @@ test('--keep leaves rows in place, tables that cannot be read are messages, and 
     assert.match(kept.errors, /^cdscript: row 4: the new text has \d+ bytes in CP932, .* It cannot move: it is to stay in place$/m);
     assert.equal(/row (4|7): moved/.test(kept.errors), false);
     const wrong = await run([...words, 'wrong', '--pointers', 'wrong.tsv'], { cwd: room });
-    assert.deepEqual([wrong.status, wrong.errors], [2, "cdscript: row 2 of the list of pointers: order cannot be 'middle'\n"]);
+    assert.deepEqual([wrong.status, wrong.errors], [2, "cdscript: wrong.tsv: row 2 of the list of pointers: order cannot be 'middle'\n"]);
     assert.equal(read(room, 'wrong'), null);
+    // Without a table, texts stay in place.
+    write(room, { 'empty.tsv': read(room, 'pointers.tsv').toString().split('\n')[0] });
+    const due = await run([...words, 'due', '--partial'], { cwd: room });
+    const empty = await run([...words, 'empty', '--partial', '--pointers', 'empty.tsv'], { cwd: room });
+    assert.deepEqual([empty.status, empty.errors], [1, `cdscript: empty.tsv has no table of pointers, so all texts stay in place\n${due.errors}`]);
+    sameFile(read(room, 'empty'), read(room, 'due'), 'the script in place');
     for (const [more, message] of [[['--keep', '4'], '--keep needs --pointers'], [['--keep', 'x'], /--keep/]]) {
         const { status, errors } = await run([...words, 'none', ...more], { cwd: room });
         assert.equal(status, 2);

@@ -24,7 +24,7 @@ const datOf = files => `<?xml version="1.0"?>\n<datafile>${Object.entries(files)
     `<game name="G"><rom name="${name}" size="${bytes.length}" sha1="${shaOf(bytes)}"/></game>`).join('\n')}</datafile>\n`;
 
 /** The summary for a collection of `writeCollection`. */
-const COUNTED = 'cdscript: games: whole 0, in part 1, missing 0\ncdscript: verified 20, known as bad 0, not in the DAT 20\n';
+const COUNTED = 'cdscript: games: complete 0, incomplete 1, missing 0\ncdscript: verified 20, known as bad 0, not in the DAT 20\n';
 
 /** The remark about a file that is not in a DAT. */
 const ONLY_SIZE = 'the DAT has a dump of this size, but none with this SHA-1: perhaps another dump of the disc repairs it';
@@ -124,7 +124,7 @@ test('each file that is looked at has a row, which names what info names and wha
     const words = ['scan', 'set/disc.iso', 'set/audio only.bin', '--dat', 'all.dat', '--resume', 'set/list'];
     for (let i = 0; i < 2; i++) {
         const { status, errors } = await run(words, { cwd: room });
-        assert.deepEqual([status, errors], [2, 'cdscript: set/disc.iso is an ISO image, 2048 bytes per sector\ncdscript: games: whole 0, in part 1, missing 0\ncdscript: verified 2, known as bad 0, not in the DAT 0\n']);
+        assert.deepEqual([status, errors], [2, 'cdscript: set/disc.iso is an ISO image, 2048 bytes per sector\ncdscript: games: complete 0, incomplete 1, missing 0\ncdscript: verified 2, known as bad 0, not in the DAT 0\n']);
     }
     // The list is not a part of the collection that contains it.
     const all = await run(['scan', 'set', '--dat', 'all.dat', '--resume', 'set/list'], { cwd: room });
@@ -422,7 +422,7 @@ test('a DAT without SHA-1 is looked up by CRC32 and MD5, also for a list that la
     const { status, errors } = await run(['scan', ...names, '--resume', 'list', '--dat', 'a.dat'], { cwd: room });
     const said = [...linesOf(room, 'list').values()].sort().map(line => line.split('\t')).map(row => [row[6], row[9], row[10].length]);
     assert.deepEqual(said, [['verified A.bin', crc32Of(image), 32], ['verified B.bin', crc32Of(files['b.bin']), 32], ['not in the DAT', crc32Of(files['c.bin']), 32]]);
-    assert.deepEqual([status, errors], [1, 'cdscript: 1 entry of the DAT has no size or no hash, and cannot match a file\ncdscript: games: whole 1, in part 0, missing 0\ncdscript: verified 2, known as bad 0, not in the DAT 1\n']);
+    assert.deepEqual([status, errors], [1, 'cdscript: 1 entry of the DAT has no size or no hash, and cannot match a file\ncdscript: games: complete 1, incomplete 0, missing 0\ncdscript: verified 2, known as bad 0, not in the DAT 1\n']);
     const info = await run(['info', 'a.bin', '--dat', 'a.dat'], { cwd: room });
     assert.match(info.out, /\nverified A\.bin\n/);
     // Only one of the two hashes, and a CRC-32 that begins with 0.

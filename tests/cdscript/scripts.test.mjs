@@ -189,12 +189,12 @@ test('undo on an image that is patched already writes nothing', () => inDirector
     assert.deepEqual([none.status, none.out, none.errors], [0, 'cdpatch 1\n', 'cdscript: the script has no patch\n']);
 }));
 
-test('undo says of a script with a fault what the program says', () => inDirectory(async room => {
+test('undo says of a script with a fault what the program says, and names the script', () => inDirectory(async room => {
     write(room, { image: imageOf(room, 8), number: 'cdpatch 1\nset 0 0 41\nset x 0 41\n', many: `cdpatch 1\n${'set 0 0 41\n'.repeat(65536)}` });
-    await refuses(room, ['undo', 'image', 'number'], `script line 3: ${MESSAGES.bad_number}`);
-    await refuses(room, ['undo', 'image', 'many'], 'script line 65537: more than 65535 patches');
+    await refuses(room, ['undo', 'image', 'number'], `number: script line 3: ${MESSAGES.bad_number}`);
+    await refuses(room, ['undo', 'image', 'many'], 'many: script line 65537: more than 65535 patches');
     write(room, { long: Buffer.alloc((64 << 20) + 1, '#') });
-    await refuses(room, ['undo', 'image', 'long'], 'the script is longer than 67108864 bytes');
+    await refuses(room, ['undo', 'image', 'long'], 'long: the script is longer than 67108864 bytes');
 }));
 
 test('undo says that its script needs --carry', () => inDirectory(async room => {

@@ -46,7 +46,7 @@ test('a table costs as much as a harmless one', () => inDirectory(async room => 
     const due = measured(room, ['find', 'image', '一', '--table', 'harmless.tbl']);
     for (const { table, text } of Object.values(TABLES)) {
         write(room, { 'game.tbl': table });
-        costsAsMuch(room, ['find', 'image', text, '--table', 'game.tbl'], due, 6, /^([01] |2 cdscript: line 2 of the table has )/);
+        costsAsMuch(room, ['find', 'image', text, '--table', 'game.tbl'], due, 6, /^([01] |2 cdscript: game\.tbl: line 2 of the table has )/);
     }
 }));
 

@@ -31,7 +31,7 @@ const { openDisc } = await core('disc/disc.js');
 const { FilesAlong } = await core('texts/all_texts.js');
 const { applyScript } = await core('tasks/scripts.js');
 const { newTextsOf } = await core('tasks/list_tables.js');
-const { Games, gameLines } = await command('hashes.js');
+const { Verdicts, gameLines } = await command('hashes.js');
 const { LinesInOrder, unitsOf } = await command('scan_list.js');
 const { pathsOfSheet } = await command('opening.js');
 const { readPatcherText } = await page('player/patcher.js');
@@ -110,9 +110,9 @@ function gamesIn(entries, files) {
     return async () => {
         const dumps = new KnownDumps();
         await dumps.add((async function* () { yield encoded(dat); })());
-        const games = new Games(dumps);
-        for (let i = 0; i < files; i++) games.add(2352, { sha1: (i % 16).toString(16).repeat(40) });
-        gameLines(games.found(), true);
+        const verdicts = new Verdicts(dumps);
+        for (let i = 0; i < files; i++) verdicts.addFile(2352, { sha1: (i % 16).toString(16).repeat(40) });
+        gameLines(verdicts.games(), true);
     };
 }
 
@@ -139,7 +139,7 @@ function sheetIn(named, there) {
 function linesInOrder(sheets, files) {
     const named = i => Array.from({ length: 198 }, (_, k) => `${(i + k) % files}.bin`);
     const names = [...Array.from({ length: sheets }, (_, i) => `${i}.cue`), ...Array.from({ length: files }, (_, i) => `${i}.bin`)];
-    const collection = { wanted: () => names.map(name => ({ name, real: name })), realOf: name => name,
+    const collection = { wanted: () => names.map(name => ({ name, real: name, id: name })), placeOf: name => ({ real: name, id: name }),
         filesNamedBy: ({ name }) => ({ names: name.endsWith('.cue') ? named(parseInt(name, 10)) : [], isWhole: true }) };
     return () => {
         const units = unitsOf(collection);

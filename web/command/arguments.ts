@@ -45,8 +45,8 @@ function wholeHelp(version: string) {
 }
 
 /** @param job one of FORMS, or '' for all */
-export function helpText(job: string, version: string) {
-    return `${(job === '' ? wholeHelp(version) : jobHelp(job)).join('\n')}\n`;
+export function helpLines(job: string, version: string) {
+    return job === '' ? wholeHelp(version) : jobHelp(job);
 }
 
 /** An option for the programs that generate pages and completions. `own` is what it does here. */
@@ -62,7 +62,7 @@ export function formsText() {
         name, says, forms: usagesOf(name), words, found: ends[1] || '',
         options: withHelp(options).map(it => optionObject(it, own[it])),
     }));
-    return `${JSON.stringify({ name: 'cdscript', jobs, options: OWN_OPTIONS.map(name => optionObject(name)) })}\n`;
+    return JSON.stringify({ name: 'cdscript', jobs, options: OWN_OPTIONS.map(name => optionObject(name)) });
 }
 
 export type Given = { job: string, names: string[], options: Options };
@@ -120,15 +120,9 @@ function checkOptions(job: string, options: Options) {
     }
 }
 
-/** The arguments of a job with these options, in the notation of FORMS. */
-function takenBy(job: string, options: Options) {
-    const { takes, instead = {} } = FORMS[job];
-    const [option] = Object.keys(instead).filter(name => name in options);
-    return option === undefined ? takes : instead[option];
-}
-
 function checkNames(job: string, names: string[], options: Options) {
-    const takes = takenBy(job, options);
+    const { takes: usual, instead = {} } = FORMS[job];
+    const takes = Object.keys(instead).filter(name => name in options).map(name => instead[name])[0] || usual;
     const together = takes.filter(name => name.startsWith('[')).flatMap(name => name.split(' ').slice(1)).length;
     const least = takes.filter(name => !/^\[|\?$/.test(name)).length;
     const most = takes.some(name => /\.\.\??$/.test(name)) ? Infinity : takes.length + together;

@@ -5,14 +5,16 @@ import { dirname, join } from 'node:path';
 import { LARGEST_SHEET, isSheetName, sheetsOf } from '../core/disc/views.js';
 import { Fault } from '../core/faults.js';
 import { letSignalsIn, reasonOf } from './system.js';
-import { timeText } from './files.js';
 import { nameOfBytes, pathIn, pathOf } from './new_file.js';
 import { pathsOfSheet } from './opening.js';
-import type { FileState } from './scan_list.js';
+import { stateIn, type FileState } from './scan_list.js';
 import type { Target } from './job.js';
 
-/** A file, whether it was given by its name, and its real path, size, and time of change; null for what is not a regular file. */
-export type Wanted = { name: string, isNamed: boolean, real: string, state: FileState | null };
+/**
+ * A file: whether it was given by its name; its real path; `id`, which is the same for all its hard links, and the real path if there are
+ * none; and its size and time of change, null for what is not a regular file.
+ */
+export type Wanted = { name: string, isNamed: boolean, real: string, id: string, state: FileState | null };
 
 /** Standard input, as a name. */
 const INPUT = '-';
@@ -43,14 +45,14 @@ export class Collection {
     /** @param path that was given */
     addNamed(path: string) {
         return this.tried(path, () => {
-            if (path === INPUT) return void this.found.set(INPUT, { name: INPUT, isNamed: true, real: INPUT, state: null });
+            if (path === INPUT) return void this.found.set(INPUT, { name: INPUT, isNamed: true, real: INPUT, id: INPUT, state: null });
             const stat = statSync(pathOf(path), { bigint: true });
-            return stat.isDirectory() ? this.addAll(path) : this.addFile({ name: path, isNamed: true, real: realPath(path) }, stat);
+            return stat.isDirectory() ? this.addAll(path) : this.addFile({ name: path, isNamed: true, ...placeOf(path, stat) }, stat);
         });
     }
 
     async addAll(directory: string) {
-        const real = realName(directory);
+        const real = realPath(directory);
         if (this.searched.has(real)) return;
         this.searched.add(real);
         const entries = readdirSync(pathOf(directory), { withFileTypes: true, encoding: 'buffer' })
@@ -70,29 +72,33 @@ export class Collection {
      */
     addEntry(path: string, real?: string) {
         const stat = statSync(pathOf(path), { bigint: true });
-        if (stat.isFile()) this.addFile({ name: path, isNamed: false, real: real || realPath(path) }, stat);
+        if (stat.isFile()) this.addFile({ name: path, isNamed: false, ...placeOf(path, stat, real) }, stat);
         else if (stat.isDirectory()) this.links.push(path);
     }
 
     /** Searches a directory by a link, unless the link is inside that directory, which would be a loop. */
-    async addLinked(path: string) {
-        const [real, place] = [realName(path), realName(dirname(path))];
-        const isAround = place === real || place.startsWith(join(real, '/'));
-        if (!isAround) await this.tried(path, () => this.addAll(path));
+    addLinked(path: string) {
+        return this.tried(path, () => {
+            const isAround = join(realPath(dirname(path)), '/').startsWith(join(realPath(path), '/'));
+            return isAround ? undefined : this.addAll(path);
+        });
     }
 
     addFile(file: Omit<Wanted, 'state'>, stat: BigIntStats) {
         const isTarget = stat.dev === this.target.dev && stat.ino === this.target.ino;
         if (isTarget || this.found.has(file.real)) return;
-        const wanted = { ...file, state: stat.isFile() ? { size: Number(stat.size), changed: timeText(stat) } : null };
+        const wanted = { ...file, state: stat.isFile() ? stateIn(stat) : null };
         this.found.set(file.real, wanted);
         this.byName.set(file.name, wanted);
     }
 
-    /** The real path of a file that may be gone. */
-    realOf(name: string) {
-        const known = this.byName.get(name);
-        return known ? known.real : realName(name);
+    /** The real path and the `id` of a file. If it is gone, both are its name. */
+    placeOf(name: string): Pick<Wanted, 'real' | 'id'> {
+        try {
+            return this.byName.get(name) || placeOf(name, statSync(pathOf(name), { bigint: true }));
+        } catch {
+            return { real: name, id: name };
+        }
     }
 
     /** The bytes of a cue sheet; null for anything else, and if it cannot be read, which is reported when it is examined. */
@@ -139,11 +145,6 @@ function realPath(name: string) {
     return nameOfBytes(realpathSync.native(pathOf(name), 'buffer'));
 }
 
-/** @param name of a file that may be gone */
-function realName(name: string) {
-    try {
-        return realPath(name);
-    } catch {
-        return name;
-    }
+function placeOf(name: string, { dev, ino, nlink }: BigIntStats, real: string = realPath(name)) {
+    return { real, id: nlink > 1n ? `${dev} ${ino}` : real };
 }

@@ -93,15 +93,6 @@ export function timeText({ mtime }: BigIntStats) {
     return Number.isNaN(mtime.getTime()) ? '' : mtime.toISOString();
 }
 
-/** @param name of a file that may not exist */
-function isDevice(name: string) {
-    try {
-        return statSync(pathOf(name), { bigint: true }).isCharacterDevice();
-    } catch {
-        return false;
-    }
-}
-
 /** The files of one run. */
 export class Files {
     /** The names of the files that are read, by descriptor. */
@@ -133,31 +124,29 @@ export class Files {
     /** Opens an image; `-` is standard input. Each image is opened once, and the bytes of a pipe are kept. */
     async image(name: string): Promise<DiscFile> {
         const known = this.images.get(name);
-        if (known) return known;
-        await this.begin(name);
-        const file = { name, reader: await this.readerOf(name, this.begun.get(name) || 0) };
+        const file = known || { name, reader: await this.readerOf(name, await this.begin(name)) };
         this.images.set(name, file);
         return file;
     }
 
-    /** Opens an image without reading it. */
+    /** Opens an image without reading it. Returns its descriptor. */
     async begin(name: string) {
-        if (!this.begun.has(name)) this.begun.set(name, name === '-' ? this.input : await this.opened(name));
+        const descriptor = this.begun.get(name) ?? (name === '-' ? this.input : await this.opened(name));
+        this.begun.set(name, descriptor);
+        return descriptor;
     }
 
     /**
      * Opens an image that only a cue sheet names. Throws a Fault if it is not a regular file, which could be endless or wait for a writer.
      */
     async imageOfSheet(name: string): Promise<DiscFile> {
-        const known = this.images.get(name);
-        if (known) return known;
-        const descriptor = await this.opened(name, constants.O_RDONLY | (constants.O_NONBLOCK || 0));
-        const stat = await tryFile('read', name, () => fstatSync(descriptor, { bigint: true }));
-        if (!stat.isFile()) throw ownFault(`${name} is not a regular file, and only the cue sheet names it: give its name as IMAGE`);
-        const file = { name, reader: diskReader(name, descriptor, Number(stat.size), 0) };
-        this.changed.set(name, timeText(stat));
-        this.images.set(name, file);
-        return file;
+        if (!this.begun.has(name)) {
+            const descriptor = await this.opened(name, constants.O_RDONLY | (constants.O_NONBLOCK || 0));
+            const stat = await tryFile('read', name, () => fstatSync(descriptor, { bigint: true }));
+            if (!stat.isFile()) throw ownFault(`${name} is not a regular file, and only the cue sheet names it: give its name as IMAGE`);
+            this.begun.set(name, descriptor);
+        }
+        return this.image(name);
     }
 
     /** The reader of an open file. A regular file that seems to be empty is read too: it may have bytes, for example in procfs. */
@@ -197,7 +186,8 @@ export class Files {
 
     /** Opens a device such as /dev/null for writing; null if the name is not that of a device. Nothing in it can be lost. */
     async device(name: string) {
-        if (!isDevice(name)) return null;
+        const stat = await tryFile('create', name, () => statSync(pathOf(name), { bigint: true, throwIfNoEntry: false }));
+        if (!stat?.isCharacterDevice()) return null;
         const descriptor = await tryFile('open', name, () => openSync(name, 'w'));
         this.open.set(descriptor, name);
         const write = (bytes: Uint8Array) => tryFile('write', name, () => writeFully(descriptor, bytes));

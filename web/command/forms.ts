@@ -35,7 +35,7 @@ export const FORMS: Record<string, Form> = {
         says: 'Check all images of a collection',
         does: 'Prints a line for each file, with tabs between these columns:\n' +
             '1 name\n' +
-            '2 kinds of sectors, or "none: " and the kind of file; then "tail N" if the file ends with part of a sector, and ' +
+            '2 kinds of sectors, or "none: " and the kind of file; then "tail N" if the last sector is incomplete, and ' +
             '"short N" if the image lacks N blocks of its volume\n' +
             '3 damaged sectors\n' +
             '4 findings\n' +
@@ -91,7 +91,7 @@ export const FORMS: Record<string, Form> = {
         says: 'Print a table of all text on a disc',
         does: 'Its columns are block, offset, bytes, room, encoding, file, text, and new. Write translations in the column new, for ' +
             '`replace --list`. A PO file has an entry for each distinct string. --list fills in the translations of an earlier ' +
-            'list. Strings that are unlikely to be text are left out. Without --encoding it looks for text in the encodings of ' +
+            'table. Strings that are unlikely to be text are left out. Without --encoding it looks for text in the encodings of ' +
             'Japanese discs. With --file, the block is "-", and the offset counts from the start of the file. With --every and ' +
             '--length it prints a row for each record of one file, with a further column named fill: what pads a shorter ' +
             'translation.',
@@ -122,14 +122,14 @@ export const FORMS: Record<string, Form> = {
             'padded with spaces (00 for hex) or with --fill. A longer NEW is refused.\n' +
             'With --list it reads a table with the columns block, offset, text, and new (room and encoding are optional), or a PO ' +
             'file from `texts --po`.\n' +
-            'With --check it tests whether the translations of lists fit and can be encoded.\n' +
+            'With --check it tests whether the translations of tables fit and can be encoded.\n' +
             'With --file and --list it makes OUT, a copy of FILE with the translations.',
         ends: { 0: 'done', 1: 'some places are left out (they are listed) or not tested', 2: 'failed' },
         example: "cdscript replace game.cue 'press start' 'Start' -o english.txt",
         own: {
-            end: 'the byte that ends each text: --fill end writes it, and no new text replaces the last of it',
-            partial: 'leave out the rows of the list that do not fit',
-            pointers: 'move texts that are longer than their room, with the pointers of this list from `texts --pointers`',
+            end: 'the byte that ends each text: --fill end writes it, and no translation replaces the last of it',
+            partial: 'leave out the rows of the table that do not fit',
+            pointers: 'move texts that are longer than their room, with the tables of pointers in this file from `texts --pointers`',
         },
     },
     'replace-file': {
@@ -165,8 +165,8 @@ export const FORMS: Record<string, Form> = {
     'rebuilds': {
         job: rebuildsJob, takes: ['IMAGE'], options: ['track', 'base', 'output'],
         says: 'Write a script that recalculates stale EDC and parity',
-        does: 'Use it only if the image was clean before it was edited. The script makes the sectors valid with their present ' +
-            'bytes. So it hides real damage for good, and destroys deliberate damage.',
+        does: 'Use it only if all sectors were sound before the image was edited. The script makes the sectors sound with their ' +
+            'present bytes. So it hides real damage for good, and destroys deliberate damage.',
         ends: { 0: 'done', 2: 'failed' },
         example: 'cdscript rebuilds edited.bin -o rebuild.txt',
     },
@@ -188,7 +188,7 @@ export const FORMS: Record<string, Form> = {
     'user': {
         job: userJob, takes: ['IMAGE', 'OUT'], options: ['track', 'base'], says: 'Extract the user data of an image as an ISO image',
         does: 'OUT must not exist. It has 2048 bytes per sector.',
-        ends: { 0: 'done', 1: 'some sectors are damaged, misplaced, or not Mode 1, or there is a tail', 2: 'failed' },
+        ends: { 0: 'done', 1: 'some sectors are damaged, misplaced, incomplete, or not Mode 1', 2: 'failed' },
         example: 'cdscript user game.cue game.iso',
     },
 };

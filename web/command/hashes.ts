@@ -15,9 +15,10 @@ import * as zlib from 'node:zlib';
 /** Which hashes are computed beside SHA-1. */
 export type Needs = KnownDumps['needs'];
 
-/** No hash beside SHA-1; and all hashes. */
-export const SHA1_ONLY = { crc32: false, md5: false };
-export const ALL_HASHES = { crc32: true, md5: true };
+/** The hashes that a job prints, or needs to find a file in DATs. */
+export function needsOf({ options: { json = false } }: Job, known: KnownDumps | null): Needs {
+    return json || known === null ? { crc32: json, md5: json } : known.needs;
+}
 
 /** Continues a CRC-32. Node has had a call for it since 20.15, which takes a fifth of the time. */
 const addToCrc: (before: number, bytes: Uint8Array) => number = zlib.crc32 === undefined ? crc32 : (before, bytes) =>
@@ -60,11 +61,16 @@ export function sayKnown(job: Job, known: KnownDumps, name: string, size: number
     return found;
 }
 
-/** Counts the files that are verified, are bad dumps, and are not in the DAT. */
+/** A game, the number of its files, and those that are missing. */
+type GameFound = { game: string, files: number, missing: string[] };
+
+/** Counts the files that are verified, are bad dumps, and are not in the DAT, and the games of the DAT that they are. */
 export class Verdicts {
     verified = 0;
     bad = 0;
     unknown = 0;
+    /** The dumps of the collection. */
+    there = new Set<Dump | null>();
 
     constructor(readonly known: KnownDumps) {}
 
@@ -82,6 +88,25 @@ export class Verdicts {
 
     text() {
         return `verified ${this.verified}, known as bad ${this.bad}, not in the DAT ${this.unknown}`;
+    }
+
+    /** Adds a file of the collection. */
+    addFile(size: number, hashes: Hashes) {
+        this.there.add(this.known.dumpOf(size, hashes));
+    }
+
+    /** The games in the order of the DATs: those of which all files were found, whatever the names, and those that lack some or all. */
+    games() {
+        const all = this.known.games.map(({ name, dumps }): GameFound => {
+            const missing = [...dumps].filter(([dump]) => !this.there.has(dump)).map(([, file]) => file);
+            return { game: name, files: dumps.size, missing };
+        });
+        const isMissing = ({ files, missing }: GameFound) => missing.length === files;
+        return {
+            whole: all.filter(it => it.missing.length === 0),
+            inPart: all.filter(it => it.missing.length > 0 && !isMissing(it)),
+            missing: all.filter(isMissing),
+        };
     }
 }
 
@@ -116,7 +141,7 @@ function hashing(reader: Reader, needs: Needs): Reader & { digest(): Promise<Req
 }
 
 /** Returns a function that surveys and hashes files. */
-export function readingOnce(job: Job, needs: Needs = SHA1_ONLY): ReadFile {
+export function readingOnce(job: Job, needs: Needs): ReadFile {
     return async ({ reader }, tracks) => {
         const hashed = hashing(reader, needs);
         const isBeside = tracks.length > 0 && reader.lent !== undefined && job.pool.hasThreads(sectorCount(reader.size));
@@ -131,48 +156,16 @@ export function readingOnce(job: Job, needs: Needs = SHA1_ONLY): ReadFile {
     };
 }
 
-// The games of DATs: which of them a collection has whole, in part, or not at all.
-
-/** A game, the number of its files, and those that are missing. */
-type GameFound = { game: string, files: number, missing: string[] };
-
-/** Finds out which games are whole: all their files were found, whatever the names. */
-export class Games {
-    /** The dumps that were found. */
-    there = new Set<Dump | null>();
-
-    constructor(readonly known: KnownDumps) {}
-
-    /** Adds a file of the collection. */
-    add(size: number, hashes: Hashes) {
-        this.there.add(this.known.dumpOf(size, hashes));
-    }
-
-    /** The games in the order of the DATs: those that are whole, and those that lack some or all of their files. */
-    found() {
-        const all = this.known.games.map(({ name, dumps }) => {
-            const missing = [...dumps].filter(([dump]) => !this.there.has(dump)).map(([, file]) => file);
-            return { game: name, files: dumps.size, missing } as GameFound;
-        });
-        const isMissing = ({ files, missing }: GameFound) => missing.length === files;
-        return {
-            whole: all.filter(it => it.missing.length === 0),
-            inPart: all.filter(it => it.missing.length > 0 && !isMissing(it)),
-            missing: all.filter(isMissing),
-        };
-    }
-}
-
-/** The lines about games: the missing ones and those in part if they are to be listed, and how many there are. */
-export function gameLines({ whole, inPart, missing }: ReturnType<Games['found']>, listsMissing: boolean) {
+/** The lines about games: the missing and the incomplete ones if they are to be listed, and how many there are. */
+export function gameLines({ whole, inPart, missing }: ReturnType<Verdicts['games']>, listsMissing: boolean) {
     const more = (files: string[]) => files.length > 1 ? `, and ${files.length - 1} more` : '';
-    const parts = inPart.map(it => `in part: ${it.game} lacks ${it.missing[0]}${more(it.missing)}`);
+    const parts = inPart.map(it => `incomplete: ${it.game} lacks ${it.missing[0]}${more(it.missing)}`);
     const listed = [...missing.map(it => `missing: ${it.game}`), ...parts];
-    return [...listsMissing ? listed : [], `games: whole ${whole.length}, in part ${inPart.length}, missing ${missing.length}`];
+    return [...listsMissing ? listed : [], `games: complete ${whole.length}, incomplete ${inPart.length}, missing ${missing.length}`];
 }
 
 /** The object about games, the last one of `scan --json`. */
-export function gamesObject({ whole, inPart, missing }: ReturnType<Games['found']>, listsMissing: boolean) {
+export function gamesObject({ whole, inPart, missing }: ReturnType<Verdicts['games']>, listsMissing: boolean) {
     const counts = { kind: 'games', whole: whole.length, inPart: inPart.length, missing: missing.length };
     return listsMissing ? { ...counts, games: [...missing, ...inPart] } : counts;
 }

@@ -9,7 +9,7 @@ import {
     type OpenedTrack, type Ranges, type Refusal, type Repair, type Shift,
 } from '../core/tasks/index.js';
 import { blocksText, ownFault, sentenceOf, verdictText } from '../sentences/index.js';
-import { ALL_HASHES, RunningHashes, sayKnown } from './hashes.js';
+import { RunningHashes, needsOf, sayKnown } from './hashes.js';
 import { MOST_UNTESTED, jsonLine, linesOfRuns, mergeObject, nameOfUntested, sayOfRuns, untestedTexts, visible } from './printed.js';
 import { entriesAtPath } from './looking.js';
 import { openTrackOf } from './opening.js';
@@ -107,7 +107,7 @@ export async function mergeJob(job: Job) {
     const [name, ...more] = job.names;
     const known = await job.knownDumps();
     const out = await job.files.make(more.pop() || '');
-    const hash = job.options.json ? new RunningHashes(ALL_HASHES) : known && new RunningHashes(known.needs);
+    const hash = job.options.json || known ? new RunningHashes(needsOf(job, known)) : null;
     const opened = await openTrackOf(job, name, true);
     const dumps = [];
     for (const other of more) dumps.push(await openTrackOf(job, other, true));
@@ -120,7 +120,7 @@ export async function mergeJob(job: Job) {
     sayOtherFiles(job, opened);
     repair.ranges.forEach((ranges, i) => sayOtherRange(job, image, others[i], ranges, out.name));
     others.filter((_, i) => repair.tails[i]).forEach(other =>
-        job.say(`the bytes after the last sector differ in ${other.name}; those in ${name} are kept`));
+        job.say(`the incomplete last sector is different in ${other.name}; that of ${name} is kept`));
     const made = { name: out.name, size: image.reader.size, hashes: hash && hash.digest() };
     await job.output.write(job.options.json && made.hashes ? jsonLine(mergeObject({ ...made, hashes: made.hashes }, known, repair, others))
         : bytesOfLines(repairLines(repair, others).map(visible)));
@@ -171,8 +171,7 @@ export async function userJob(job: Job) {
     sayOfRuns(job, wrong.damaged, it => `${blocksText([it])}: damaged, so ${out.name} may have wrong bytes there, and will not show them`);
     sayOfRuns(job, wrong.elsewhere, it => `${blocksText([it])}: with the address of a different block, so ${out.name} may lack blocks`);
     if (part.base > 0) job.say(`to convert it back: cdscript raw --base ${part.base}`);
-    if (part.tail === 1) job.say('the byte after the last sector is left out');
-    if (part.tail > 1) job.say(`the ${part.tail} bytes after the last sector are left out`);
+    if (part.tail > 0) job.say('the incomplete last sector is left out');
     return Number([others, wrong.damaged, wrong.elsewhere].some(runs => runs.length > 0) || part.tail > 0);
 }
 

@@ -9,7 +9,7 @@ import {
     endsEarlyByGaps, examineDisc, otherSummary, summaryByDat, summaryOf, unsurveyedTracks, verdictOf, type FileFound, type FileSummary,
 } from '../core/tasks/index.js';
 import { sentenceOf, verdictText } from '../sentences/index.js';
-import { ALL_HASHES, SHA1_ONLY, Verdicts, dumpText, readingOnce } from './hashes.js';
+import { Verdicts, dumpText, needsOf, readingOnce } from './hashes.js';
 import { fileObject, infoObject, jsonLine, linesOfRuns, missingObject, untestedTexts, visible } from './printed.js';
 import { namingSheet, siblingsOf, surveyedIn } from './opening.js';
 import type { FileKind } from '../core/faults.js';
@@ -130,9 +130,9 @@ function fileLines({ name, reader: { size } }: DiscFile, hashes: Hashes, verdict
 /** The lines of a disc, and whether something is wrong with it. */
 async function discLines(job: Job, disc: Disc, verdicts: Verdicts | null): Promise<Informed> {
     const tracks = disc.tracks.map(track => trackText(disc, track));
-    const found = await examineDisc(disc, await surveyedIn(job, disc), readingOnce(job, needsOf(job, verdicts)));
+    const found = await examineDisc(disc, await surveyedIn(job, disc), readingOnce(job, needsOf(job, verdicts && verdicts.known)));
     const files = found.flatMap(({ file, hashes, tail }) => [
-        ...fileLines(file, hashes, verdicts, true), ...tail > 0 ? [`tail ${tail}: ${file.name} is cut within a sector`] : []]);
+        ...fileLines(file, hashes, verdicts, true), ...tail > 0 ? [`tail ${tail}: the last sector of ${file.name} is incomplete`] : []]);
     const surveys = found.flatMap(it => it.surveys);
     const lines = surveys.flatMap(it => {
         const [first, ...more] = surveyLines(job, disc, it);
@@ -154,16 +154,11 @@ function advicesFor(name: string, kind: FileKind) {
     return [sentenceOf({ code: 'kind/advice', facts: { kind } }), kind === 'iso' ? WITH_CDSCRIPT : ''].filter(it => it !== '');
 }
 
-function needsOf(job: Job, verdicts: Verdicts | null) {
-    if (job.options.json) return ALL_HASHES;
-    return verdicts ? verdicts.known.needs : SHA1_ONLY;
-}
-
 /** The lines of a file that is not a disc. `what` is the kind in words. */
 async function otherLines(job: Job, file: DiscFile, kind: FileKind, what: string, verdicts: Verdicts | null): Promise<Informed> {
     const advices = advicesFor(job.names[0], kind);
     if (verdicts === null && !job.options.json) return { found: true, lines: advices, objects: [] };
-    const { hashes } = await readingOnce(job, needsOf(job, verdicts))(file, []);
+    const { hashes } = await readingOnce(job, needsOf(job, verdicts && verdicts.known))(file, []);
     const lines = verdicts === null ? [] : fileLines(file, hashes, verdicts, false);
     const { name, reader: { size } } = file;
     const other = otherSummary({ name, size, changed: job.files.changed.get(name) || '', hashes }, kind, what);

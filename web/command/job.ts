@@ -1,15 +1,12 @@
 // The context of a job: its arguments, files, output, messages, calls of libcdpatch, and threads.
 
-import { gunzipSync } from 'node:zlib';
 import { KnownDumps } from '../core/disc/views.js';
-import { Fault, failedBy } from '../core/faults.js';
-import { Calls, SECTOR_SIZE, hasVectors, sectorCount } from '../core/module/index.js';
+import { SECTOR_SIZE, sectorCount } from '../core/module/index.js';
 import { watchedReader } from '../core/readers/views.js';
 import { CollectedSurvey } from '../core/tasks/index.js';
-import { ownFault, sentenceOf } from '../sentences/index.js';
 import { visible } from './printed.js';
-import { Output, type Messages } from './system.js';
-import { Threads } from './threads.js';
+import { Output, inFile, type Messages } from './system.js';
+import { Threads, library } from './threads.js';
 import type { Reader } from '../core/bytes.js';
 import type { Given } from './arguments.js';
 import type { Files } from './files.js';
@@ -20,32 +17,10 @@ export type Streams = { input: number, output: number, errors: number };
 /** The destination of a script or a list. */
 export type Target = { descriptor: number, write(bytes: Uint8Array): Promise<void> };
 
-let compiled: WebAssembly.Module | null = null;
-
-/** The module of libcdpatch, which is compiled once. */
-export function compiledModule() {
-    if (!hasVectors()) throw new Fault('no-vectors', {});
-    if (compiled === null) compiled = new WebAssembly.Module(gunzipSync(Buffer.from(JOINED.module, 'base64')));
-    return compiled;
-}
-
-/** @param module which another thread has compiled */
-export function takeModule(module: WebAssembly.Module) {
-    compiled = module;
-}
-
-let calls: Calls | null = null;
-
-/** The calls of this thread. All jobs use one instance of the module, since nothing is awaited while it holds bytes. */
-function callsOfThread() {
-    calls = calls || new Calls(compiledModule());
-    return calls;
-}
-
 /** The arguments of a job, and the objects with which it works. */
 export class Job {
     saidOnce = new Set<string>();
-    calls = callsOfThread();
+    calls = library().calls;
     names; options; output; watch; pool;
 
     constructor({ names, options }: Given, streams: Streams, readonly files: Files, readonly messages: Messages) {
@@ -54,7 +29,7 @@ export class Job {
         this.output = new Output(streams.output, () => messages.hideProgress());
         /** Shows the progress of a task that does not share its work. */
         this.watch = { progress: (done: number, all: number) => messages.progress(done, all) };
-        this.pool = new Threads(compiledModule(), this.calls, this.watch.progress);
+        this.pool = new Threads(this.watch.progress);
     }
 
     /** Prints a message on standard error, after the output so far. Names in it may come from a disc. */
@@ -79,11 +54,7 @@ export class Job {
     async knownDumps(): Promise<KnownDumps | null> {
         const { dat = [] } = this.options;
         const known = new KnownDumps();
-        for (const name of dat) {
-            await known.add(this.files.piecesOf(name)).catch(error => {
-                throw failedBy(error, 'file') || !(error instanceof Fault) ? error : ownFault(`${name}: ${sentenceOf(error)}`);
-            });
-        }
+        for (const name of dat) await inFile(name, () => known.add(this.files.piecesOf(name)), 'dat');
         const leftOut = known.leftOut === 1 ? '1 entry of the DAT has' : `${known.leftOut} entries of the DAT have`;
         if (known.leftOut > 0) this.say(`${leftOut} no size or no hash, and cannot match a file`);
         return dat.length > 0 ? known : null;

@@ -2,8 +2,8 @@
 
 import { PieceCutter, wholeOf } from '../core/bytes.js';
 import { SEARCHED, encodingOf, linesLeftOut, tableInTurns, tableTextOf, withEnd, type Encoding } from '../core/encodings/views.js';
-import { tablesOfList } from '../core/pointers/views.js';
 import { MOST_PATCHES } from '../core/module/index.js';
+import { tablesOfList, type ListedTable } from '../core/pointers/views.js';
 import {
     checkLists, findText, importIntoFile, importMoving, importTable, openPlainFile, type ImportedTable, type OpenedTrack,
 } from '../core/tasks/index.js';
@@ -12,15 +12,19 @@ import type { Job } from './job.js';
 import { openTrackOf } from './opening.js';
 import { linesOfRuns, sayOfRuns, visible } from './printed.js';
 import { writeFinished } from './scripts.js';
+import { inFile } from './system.js';
 
 // Finds texts in a data track, in a given encoding or in the usual ones.
 
-/** The encoding of a table. Reports the lines of the table that are ignored. */
-export async function tableSaid(job: Job, text: string) {
-    const own = await tableInTurns(text);
-    const note = linesLeftOut(own);
-    if (note !== null) job.sayOnce(sentenceOf(note));
-    return own;
+/** The text of a file with a character table, and its encoding. Reports the lines of the table that are ignored. */
+export function tableIn(job: Job, name: string) {
+    return inFile(name, async () => {
+        const text = tableTextOf(await wholeOf((await job.files.image(name)).reader));
+        const own = await tableInTurns(text);
+        const note = linesLeftOut(own);
+        if (note !== null) job.sayOnce(sentenceOf(note));
+        return { text, own };
+    }, 'text');
 }
 
 /**
@@ -28,8 +32,8 @@ export async function tableSaid(job: Job, text: string) {
  * the options that ends texts.
  */
 export async function encodingsOf(job: Job): Promise<Encoding[]> {
-    const { options: { encoding, table, end }, files } = job;
-    if (table !== undefined) return [withEnd(await tableSaid(job, tableTextOf(await wholeOf((await files.image(table)).reader))), end)];
+    const { encoding, table, end } = job.options;
+    if (table !== undefined) return [withEnd((await tableIn(job, table)).own, end)];
     return (encoding === undefined ? SEARCHED : [encodingOf(encoding) as Encoding]).map(it => withEnd(it, end));
 }
 
@@ -62,10 +66,9 @@ export async function filesNamed(job: Job, names: string[]) {
     return files;
 }
 
-/** The encodings of the options, and whether they replace the names in rows. */
-async function encodingsForRows(job: Job) {
-    const { encoding, table } = job.options;
-    return { encodings: await encodingsOf(job), isAsked: encoding !== undefined || table !== undefined };
+/** Reads lists. A failure in the only one names it; the core names that of several. */
+export function ofLists<T>(names: string[], reading: () => Promise<T>) {
+    return names.length === 1 ? inFile(names[0], reading, 'list', 'po') : reading();
 }
 
 /** Reports what a translator may have overlooked: codes that new texts leave out, characters that only they have, and fuzzy entries. */
@@ -75,11 +78,7 @@ function sayOverlooked(job: Job, { codes, glyphs, fuzzy }: Pick<ImportedTable, '
     if (fuzzy > 0) job.say(sentenceOf({ code: 'list/fuzzy', facts: { count: fuzzy } }));
 }
 
-/** Reports what can be done if new texts have characters that the encoding lacks. */
-function sayOfLacking(job: Job, left: ImportedTable['left']) {
-    if (!left.some(({ why }) => why.code === 'text/no-character')) return;
-    job.say('if the font of the game can show a character that the encoding lacks, a table of characters (--table) gives it a code');
-}
+const OF_LACKING = 'if the font of the game can show a character that the encoding lacks, a character table (--table) gives it a code';
 
 /**
  * Reports the rows that do not fit, and what a translator may have overlooked. Throws a Fault if all rows are needed and some do not fit.
@@ -87,7 +86,7 @@ function sayOfLacking(job: Job, left: ImportedTable['left']) {
 function sayOfLists(job: Job, { left, ...made }: Pick<ImportedTable, 'left' | 'codes' | 'glyphs' | 'fuzzy'>, output: 'script'
     | 'file') {
     sayOfRuns(job, left, facts => sentenceOf({ code: 'list/row-left', facts }));
-    sayOfLacking(job, left);
+    if (left.some(({ why }) => why.code === 'text/no-character')) job.say(OF_LACKING);
     sayOverlooked(job, made);
     if (left.length === 0 || job.options.partial) return;
     const [rows, them] = left.length === 1 ? ['1 row does', 'it'] : [`${left.length} rows do`, 'them'];
@@ -95,26 +94,27 @@ function sayOfLists(job: Job, { left, ...made }: Pick<ImportedTable, 'left' | 'c
 }
 
 /**
- * The options of an import.
+ * The options of an import. `isAsked` says whether the encodings replace the names in rows.
  * @param names of the lists
  */
 async function importOptions(job: Job, names: string[]) {
-    const { fill, partial = false } = job.options;
-    return { ...await encodingsForRows(job), lists: await filesNamed(job, names), fill, partial };
+    const { encoding, table, fill, partial = false } = job.options;
+    const isAsked = encoding !== undefined || table !== undefined;
+    return { encodings: await encodingsOf(job), isAsked, lists: await filesNamed(job, names), fill, partial };
 }
 
-/**
- * Imports lists whose texts may move, and reports those that have moved.
- * @param names of the lists
- * @param pointers the name of the list of pointers
- */
-async function importedMoving(job: Job, opened: OpenedTrack, names: string[], pointers: string) {
-    const { keep = [] } = job.options;
-    const [{ reader }] = await filesNamed(job, [pointers]);
-    const options = await importOptions(job, names);
+/** The tables of pointers in a file. Reports if there are none, because then no text can move. */
+async function pointersIn(job: Job, name: string) {
+    const tables = await inFile(name, async () => tablesOfList((await job.files.image(name)).reader), 'pointers', 'list');
+    if (tables.length === 0) job.say(`${name} has no table of pointers, so all texts stay in place`);
+    return tables;
+}
+
+/** Imports lists whose texts may move, and reports those that have moved. */
+async function importedMoving(job: Job, opened: OpenedTrack, options: Awaited<ReturnType<typeof importOptions>>, tables: ListedTable[]) {
+    const { keep = [], pointers = '' } = job.options;
     const isKept = ({ number }: { number: number }) => keep.includes(number);
-    const tables = await tablesOfList(reader);
-    const made = await importMoving(job, opened, { ...options, tables, isKept, counted: countedBy(job) }, job.watch);
+    const made = await inFile(pointers, () => importMoving(job, opened, { ...options, tables, isKept }, job.watch), 'pointers');
     for (const remarks of [made.moved, made.few, made.sharing]) sayOfRuns(job, remarks, it => sentenceOf(it));
     job.say(`texts moved ${made.moved.length}`);
     return made;
@@ -132,9 +132,10 @@ export async function replaceListJob(job: Job, names: string[]) {
     const target = await job.target();
     const opened = await openTrackOf(job, job.names[0]);
     const { pointers } = job.options;
-    const options = async () => ({ ...await importOptions(job, names), counted: countedBy(job) });
-    const { script, ...made } = pointers === undefined ? await importTable(job, opened, await options())
-        : await importedMoving(job, opened, names, pointers);
+    const tables = pointers === undefined ? [] : await pointersIn(job, pointers);
+    const options = { ...await importOptions(job, names), counted: countedBy(job) };
+    const { script, ...made } = await ofLists<Pick<ImportedTable, 'script' | 'left' | 'codes' | 'glyphs' | 'fuzzy'>>(names, () =>
+        tables.length > 0 ? importedMoving(job, opened, options, tables) : importTable(job, opened, options));
     sayOfLists(job, made, 'script');
     if (script === null) throw ownFault('no row fits, so no script was written');
     await writeFinished(job, target, script);
@@ -142,13 +143,13 @@ export async function replaceListJob(job: Job, names: string[]) {
 }
 
 export async function checkListsJob(job: Job) {
-    const options = { ...await encodingsForRows(job), lists: await filesNamed(job, job.names) };
-    const { count, left, untested, ...made } = await checkLists(options);
+    const options = await importOptions(job, job.names);
+    const { count, left, untested, ...made } = await ofLists(job.names, () => checkLists(options));
     const lines = linesOfRuns(left, facts => visible(sentenceOf({ code: 'list/row-left', facts })));
     const last = `texts ${count} left out ${left.length} not tested ${untested} fuzzy ${made.fuzzy}`;
     await job.output.write(new TextEncoder().encode(`${[...lines, last].join('\n')}\n`));
     sayOverlooked(job, made);
-    if (untested > 0) job.say('the lists do not name the room and the encoding of all texts, so these were not tested');
+    if (untested > 0) job.say('the tables do not contain the room and the encoding of all texts, so these were not tested');
     return Number(left.length + untested > 0);
 }
 
@@ -170,7 +171,8 @@ export async function replaceInFileJob(job: Job, name: string, lists: string[]) 
     if (output !== undefined) throw ownFault('with --file, replace writes OUT, and does not accept -o');
     const out = await job.files.make(job.names[0]);
     const file = await job.files.image(name);
-    const { changes, ...made } = await importIntoFile(openPlainFile(file), await importOptions(job, lists), job.watch);
+    const { changes, ...made } = await ofLists(lists, async () =>
+        importIntoFile(openPlainFile(file), await importOptions(job, lists), job.watch));
     sayOfLists(job, made, 'file');
     if (changes === null || changes.length === 0) throw ownFault('no row fits, so no file was written');
     const cutter = new PieceCutter(piece => out.writePiece(file.reader, piece));

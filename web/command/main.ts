@@ -2,11 +2,12 @@
 
 import { isMainThread, workerData } from 'node:worker_threads';
 import { gunzipSync } from 'node:zlib';
+import { bytesOfLines } from '../core/bytes.js';
 import { Fault, failedBy } from '../core/faults.js';
 import { STATUS } from '../core/module/index.js';
 import { ownFault, sentenceOf } from '../sentences/index.js';
 import { isLimited, runAgain, serveThread, type ThreadData } from './threads.js';
-import { argumentsOf, formsText, helpText, type Given } from './arguments.js';
+import { argumentsOf, formsText, helpLines, type Given } from './arguments.js';
 import { Files } from './files.js';
 import { FORMS } from './forms.js';
 import { hasOddBytes, wordsOfProcess } from './new_file.js';
@@ -21,17 +22,13 @@ const NO_TEXT = 'the words are not text';
 const STANDARD = { input: 0, output: 1, errors: 2 };
 const END_SIGNALS: ('SIGHUP' | 'SIGINT' | 'SIGTERM')[] = ['SIGHUP', 'SIGINT', 'SIGTERM'];
 
-function textOf(job: string, options: Given['options'], version: string) {
-    if (options.version) return `${version}\n`;
-    return options.forms ? formsText() : helpText(job, version);
-}
-
-/** Prints help, the version, the forms, or the notices. */
-async function printHelp({ job: name, options }: Given, job: Job) {
-    const version = `cdscript ${job.calls.version()}`;
-    const text = textOf(name, options, version);
-    await job.output.write(options.notices ? gunzipSync(Buffer.from(JOINED.notices, 'base64')) : new TextEncoder().encode(text));
-    return STATUS.DONE;
+/** The bytes of the notices, the version, the forms, or help; null if none of them is asked for. */
+function textAsked({ job: name, options: { help, version, notices, forms } }: Given, job: Job) {
+    if (notices) return gunzipSync(Buffer.from(JOINED.notices, 'base64'));
+    const own = `cdscript ${job.calls.version()}`;
+    if (version) return bytesOfLines([own]);
+    if (forms) return bytesOfLines([formsText()]);
+    return help ? bytesOfLines(helpLines(name, own)) : null;
 }
 
 function messageOf(error: unknown) {
@@ -53,10 +50,11 @@ export async function main(words: string[], streams: Streams = STANDARD, files: 
         if (words.some(word => word.includes('\uFFFD'))) throw ownFault(NO_TEXT);
         const given = argumentsOf(words);
         if (words.some(word => hasOddBytes(word) && !isNameRead(word, given))) throw ownFault(NO_TEXT);
-        const { help, version, notices, forms } = given.options;
         job = new Job(given, streams, files, messages);
         files.warn = text => messages.say(visible(text));
-        const status = help || version || notices || forms ? await printHelp(given, job) : await FORMS[given.job].job(job);
+        const text = textAsked(given, job);
+        if (text !== null) await job.output.write(text);
+        const status = text === null ? await FORMS[given.job].job(job) : STATUS.DONE;
         job.output.flush();
         await files.finish();
         return status;
@@ -82,10 +80,7 @@ function endOnSignals(files: Files) {
 /** Runs the command or, in one of its threads, serves the main thread. */
 export function start() {
     if (!isMainThread) {
-        const { module, scans } = workerData as ThreadData;
-        if (scans) serveScan(module);
-        else serveThread(module);
-        return;
+        return (workerData as ThreadData).scans ? serveScan() : serveThread();
     }
     const failed = (error: unknown) => {
         new Messages(STANDARD.errors).say(messageOf(error));

@@ -75,16 +75,6 @@ export function writeFully(descriptor: number, bytes: Uint8Array) {
     for (let done = 0; done < bytes.length;) done += writeSync(descriptor, bytes, done);
 }
 
-function assertNew(name: string) {
-    try {
-        lstatSync(name);
-    } catch (error) {
-        if (hasCode(error, 'ENOENT')) return;
-        throw error;
-    }
-    throw Object.assign(new Error(), { code: 'EEXIST' });
-}
-
 /** Prints a message about a failure that leaves the result of the job as it is. */
 export type Warn = (text: string) => void;
 
@@ -121,7 +111,7 @@ export function replaceFile(name: string, bytes: Uint8Array, warn: Warn, isKnown
     const descriptor = openSync(place, 'wx');
     try {
         try {
-            fchmodSync(descriptor, statSync(real).mode & 0o7777);
+            fchmodSync(descriptor, Number(statSync(real, { bigint: true }).mode) & 0o7777);
             writeFully(descriptor, bytes);
             syncFile(descriptor);
         } finally {
@@ -164,7 +154,7 @@ function openedBeside(name: string, warn: Warn) {
 /** Opens a file that must not exist. */
 function openedNew(name: string, warn: Warn) {
     if (process.platform === 'win32' && isNoFileOfWindows(name)) throw Object.assign(new Error(), { code: 'ENXIO' });
-    assertNew(name);
+    if (lstatSync(name, { bigint: true, throwIfNoEntry: false })) throw Object.assign(new Error(), { code: 'EEXIST' });
     const isName = basename(name) !== '' && !/[/\\]$/.test(name);
     return isName && openedBeside(name, warn) || { place: name, descriptor: openSync(name, 'wx') };
 }
@@ -250,7 +240,7 @@ export class NewFile {
         try {
             const own = this.closed || fstatSync(this.descriptor, { bigint: true });
             const found = lstatSync(this.place, { bigint: true });
-            if (own.dev === found.dev && own.ino === found.ino) forget(this.place, this.warn);
+            if (own.dev === found?.dev && own.ino === found.ino) forget(this.place, this.warn);
         } catch {
             // It is gone already.
         }

@@ -42,19 +42,17 @@ declare module 'node:crypto' {
 
 declare module 'node:fs' {
     export const constants: { O_RDONLY: number, O_NONBLOCK?: number };
-    export interface BigIntStats { dev: bigint, ino: bigint, size: bigint, mtime: Date, isFile(): boolean, isDirectory(): boolean,
-        isCharacterDevice(): boolean }
+    export interface BigIntStats { dev: bigint, ino: bigint, mode: bigint, nlink: bigint, size: bigint, mtime: Date,
+        isFile(): boolean, isDirectory(): boolean, isCharacterDevice(): boolean }
     export function closeSync(descriptor: number): void;
     export function existsSync(name: string | Uint8Array): boolean;
     export function fchmodSync(descriptor: number, mode: number): void;
-    export function fstatSync(descriptor: number): { size: number, mtime: Date, isFile(): boolean };
     export function fstatSync(descriptor: number, how: { bigint: true }): BigIntStats;
     export function ftruncateSync(descriptor: number, size: number): void;
     export function fsync(descriptor: number, done: (error: unknown, value: number) => void): void;
     export function fsyncSync(descriptor: number): void;
     export function linkSync(name: string, other: string): void;
-    export function lstatSync(name: string): unknown;
-    export function lstatSync(name: string, how: { bigint: true }): { dev: bigint, ino: bigint };
+    export function lstatSync(name: string, how: { bigint: true, throwIfNoEntry?: boolean }): BigIntStats | undefined;
     export function open(name: string | Uint8Array, flags: number, done: (error: unknown, descriptor: number) => void): void;
     export function read(descriptor: number, bytes: Uint8Array, at: number, length: number, place: null,
         done: (error: unknown, count: number) => void): void;
@@ -63,9 +61,8 @@ declare module 'node:fs' {
     export function readFileSync(name: string, encoding: 'latin1'): string;
     export const realpathSync: { (name: string): string, native(name: string | Uint8Array, encoding: 'buffer'): Buffer };
     export function renameSync(name: string, other: string): void;
-    export function statSync(name: string | Uint8Array): { mode: number, size: number, mtime: Date, isFile(): boolean,
-        isDirectory(): boolean };
     export function statSync(name: string | Uint8Array, how: { bigint: true }): BigIntStats;
+    export function statSync(name: string | Uint8Array, how: { bigint: true, throwIfNoEntry: false }): BigIntStats | undefined;
     export function readSync(descriptor: number, bytes: Uint8Array, at: number, length: number, place: number): number;
     export function readdirSync(name: string | Uint8Array, encoding: 'buffer'): Buffer[];
     export function readdirSync(name: string | Uint8Array, how: { withFileTypes: true, encoding: 'buffer' }): { name: Buffer,

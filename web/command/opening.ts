@@ -4,7 +4,7 @@ import { existsSync, readdirSync, realpathSync } from 'node:fs';
 import { dirname, join } from 'node:path';
 import { readBytes } from '../core/bytes.js';
 import { openDisc, type Disc, type DiscImage, type Sheet, type Siblings } from '../core/disc/views.js';
-import { failedBy } from '../core/faults.js';
+import { failedBy, type Fault } from '../core/faults.js';
 import { SECTOR_KIND, SECTOR_SIZE } from '../core/module/index.js';
 import { openTrack, surveyedTracks, surveyedWith } from '../core/tasks/index.js';
 import { ownFault } from '../sentences/index.js';
@@ -88,15 +88,16 @@ export async function openDiscOf(job: Job, name: string) {
     return namingSheet(openDisc(job.calls, [file], siblingsOf(job)));
 }
 
-/** Waits for the opening of a disc. The message about a missing file names the cue sheet, as the user gave only its name. */
-export async function namingSheet<T>(opening: Promise<T>) {
-    try {
-        return await opening;
-    } catch (error) {
-        if (!failedBy(error, 'disc/missing-files')) throw error;
-        const { sheet, file } = error.facts;
-        throw ownFault(`${sheet} names ${file}, which is not in the directory of the cue sheet.`, { file: sheet });
-    }
+/** The message about a missing file. It names the cue sheet, as the user gave only its name. */
+export function missingText({ facts: { sheet, file } }: Fault<'disc/missing-files'>) {
+    return `${sheet} names ${file}, which is not in the directory of the cue sheet.`;
+}
+
+/** Waits for the opening of a disc. */
+export function namingSheet<T>(opening: Promise<T>) {
+    return opening.catch(error => {
+        throw failedBy(error, 'disc/missing-files') ? ownFault(missingText(error), { file: error.facts.sheet }) : error;
+    });
 }
 
 /** Returns a function that opens the existing files that a cue sheet names. */

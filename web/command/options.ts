@@ -11,18 +11,20 @@ import { ownFault } from '../sentences/index.js';
 // Parses numbers of the command line.
 
 /**
- * Parses a decimal number. Throws a Fault if it is not within its limits.
+ * Returns the parser of a decimal number, which throws a Fault if the number is not within its limits.
  * @param name of the value, for the message
  */
-export function numberOf(text: string, name: string, least: number, most: number) {
-    const number = /^[0-9]+$/.test(text) ? Number(text) : NaN;
-    if (number >= least && number <= most) return number;
-    throw ownFault(`${name} must be a number from ${least} to ${most}, not '${text}'`);
+function numberFrom(name: string, least: number, most: number) {
+    return (text: string) => {
+        const number = /^[0-9]+$/.test(text) ? Number(text) : NaN;
+        if (number >= least && number <= most) return number;
+        throw ownFault(`${name} must be a number from ${least} to ${most}, not '${text}'`);
+    };
 }
 
 /** Parses the place of a user byte. Throws a Fault. */
 export function placeGiven(block: string, offset: string) {
-    return { block: numberOf(block, 'a block', 0, LAST_BLOCK), offset: numberOf(offset, 'an offset', 0, USER_SIZE - 1) };
+    return { block: numberFrom('a block', 0, LAST_BLOCK)(block), offset: numberFrom('an offset', 0, USER_SIZE - 1)(offset) };
 }
 
 // Suggests a known word for a word that is not known.
@@ -101,15 +103,10 @@ function knownEncoding(name: string) {
     return name;
 }
 
-/** Returns the parser of a number. */
-function numberFrom(word: string, least: number, most: number) {
-    return (text: string) => numberOf(text, word, least, most);
-}
-
 const ROWS = {
     base: {
         word: '--base', value: 'N', does: `the block number of the first sector, 0 to ${LAST_BASE}`, excludes: ['first'],
-        parse: (text: string) => numberOf(text.replace(/^\+(?=\d)/, ''), '--base', 0, LAST_BASE),
+        parse: (text: string) => numberFrom('--base', 0, LAST_BASE)(text.replace(/^\+(?=\d)/, '')),
     },
     track: {
         word: '--track', value: 'N', does: 'use track N, a data track, instead of the first data track',
@@ -119,7 +116,7 @@ const ROWS = {
         word: '--encoding', value: 'NAME', does: `the encoding of text: ${NAMES.join(', ')}`, values: NAMES, excludes: ['table'],
         parse: knownEncoding,
     },
-    table: { word: '--table', value: 'FILE', does: "a game's own table of characters (.tbl)" },
+    table: { word: '--table', value: 'FILE', does: "a game's own character table (.tbl)" },
     end: {
         word: '--end', value: 'HH', does: 'the byte that ends each text; the default is what ends most texts of a file',
         parse: endOf,
@@ -140,7 +137,7 @@ const ROWS = {
         excludes: ['file', 'check', 'every', 'lines'], needs: { replace: 'list' },
     },
     keep: {
-        word: '--keep', value: 'ROW', does: 'leave the text of this row of the list in place; may be repeated', repeated: true,
+        word: '--keep', value: 'ROW', does: 'leave the text of this row of the table in place; may be repeated', repeated: true,
         parse: numberFrom('--keep', 1, LAST_BLOCK), needs: { replace: 'pointers' },
     },
     file: {
@@ -148,7 +145,7 @@ const ROWS = {
         needs: { replace: 'list' },
     },
     check: {
-        word: '--check', value: '', does: 'check lists without an image',
+        word: '--check', value: '', does: 'check tables of translations without an image',
         excludes: ['list', 'file', 'all', 'inside', 'loose', 'end', 'fill', 'partial', 'track', 'base', 'output'],
     },
     po: { word: '--po', value: '', does: 'print a gettext PO file instead of TSV' },
@@ -186,9 +183,9 @@ const ROWS = {
     },
     output: { word: '-o', value: 'FILE', does: 'write to this new file; - is standard output' },
     missing: {
-        word: '--missing', value: '', does: 'list the games of the DAT that are missing or lack files', needs: { scan: 'dat' },
+        word: '--missing', value: '', does: 'list the games of the DAT that are missing or incomplete', needs: { scan: 'dat' },
     },
-    dat: { word: '--dat', value: 'FILE', does: 'a list of known dumps (Logiqx XML); may be repeated', repeated: true },
+    dat: { word: '--dat', value: 'FILE', does: 'a DAT of known dumps (Logiqx XML); may be repeated', repeated: true },
     json: { word: '--json', value: '', does: 'print one JSON object per line, with all hashes; see cdscript(1)', excludes: ['resume'] },
     resume: { word: '--resume', value: 'FILE', does: 'append to this list; check only files that are new or changed' },
     help: { word: '--help', short: '-h', value: '', does: 'print help' },

@@ -108,14 +108,17 @@ export function infoObject(file: FileSummary, surveys: FileFound['surveys'], tra
         return { track: number, base, damaged: pairs(damaged), wrongAddress: pairs(elsewhere), lost: pairs(lost),
             untested: kindTriples(untested), missing };
     });
-    const trackOf = ({ number, type, block, sectors }: DiscTrack) => ({ number, type: type || null, block, sectors });
-    return { ...fileObject(file, known), tracks: tracks.map(trackOf), parts };
+    return { ...fileObject(file, known), tracks: tracks.map(trackObject), parts };
+}
+
+function trackObject({ number, type, block, sectors }: DiscTrack) {
+    return { number, type: type || null, block, sectors };
 }
 
 /** The object of a track in a missing file, for `info`. */
-export function missingObject({ number, type, block, fileName }: DiscTrack) {
-    const tracks = [{ number, type: type || null, block, sectors: null }];
-    return { name: fileName, kind: 'missing', tracks, findings: 1, verdict: 'damage', reasons: { missing: 1 } };
+export function missingObject(track: DiscTrack) {
+    const tracks = [{ ...trackObject(track), sectors: null }];
+    return { name: track.fileName, kind: 'missing', tracks, findings: 1, verdict: 'damage', reasons: { missing: 1 } };
 }
 
 /** The object of a merge: of each finding, the number of sectors and their runs. */

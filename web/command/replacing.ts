@@ -25,12 +25,13 @@ async function wantedPlaces(job: Job, opened: OpenedTrack, text: string): Promis
     const { image, best } = await foundText(job, opened, text, all ? MOST_PLACES : MOST_LISTED);
     if (best === null) throw ownFault('text not found');
     const { count, hits, encoding } = best;
-    if (count === 1 && !all && !inside) await assertBegins({ image, encoding, hits });
+    const doubt = count === 1 && !all && !inside ? await doubtText({ image, encoding, hits }) : '';
+    if (doubt !== '') throw ownFault(`${doubt}: --inside replaces it anyway`);
     if (count === 1 || (all && count === hits.length)) return { image, encoding, hits };
     if (all) throw ownFault(`the text occurs ${count} times, but at most ${MOST_PLACES} can be replaced`);
     for (const hit of hits) {
-        const { doubt, before, hit: own, after } = await contextOf(image, encoding, hit);
-        const place = `found at block ${hit.block} offset ${hit.offset}${doubt === null ? '' : `, ${sentenceOf(doubt)}`}`;
+        const { doubt: why, before, hit: own, after } = await contextOf(image, encoding, hit);
+        const place = `found at block ${hit.block} offset ${hit.offset}${why === null ? '' : `, ${sentenceOf(why)}`}`;
         job.say(`${place}: ${[...before, own, ...after].join('')}`);
     }
     throw ownFault(`the text occurs ${count} times: give BLOCK and OFFSET of one, or --all`);
@@ -40,12 +41,6 @@ async function wantedPlaces(job: Job, opened: OpenedTrack, text: string): Promis
 async function doubtText({ image, encoding, hits: [hit] }: Places) {
     const { doubt } = await contextOf(image, encoding, hit, 0);
     return doubt === null ? '' : sentenceOf({ code: 'replace/hit-left', facts: { text: hit, why: doubt } });
-}
-
-/** Throws a Fault if the first place may begin in the middle of a character. */
-async function assertBegins(places: Places) {
-    const doubt = await doubtText(places);
-    if (doubt !== '') throw ownFault(`${doubt}: --inside replaces it anyway`);
 }
 
 /** The given place, at which the text must be. Reports if it may be in the middle of a character. */

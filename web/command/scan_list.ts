@@ -1,6 +1,6 @@
 // The list that `scan` writes. It can continue where an earlier run was interrupted.
 
-import { closeSync, fstatSync, ftruncateSync, openSync, readFileSync, readSync, statSync } from 'node:fs';
+import { closeSync, fstatSync, ftruncateSync, openSync, readFileSync, readSync, statSync, type BigIntStats } from 'node:fs';
 import { basename } from 'node:path';
 import { bytesOfLines } from '../core/bytes.js';
 import { isSheetName, type KnownDumps } from '../core/disc/views.js';
@@ -29,9 +29,14 @@ export function unitsOf(collection: Collection) {
         const names = [...new Set([wanted.name, ...named].map(listedName))].sort();
         return { wanted, names, named, isWhole, files: [], sheets: 0 } as Unit;
     });
-    const files = new Map(units.filter(it => !isSheetName(it.wanted.name)).map(it => [it.wanted.real, it]));
+    const files = new Map<string, Unit[]>();
     for (const unit of units) {
-        unit.files = [...new Set(unit.named.map(name => collection.realOf(name)))].flatMap(real => files.get(real) || []);
+        const { name, id } = unit.wanted;
+        if (!files.has(id)) files.set(id, []);
+        if (!isSheetName(name)) files.get(id)?.push(unit);
+    }
+    for (const unit of units) {
+        unit.files = [...new Set(unit.named.map(name => collection.placeOf(name).id))].flatMap(id => files.get(id) || []);
         unit.files.forEach(it => void (it.sheets += 1));
     }
     return units.sort(({ names: [a] }, { names: [b] }) => Number(a > b) - Number(a < b));
@@ -70,6 +75,10 @@ export class LinesInOrder {
 
 /** The size of a file, and the time of its change, '' if that is not valid. */
 export type FileState = { size: number, changed: string };
+
+export function stateIn(stat: BigIntStats): FileState {
+    return { size: Number(stat.size), changed: timeText(stat) };
+}
 
 const LINE_FEED = 0x0A;
 
@@ -117,18 +126,13 @@ class Line {
     /** Whether the line says of its file what is true now, as far as its size and time show; also if the file no longer exists. */
     isValid(needs: Needs, known: FileState | null | undefined) {
         try {
-            const { size, changed } = known || stateOf(this.name);
+            const { size, changed } = known || stateIn(statSync(pathOf(this.name), { bigint: true }));
             return this.size === size && this.changed === (changed || NOT_TESTED) && !lacksHash(needs, this.hashes);
         } catch (error) {
             this.isThere = !hasCode(error, 'ENOENT') && !hasCode(error, 'ENOTDIR');
             return !this.isThere;
         }
     }
-}
-
-function stateOf(name: string) {
-    const stat = statSync(pathOf(name), { bigint: true });
-    return { size: Number(stat.size), changed: timeText(stat) };
 }
 
 function inOrder(lines: Line[]) {
@@ -157,7 +161,7 @@ export class ResumedList {
     constructor(readonly name: string, readonly warn: (text: string) => void) {
         this.descriptor = openSync(name, 'a+');
         // To read a pipe could take for ever.
-        if (!fstatSync(this.descriptor).isFile()) throw Object.assign(new Error(), { code: 'EFTYPE' });
+        if (!fstatSync(this.descriptor, { bigint: true }).isFile()) throw Object.assign(new Error(), { code: 'EFTYPE' });
     }
 
     /** The bytes of the file; only its beginning if it does not begin with a line of a list. */
@@ -253,7 +257,7 @@ export class ResumedList {
     async write(bytes: Uint8Array) {
         await tryFile('write', this.name, () => {
             if (this.namedSize() === null) this.join();
-            const before = fstatSync(this.descriptor).size;
+            const before = Number(fstatSync(this.descriptor, { bigint: true }).size);
             try {
                 writeFully(this.descriptor, bytes);
                 this.size += bytes.length;

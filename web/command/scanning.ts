@@ -13,9 +13,9 @@ import {
 import { sentenceOf } from '../sentences/index.js';
 import { Collection } from './collection.js';
 import { Files } from './files.js';
-import { ALL_HASHES, Games, RunningHashes, SHA1_ONLY, Verdicts, gameLines, gamesObject, readingOnce, type Needs } from './hashes.js';
-import { Job, compiledModule, takeModule, type Target } from './job.js';
-import { namingSheet, siblingsOf, surveyedIn } from './opening.js';
+import { RunningHashes, Verdicts, gameLines, gamesObject, needsOf, readingOnce, type Needs } from './hashes.js';
+import { Job, type Target } from './job.js';
+import { missingText, siblingsOf, surveyedIn } from './opening.js';
 import { fileObject, jsonLine, untestedTexts } from './printed.js';
 import { LinesInOrder, resumedList, unitsOf, type FileState, type ResumedList, type Unit } from './scan_list.js';
 import type { Messages } from './system.js';
@@ -24,10 +24,10 @@ import { begunThread } from './threads.js';
 // A thread of `scan`, which examines one image after the other without the help of other threads.
 
 /**
- * The findings in the files of an image or a sheet; the messages about them, and about missing files; the error if the files cannot be
- * examined, else ''; and the description of a file that is not part of a disc, else ''.
+ * The findings in the files of an image or a sheet; the messages about them, and about missing files; and the error if the files cannot be
+ * examined, else ''.
  */
-export type Answer = { files: FileSummary[], notes: string[], missing: string[], fault: string, other: string };
+export type Answer = { files: FileSummary[], notes: string[], missing: string[], fault: string };
 
 /** Collects messages instead of printing them. */
 function keptMessages(notes: string[]) {
@@ -45,7 +45,7 @@ function sayUntested(job: Job, { sheet }: Disc, { file: { name }, surveys }: Fil
 
 /** The answer if a file cannot be examined. */
 function failedAnswer(fault: string, notes: string[] = []): Answer {
-    return { files: [], notes, missing: [], fault, other: '' };
+    return { files: [], notes, missing: [], fault };
 }
 
 /** An image to examine, or a sheet, and the files of the sheet that were examined before. */
@@ -57,24 +57,19 @@ async function scanOne({ name, needs, done }: Asked): Promise<Answer> {
     const job = new Job({ job: 'scan', names: [name], options: {} }, { input: 0, output: 1, errors: 2 }, files, keptMessages(notes));
     job.pool.isAlone = true;
     files.warn = text => job.say(text);
-    let isMissing = false;
     try {
-        const { disc, found, summaries, missing } = await namingSheet(examineFile(job.calls, await files.image(name), {
+        const { disc, found, summaries, missing } = await examineFile(job.calls, await files.image(name), {
             siblings: siblingsOf(job), read: readingOnce(job, needs), tracksOf: it => surveyedIn(job, it),
             changeOf: it => files.changed.get(it.name) || '', isDone: it => done.includes(it),
             whatIs: kind => sentenceOf({ code: 'kind/what', facts: { kind } }),
-        }).catch(error => {
-            isMissing = failedBy(error, 'disc/missing-files');
-            throw error;
-        }));
-        const other = disc === null ? summaries[0].kinds.slice(NO_IMAGE.length) : '';
+        });
         if (disc !== null) found.forEach(it => sayUntested(job, disc, it));
         const absent = missing.map(({ number, fileName }) => `track ${number} of ${name} is in the missing file ${fileName}`);
-        return { files: summaries, notes, missing: absent, fault: '', other };
+        return { files: summaries, notes, missing: absent, fault: '' };
     } catch (error) {
         if (!(error instanceof Fault)) throw error;
+        if (failedBy(error, 'disc/missing-files')) return { ...failedAnswer('', notes), missing: [missingText(error)] };
         const sentence = sentenceOf(error);
-        if (isMissing) return { ...failedAnswer('', notes), missing: [sentence] };
         return failedAnswer(error.facts.file === name ? sentence : `${name}: ${sentence}`, notes);
     } finally {
         files.close();
@@ -82,12 +77,9 @@ async function scanOne({ name, needs, done }: Asked): Promise<Answer> {
 }
 
 /** Runs in a thread of `scan`: receives names, and replies with answers. */
-export function serveScan(module: WebAssembly.Module) {
-    if (parentPort === null) return;
-    takeModule(module);
-    const port = parentPort;
-    port.on('message', (asked: Asked) => {
-        scanOne(asked).catch(error => failedAnswer(`${asked.name}: ${error}`)).then(answer => port.postMessage(answer, []));
+export function serveScan() {
+    parentPort?.on('message', (asked: Asked) => {
+        scanOne(asked).catch(error => failedAnswer(`${asked.name}: ${error}`)).then(answer => parentPort?.postMessage(answer, []));
     });
 }
 
@@ -95,26 +87,23 @@ export function serveScan(module: WebAssembly.Module) {
 
 /** Threads that examine files, several at a time, in the order in which they are asked for. */
 class Scanners {
-    /** Ends when each file that was asked for before has a thread. */
-    turn: Promise<unknown> = Promise.resolve();
-    /** Is called when a thread is free again. */
-    freed = () => {};
+    /** Those that wait for a thread, in order. */
+    waiting: ((thread: ReturnType<typeof begunThread>) => void)[] = [];
     threads; free;
 
     /** @param count of threads. If there is only one file, the start of a thread would take longer than it helps */
     constructor(count: number) {
-        this.threads = Array.from({ length: count }, () => count === 1 ? null : begunThread({ module: compiledModule(), scans: true }));
+        this.threads = Array.from({ length: count }, () => count === 1 ? null : begunThread(true));
         this.free = [...this.threads];
     }
 
     async scan(asked: Asked) {
-        const turn = this.turn.then(() => this.free.length > 0 || new Promise(resolve => { this.freed = () => resolve(true); }));
-        this.turn = turn;
-        await turn;
-        const thread = this.free.pop() || null;
+        const [thread] = this.free.length > 0 ? this.free.splice(-1)
+            : [await new Promise<ReturnType<typeof begunThread>>(resolve => this.waiting.push(resolve))];
         const answer = await this.answer(thread, asked);
-        this.free.push(thread);
-        this.freed();
+        const next = this.waiting.shift();
+        if (next) next(thread);
+        else this.free.push(thread);
         return answer;
     }
 
@@ -129,9 +118,6 @@ class Scanners {
         for (const thread of this.threads) if (thread !== null) void thread.worker.terminate();
     }
 }
-
-/** A file that a DAT may know. */
-type Counted = Pick<FileSummary, 'name' | 'size' | 'hashes' | 'kinds'>;
 
 /** How many files are begun before the first of them is done. The answers of the others are kept until then. */
 const AHEAD = 256;
@@ -152,14 +138,12 @@ class Scan {
     status = 0;
     /** The real paths of files that were reported. */
     told = new Set();
-    collection; needs; verdicts; games;
+    collection; needs; verdicts;
 
     constructor(readonly job: Job, readonly target: Target, readonly known: KnownDumps | null) {
         this.collection = new Collection(text => this.fault(text), target);
-        const least = known ? known.needs : SHA1_ONLY;
-        this.needs = job.options.json ? ALL_HASHES : least;
+        this.needs = needsOf(job, known);
         this.verdicts = known && new Verdicts(known);
-        this.games = known && new Games(known);
     }
 
     fault(text: string) {
@@ -179,9 +163,9 @@ class Scan {
     }
 
     /** Prints the messages about a unit, and returns the files that were found in it. */
-    report({ wanted: { name, isNamed } }: Unit, { files, notes, missing, fault, other }: Answer) {
+    report({ wanted: { isNamed } }: Unit, { files, notes, missing, fault }: Answer) {
         notes.forEach(note => this.job.say(note));
-        if (other !== '') this.tellOther(name, isNamed, other);
+        files.forEach(file => this.tellOther(file, isNamed));
         if (fault !== '') this.fault(fault);
         missing.forEach(text => this.job.say(text));
         if (missing.length > 0) this.status = Math.max(this.status, 1);
@@ -202,9 +186,9 @@ class Scan {
 
     /** The lines of those files that were not reported before, by their names in the list. */
     linesOf(files: FileSummary[]): Map<string, Uint8Array> {
-        const fresh = files.filter(({ name }) => !this.told.has(this.collection.realOf(name)))
+        const fresh = files.filter(({ name }) => !this.told.has(this.collection.placeOf(name).real))
             .map(it => summaryByDat(it, this.known, basename(it.name)));
-        fresh.forEach(({ name }) => this.told.add(this.collection.realOf(name)));
+        fresh.forEach(({ name }) => this.told.add(this.collection.placeOf(name).real));
         this.status = Math.max(this.status, ...fresh.map(({ verdict }) => verdict.status));
         const unlisted = fresh.filter(({ name }) => !this.done.has(listedName(name)));
         unlisted.forEach(it => this.count(it));
@@ -221,16 +205,18 @@ class Scan {
      * is a cue sheet.
      * @param isThere whether it still exists
      */
-    count({ name, size, hashes, kinds }: Counted, isThere: boolean = true) {
-        if (this.known === null || this.verdicts === null || this.games === null) return;
+    count({ name, size, hashes, kinds }: Pick<FileSummary, 'name' | 'size' | 'hashes' | 'kinds'>, isThere: boolean = true) {
+        if (this.known === null || this.verdicts === null) return;
         const own = basename(name);
         const isExpected = !kinds.startsWith(NO_IMAGE) || this.known.hasSize(size) || this.known.sheets.has(own);
         this.verdicts.add(this.known.find(size, hashes, own), isExpected);
-        if (isThere) this.games.add(size, hashes);
+        if (isThere) this.verdicts.addFile(size, hashes);
     }
 
-    /** Reports a file that is not part of a disc: at once if it was given by its name, or else at the end. */
-    tellOther(name: string, isNamed: boolean, what: string) {
+    /** Reports a file if it is not part of a disc: at once if it was given by its name, or else at the end. */
+    tellOther({ name, kinds }: Pick<FileSummary, 'name' | 'kinds'>, isNamed: boolean) {
+        if (!kinds.startsWith(NO_IMAGE) || kinds === NO_IMAGE + SHEET) return;
+        const what = kinds.slice(NO_IMAGE.length);
         if (isNamed) this.fault(`${name} is ${what}`);
         else this.others.push({ name, what });
     }
@@ -243,7 +229,7 @@ class Scan {
         const own = listedName(name);
         if ((this.done.has(own) && !this.doneSheets.has(own)) || this.told.has(real)) return true;
         if (named.length === 0 || !isWhole || !named.every(it => this.done.has(listedName(it)))) return false;
-        named.forEach(it => this.told.add(this.collection.realOf(it)));
+        named.forEach(it => this.told.add(this.collection.placeOf(it).real));
         return true;
     }
 }
@@ -257,7 +243,7 @@ function statesOf(units: Unit[]) {
 
 /** How many files can be examined at once: sheets that name the same file wait for each other. */
 function atOnce(collection: Collection, units: Unit[]) {
-    return new Set(units.map(({ wanted: { real }, named }) => named.length > 0 ? collection.realOf(named[0]) : real)).size;
+    return new Set(units.map(({ wanted: { id }, named }) => named.length > 0 ? collection.placeOf(named[0]).id : id)).size;
 }
 
 export async function scanJob(job: Job) {
@@ -277,16 +263,16 @@ export async function scanJob(job: Job) {
         if (list) await list.close();
     }
     sayOthers(job, scan.others);
-    if (scan.verdicts === null || scan.games === null) return scan.status;
-    if (known && known.games.length > 0) await tellGames(job, scan.games, scan.target);
-    job.say(scan.verdicts.text());
-    return Math.max(scan.status, scan.verdicts.status);
+    const { verdicts } = scan;
+    if (verdicts === null) return scan.status;
+    if (verdicts.known.games.length > 0) await tellGames(job, verdicts.games(), scan.target);
+    job.say(verdicts.text());
+    return Math.max(scan.status, verdicts.status);
 }
 
-/** Reports which games are whole. */
-async function tellGames(job: Job, games: Games, target: Target) {
+/** Reports which games are complete. */
+async function tellGames(job: Job, found: ReturnType<Verdicts['games']>, target: Target) {
     const { json, missing = false } = job.options;
-    const found = games.found();
     if (json) await target.write(jsonLine(gamesObject(found, missing)));
     else gameLines(found, missing).forEach(line => job.say(line));
 }
@@ -311,10 +297,7 @@ function goOn(scan: Scan, list: ResumedList, units: Unit[], changed: number) {
     if (lines.some(({ hasFindings }) => hasFindings)) scan.status = Math.max(scan.status, 1);
     for (const line of lines) if (line.isLookedUp) scan.count(line, line.isThere);
     const named = new Set(units.flatMap(({ wanted: { name, isNamed } }) => isNamed ? [name] : []));
-    for (const { name, kinds } of lines) {
-        const isOther = kinds.startsWith(NO_IMAGE) && kinds !== NO_IMAGE + SHEET;
-        if (isOther && named.has(name)) scan.tellOther(name, true, kinds.slice(NO_IMAGE.length));
-    }
+    lines.filter(({ name }) => named.has(name)).forEach(line => scan.tellOther(line, true));
 }
 
 /** Reports the number of files that are not raw images, and lists those that are named like one, for example an empty or damaged image. */
@@ -336,25 +319,36 @@ async function* answered(units: Unit[], begin: (unit: Unit) => Promise<Answer | 
     }
 }
 
+/** The files of a unit that other units may have too: those that a sheet names, and a file with several names. */
+function sharedOf({ wanted: { name, real, id }, named }: Unit) {
+    return named.length > 0 || id === real ? named : [name];
+}
+
 /**
- * Examines all files, each once: a sheet waits for those before it that name the same files. A file that cue sheets name is examined by
- * itself if they have left it out.
+ * Examines all files, each once: a sheet waits for those before it that name the same files, and so does a file with several names. A file
+ * that cue sheets name is examined by itself if they have left it out.
  */
 async function scanAll(scan: Scan, units: Unit[], scanners: Scanners) {
-    const realOf = (name: string) => scan.collection.realOf(name);
-    const examined = new Set<string>();
+    const idOf = (name: string) => scan.collection.placeOf(name).id;
+    const examined = new Map<string, FileSummary>();
     const last = new Map<string, Promise<Answer | null>>();
-    const examine = async ({ wanted: { name }, named }: Unit) => {
-        await Promise.all(named.map(it => last.get(realOf(it))));
-        const done = named.filter(it => examined.has(realOf(it)));
-        const answer = await scanners.scan({ name, needs: scan.needs, done });
-        answer.files.forEach(it => examined.add(realOf(it.name)));
-        return answer;
+    const examine = async (unit: Unit) => {
+        const shared = sharedOf(unit);
+        await Promise.all(shared.map(it => last.get(idOf(it))));
+        const known = shared.flatMap(name => {
+            const file = examined.get(idOf(name));
+            return file ? { ...file, name } : [];
+        });
+        const { wanted: { name }, named } = unit;
+        const answer = named.length === 0 && known.length > 0 ? failedAnswer('')
+            : await scanners.scan({ name, needs: scan.needs, done: known.map(it => it.name) });
+        if (shared.length > 0) answer.files.forEach(it => examined.set(idOf(it.name), it));
+        return { ...answer, files: [...answer.files, ...known] };
     };
     const begin = (unit: Unit) => {
         const answer = scan.isTold(unit) ? Promise.resolve(null) : examine(unit);
         answer.catch(() => {}); // it is thrown when its turn comes
-        unit.named.forEach(it => last.set(realOf(it), answer));
+        sharedOf(unit).forEach(it => last.set(idOf(it), answer));
         return answer;
     };
     const takeAll = async (some: Unit[]) => {

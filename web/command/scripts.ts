@@ -30,7 +30,7 @@ function fieldLines({ blocks, fields }: Differing) {
 async function differingFields(job: Job, target: Target, opened: OpenedTrack, fresh: Reader) {
     const print = (lines: string[]) => target.write(bytesOfLines(lines));
     const { sectors, tail } = await findDifferences(job, opened, fresh, differing => print(fieldLines(differing)));
-    if (tail) job.say('the bytes after the last sector differ');
+    if (tail) job.say('the incomplete last sectors differ');
     await print([`sectors ${opened.image.sectors} differ ${sectors}`]);
     return Number(sectors > 0 || tail);
 }
@@ -188,7 +188,7 @@ export async function diffJob(job: Job) {
     if (fields) return differingFields(job, target, opened, fresh);
     const made = await compareTrack(job, opened, fresh, { skipDamaged, partial, ...takingLines(target) });
     sayOfRuns(job, made.left, left => leftText(left, newName));
-    if (made.tail) job.say('the bytes after the last sector differ, and a script cannot change them');
+    if (made.tail) job.say('the incomplete last sectors differ, and a script cannot change them');
     if (made.script === null) throw ownFault(`no script can produce ${newName}, so none was written${remedyOf(made, newName)}`);
     if (target instanceof NewFile) {
         await target.writeFirst(made.script.pieces[0]);
@@ -229,7 +229,7 @@ function scriptFailed(error: unknown, name: string): never {
     if (!failedBy(error, 'script/refused')) throw error;
     const { kind } = error.facts;
     if (kind !== null) throw new Fault('disc/other-file', { name, kind });
-    throw ownFault(error.facts.line.replace(/^cdpatch: /, ''));
+    throw ownFault(`${name}: ${error.facts.line.replace(/^cdpatch: /, '')}`);
 }
 
 export async function undoJob(job: Job) {

@@ -4,8 +4,8 @@
 import { writeSync } from 'node:fs';
 import { isatty } from 'node:tty';
 import { ByteList } from '../core/bytes.js';
-import { Fault } from '../core/faults.js';
-import { ownFault } from '../sentences/index.js';
+import { Fault, failedBy, type Subject } from '../core/faults.js';
+import { ownFault, sentenceOf } from '../sentences/index.js';
 
 // Waits for signals, for calls of node, and before a pipe that is full or empty is tried again.
 
@@ -91,6 +91,19 @@ export async function tryFile<T>(attempt: Attempt, name: string, tried: () => T 
     }
 }
 
+/**
+ * Waits for what is read from a file. A failure with one of the subjects is about its contents, and its message then names the file.
+ */
+export async function inFile<T>(name: string, reading: () => Promise<T>, ...subjects: Subject[]) {
+    try {
+        return await reading();
+    } catch (error) {
+        if (!failedBy(error, ...subjects)) throw error;
+        const sentence = sentenceOf(error);
+        throw ownFault(sentence.startsWith(name) ? sentence : `${name}: ${sentence}`);
+    }
+}
+
 // Writes output to standard output, and messages and progress to standard error.
 
 /** The number of bytes that are collected before they are written. */
@@ -121,11 +134,6 @@ export class Output {
     constructor(readonly descriptor: number, readonly before: () => void) {}
 
     async write(bytes: Uint8Array) {
-        if (bytes.length >= BUFFER_SIZE) {
-            this.flush();
-            writeToStream(this.descriptor, bytes);
-            return;
-        }
         this.collected.push(bytes);
         if (this.collected.size >= BUFFER_SIZE) this.flush();
     }

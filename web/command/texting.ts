@@ -1,16 +1,15 @@
 // The job `texts`: prints a table of all texts of a data track, for translators.
 
-import { hexText, wholeOf } from '../core/bytes.js';
-import { USUAL_ENCODING, encodingOf, tableTextOf } from '../core/encodings/views.js';
+import { hexText } from '../core/bytes.js';
+import { USUAL_ENCODING, encodingOf } from '../core/encodings/views.js';
 import { failedBy } from '../core/faults.js';
 import {
     ListedSpans, exportRecords, exportTable, findPointers, newTextsOf, recordsOverlap, type ExportOptions, type OpenedTrack,
     type RecordOptions,
 } from '../core/tasks/index.js';
 import { ownFault, rowName, sentenceOf } from '../sentences/index.js';
-import { filesNamed, openTextsOf, tableSaid } from './listing.js';
+import { filesNamed, ofLists, openTextsOf, tableIn } from './listing.js';
 import { entriesAtPath, sayNoVolume } from './looking.js';
-import { visible } from './printed.js';
 import type { ListedText } from '../core/texts/views.js';
 import type { Job, Target } from './job.js';
 import type { Options } from './options.js';
@@ -32,7 +31,7 @@ async function writeTable(target: Target, table: ReturnType<typeof exportTable>)
 
 /** Reads the new texts of lists. */
 async function newTextsNamed(job: Job, names: string[]) {
-    const { news, fuzzy } = await newTextsOf(await filesNamed(job, names));
+    const { news, fuzzy } = await ofLists(names, async () => newTextsOf(await filesNamed(job, names)));
     if (fuzzy > 0) job.say(sentenceOf({ code: 'list/fuzzy', facts: { count: fuzzy } }));
     return news;
 }
@@ -50,8 +49,7 @@ async function writeRecords(job: Job, target: Target, opened: Pick<OpenedTrack, 
     const entries = await entriesOfRecords(job, opened);
     const made = await exportRecords(opened, { entries, every, length, skip, limit, encoding, ...how }, job.watch);
     const texts = await writeTable(target, made.table);
-    const isChosen = encoding === null && texts > 0;
-    if (isChosen) job.say(`the records read best in ${made.encoding.name}; --encoding selects a different encoding`);
+    if (encoding === null && texts > 0) job.say(`the records read best in ${made.encoding.name}; --encoding selects a different encoding`);
     return texts;
 }
 
@@ -65,10 +63,10 @@ function assertListed({ any, every, length, in: paths = [], file }: Options) {
 
 /** Reports the new texts of earlier lists that are not in this one. */
 function sayUnused(job: Job, { unused, records }: Awaited<ReturnType<typeof newTextsNamed>>) {
-    if (records > 0) job.say(`new texts of records that were left out, since they need their own list: ${records}`);
+    if (records > 0) job.say(`translations of records that were left out, since they need their own table: ${records}`);
     if (unused.size === 0) return;
     const some = Array.from(unused, rowName).slice(0, MOST_NAMED);
-    job.say(`new texts that match no text here: ${unused.size} (${some.join(', ')}${unused.size > some.length ? ', …' : ''})`);
+    job.say(`translations that match no text here: ${unused.size} (${some.join(', ')}${unused.size > some.length ? ', …' : ''})`);
     job.say('if the texts have moved, --po and msgmerge carry their translations over');
 }
 
@@ -82,20 +80,13 @@ function nothingFound(isAsked: boolean) {
 /** How many unused rows are named. */
 const MOST_NAMED = 5;
 
-/** Collects the files whose texts end with a byte other than 00, to report them. */
-function endsOfFiles(job: Job) {
-    const files: Map<number, string[]> = new Map();
-    return {
-        add: (path: string, end: number) => {
-            files.set(end, [...files.get(end) || [], path === '' ? 'sectors between files' : visible(path)]);
-        },
-        say: () => {
-            for (const [end, [first, ...others]] of files) {
-                const more = others.length === 0 ? '' : `, and those of ${others.length} more`;
-                job.say(`the texts of ${first}${more} end with ${hexText(Uint8Array.of(end))}; --end selects a different byte`);
-            }
-        },
-    };
+/** Reports the bytes other than 00 with which the texts of files end. `paths` has the files of each. */
+function sayEnds(job: Job, paths: Map<number, string[]>) {
+    for (const [end, [first, ...others]] of paths) {
+        const more = others.length === 0 ? '' : `, and those of ${others.length} more`;
+        const texts = `the texts of ${first || 'sectors between files'}${more}`;
+        job.say(`${texts} end with ${hexText(Uint8Array.of(end))}; --end selects a different byte`);
+    }
 }
 
 /** Writes the tables of pointers to the listed texts, and reports how many there are and which files were not searched. */
@@ -113,8 +104,7 @@ export async function textsJob(job: Job) {
     if (named !== null && !named.hasCharacters) {
         throw ownFault(`${named.name} is not a character encoding, so texts cannot be recognised in it`);
     }
-    const table = file && tableTextOf(await wholeOf((await job.files.image(file)).reader));
-    const own = table === undefined ? named : await tableSaid(job, table);
+    const { text: table, own } = file === undefined ? { text: undefined, own: named } : await tableIn(job, file);
     const target = await job.target();
     const forPointers = pointers === undefined ? null : await job.files.make(pointers);
     const opened = await openTextsOf(job);
@@ -123,14 +113,15 @@ export async function textsJob(job: Job) {
     const news = list && await newTextsNamed(job, list);
     const cells = csv ? 'csv' : 'tsv';
     const how: Pick<ExportOptions, 'form' | 'end' | 'freshOf'> = { form: po ? 'po' : cells, end, freshOf: news && (it => news.of(it)) };
-    const ends = endsOfFiles(job);
+    const ends = new Map<number, string[]>();
+    const ended = (path: string, end: number) => void ends.set(end, [...ends.get(end) || [], path]);
     const listed = new ListedSpans();
     const seen = forPointers === null ? undefined : (some: ListedText[]) => listed.add(some);
     const anyIn = any && table === undefined ? encoding ?? USUAL_ENCODING.name : encoding;
-    const exported = { encoding: anyIn, table, lines, least, any, paths, ended: ends.add, seen, ...how };
+    const exported = { encoding: anyIn, table, lines, least, any, paths, ended, seen, ...how };
     const texts = every === undefined ? await writeTable(target, exportTable(engine, opened, exported)) :
         await writeRecords(job, target, opened, { ...how, encoding: own });
-    ends.say();
+    sayEnds(job, ends);
     job.say(`texts ${texts}`);
     if (forPointers !== null) await writePointers(job, forPointers, opened, listed);
     if (texts === 0) job.say(nothingFound(encoding !== undefined || table !== undefined));

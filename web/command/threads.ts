@@ -1,12 +1,15 @@
 // The threads of node that work for a pool.
 
 import { spawn } from 'node:child_process';
+import { once } from 'node:events';
 import { readFileSync, readSync } from 'node:fs';
 import { cpus } from 'node:os';
-import { Worker, parentPort } from 'node:worker_threads';
+import { Worker, parentPort, workerData } from 'node:worker_threads';
+import { gunzipSync } from 'node:zlib';
 import type { Reader } from '../core/bytes.js';
+import { Fault } from '../core/faults.js';
 import { JOBS } from '../core/jobs/index.js';
-import { Calls, sectorCount } from '../core/module/index.js';
+import { Calls, hasVectors, sectorCount } from '../core/module/index.js';
 import {
     Pool, UNREAD, localWorker, serving, transfersOf, type JobName, type Jobs, type Message as AnyMessage, type PoolWorker, type Shared,
     type Sharing,
@@ -57,6 +60,21 @@ type Message = AnyMessage<JobName, Piece>;
 /** The data of a new thread; whether it is a thread of `scan`. */
 export type ThreadData = { module: WebAssembly.Module, scans: boolean };
 
+let own: { module: WebAssembly.Module, calls: Calls } | null = null;
+
+/**
+ * The module of libcdpatch, which the main thread compiles, and its calls in this thread. All jobs use one instance of the module, since
+ * nothing is awaited while it holds bytes.
+ */
+export function library() {
+    if (own !== null) return own;
+    if (!hasVectors()) throw new Fault('no-vectors', {});
+    const given = workerData as ThreadData | null;
+    const module = given ? given.module : new WebAssembly.Module(gunzipSync(Buffer.from(JOINED.module, 'base64')));
+    own = { module, calls: new Calls(module) };
+    return own;
+}
+
 /** Fewer sectors are tested, hashed, or searched before threads have started, each of which evaluates the whole program. */
 const SECTORS_FOR_THREADS = 150000;
 /** The same number for texts, because a sector of texts takes much longer. */
@@ -80,7 +98,9 @@ function readPiece(piece: Piece, i: number) {
     return rooms[i].subarray(0, length);
 }
 
-function replyTo(serve: ReturnType<typeof serving>, message: Message) {
+/** The reply to a message, whose job is done in this thread. */
+function replyTo(message: Message) {
+    const serve = serving(library().calls, JOBS);
     try {
         return serve({ ...message, pieces: message.pieces.map(readPiece) });
     } catch {
@@ -89,18 +109,12 @@ function replyTo(serve: ReturnType<typeof serving>, message: Message) {
 }
 
 /** Starts a thread. Returns it, and a promise of whether it has started; null if it cannot be created. */
-export function begunThread(data: ThreadData) {
+export function begunThread(scans: boolean) {
     if (isTested()) return null;
     try {
-        const worker = new Worker(JOINED.file, { workerData: data });
-        const thread = { worker, begun: Promise.resolve(true), isGone: false };
-        thread.begun = new Promise(resolve => {
-            worker.on('online', () => resolve(true));
-            worker.on('error', () => {
-                thread.isGone = true;
-                resolve(false);
-            });
-        });
+        const worker = new Worker(JOINED.file, { workerData: { module: library().module, scans } });
+        const thread = { worker, begun: once(worker, 'online').then(() => true, () => false), isGone: false };
+        worker.on('error', () => { thread.isGone = true; });
         return thread;
     } catch {
         return null;
@@ -108,14 +122,12 @@ export function begunThread(data: ThreadData) {
 }
 
 /** A thread that works for a pool. If it does not start, the current thread does its work. */
-function threadWorker(module: WebAssembly.Module, calls: Calls) {
-    const serve = serving(calls, JOBS);
-    const thread = begunThread({ module, scans: false });
+function threadWorker() {
+    const thread = begunThread(false);
     const poolWorker: PoolWorker & { close(): void } = {
-        post(message: Message, transfer) {
-            const here = () => poolWorker.onreply(replyTo(serve, message));
-            if (thread === null) setImmediate(here);
-            else void thread.begun.then(isBegun => isBegun ? thread.worker.postMessage(message, transfer) : here());
+        async post(message: Message, transfer) {
+            if (thread !== null && await thread.begun) thread.worker.postMessage(message, transfer);
+            else setImmediate(() => poolWorker.onreply(replyTo(message)));
         },
         onreply() {},
         onfault() {},
@@ -128,13 +140,10 @@ function threadWorker(module: WebAssembly.Module, calls: Calls) {
 }
 
 /** Runs in a thread: serves the main thread, and reads ranges of files itself. */
-export function serveThread(module: WebAssembly.Module) {
-    if (parentPort === null) return;
-    const serve = serving(new Calls(module), JOBS);
-    const port = parentPort;
-    port.on('message', (message: Message) => {
-        const reply = replyTo(serve, message);
-        port.postMessage(reply, transfersOf(reply));
+export function serveThread() {
+    parentPort?.on('message', (message: Message) => {
+        const reply = replyTo(message);
+        parentPort?.postMessage(reply, transfersOf(reply));
     });
 }
 
@@ -144,7 +153,7 @@ export class Threads {
     isAlone = false;
     threads: ReturnType<typeof threadWorker>[] = [];
 
-    constructor(readonly module: WebAssembly.Module, readonly calls: Calls, readonly progress: (done: number, all: number) => void) {}
+    constructor(readonly progress: (done: number, all: number) => void) {}
 
     /** Like Pool.share. */
     share<Name extends JobName>(job: Name, readers: Reader[], args: Shared<Name>, how: Sharing, take: (answer: Jobs[Name]['answer']) =>
@@ -173,9 +182,9 @@ export class Threads {
      * @param least how many sectors are enough for threads
      */
     pool(sectors: number, most: number = MOST_THREADS, least: number = SECTORS_FOR_THREADS) {
-        if (!this.hasThreads(sectors, least)) return new Pool([localWorker(this.calls, JOBS)]);
+        if (!this.hasThreads(sectors, least)) return new Pool([localWorker(library().calls, JOBS)]);
         const count = Math.min(cpus().length || 1, most); // cpus() is empty where the system does not report them
-        while (this.threads.length < count) this.threads.push(threadWorker(this.module, this.calls));
+        while (this.threads.length < count) this.threads.push(threadWorker());
         return new Pool(this.threads, true);
     }
 

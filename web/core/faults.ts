@@ -195,7 +195,6 @@ export interface Facts {
     'pointers/cell': { row: number; column: string; cell: string };
     'pointers/too-large': { size: number; most: number };
     'pointers/too-many': { most: number };
-    'pointers/none': {};
     'pointers/no-file': { row: number; path: string; most: number };
     'pointers/after-file': { row: number; path: string; size: number; after: number };
     /** Pointers of two rows overlap. */

@@ -322,7 +322,6 @@ export const ENGLISH: Sentences = {
     'pointers/cell': ({ row, column, cell }) => `row ${row} of the list of pointers: ${column} cannot be '${cell}'`,
     'pointers/too-large': ({ size, most }) => `the list of pointers has ${size} bytes, but may have at most ${most}`,
     'pointers/too-many': ({ most }) => `the tables of the list have more than ${most} pointers`,
-    'pointers/none': () => 'the list of pointers has no table',
     'pointers/no-file': ({ row, path, most }) =>
         `row ${row} of the list of pointers: the disc has no file ${path} with at most ${most} bytes`,
     'pointers/after-file': ({ row, path, size, after }) =>

@@ -122,7 +122,6 @@ export async function tablesOfList(reader: Reader, signal?: Signal): Promise<Lis
         if (pointers > MOST_POINTERS) throw new Fault('pointers/too-many', { most: MOST_POINTERS });
         tables.push(table);
     }
-    if (tables.length === 0) throw new Fault('pointers/none', {});
     return tables;
 }
 
