@@ -133,7 +133,7 @@ test('fields that differ, and a tail that does', () => inDirectory(async room =>
 test('an image of more sectors than the program takes is refused at once', () => inDirectory(async room => {
     write(room, { long: '', script: 'cdpatch 1\n' });
     truncateSync(join(room, 'long'), 1000001 * 2352);
-    const [what, advice] = ['an image of more than 1000000 sectors', 'A CD has at most 449850. Choose the image of a CD.'];
+    const [what, advice] = ['an image that is larger than a CD', 'A CD has at most 449850 sectors. Choose the image of a CD.'];
     for (const words of [['check', 'script'], ['apply', 'script', 'out'], ['files'], ['undo', 'script'], ['rebuilds']]) {
         const { status, out, errors } = await run([words[0], 'long', ...words.slice(1)], { cwd: room });
         assert.deepEqual([status, out, errors], [2, '', `cdscript: long is ${what}. ${advice}\n`], words[0]);

@@ -5,11 +5,12 @@ import { calls, core, diceOf, readerOf, someBytes } from './common.mjs';
 import { POOL, WITHOUT_EDC, at } from './dumps.mjs';
 import { localPool } from './pools.mjs';
 
+const { readBytes } = await core('bytes.js');
 const { sliceOf, watchedReader } = await core('readers/index.js');
 const { baseByAddresses } = await core('disc/disc.js');
 const { kindOfFile } = await core('disc/file_type.js');
 const { isOneTrack } = await core('disc/cue.js');
-const { CONVERTIBLE, convertToRaw } = await core('tasks/convert.js');
+const { CONVERTIBLE, convertToRaw, endsAfterLast, rawReader } = await core('tasks/convert.js');
 
 const RAW = 2352;
 
@@ -94,6 +95,28 @@ test('images are converted to raw ones byte by byte, whatever follows or precede
             for (const [form, [image, due]] of Object.entries(forms)) assert.ok((await converted(image, form, { base })).equals(due), `${form}: ${count} sectors from block ${base} on`);
         }
     }
+});
+
+test('a reader of the raw image returns from any place what the conversion writes, without an incomplete last sector', async () => {
+    const [mode1, mode2] = [sectors(45000, 1200), mode2Sectors(45000, 1200)];
+    const user = Buffer.concat(Array.from({ length: 1200 }, (_, i) => mode1.subarray(RAW * i + 16, RAW * i + 2064)));
+    const forms = { iso: [user, mode1], subchannels: [longer(mode2), mode2], headerless: [headerless(mode2), mode2] };
+    const dice = diceOf(7);
+    for (const [form, [image, due]] of Object.entries(forms)) {
+        const reader = rawReader(calls, readerOf(Buffer.concat([image, image.subarray(0, 2000)]), 100000), form, 45000);
+        assert.strictEqual(reader.size, due.length, form);
+        for (const at of [0, 1, RAW - 1, RAW, 511 * RAW, due.length - 1, due.length, ...Array.from({ length: 30 }, () => dice() % due.length)]) {
+            for (const length of [1, 15, RAW, 700 * RAW]) {
+                const most = Math.min(length, due.length - at);
+                const bytes = await readBytes(reader, at, most);
+                assert.ok(due.subarray(at, at + most).equals(bytes), `${form}: ${length} bytes at ${at}`);
+            }
+        }
+        assert.strictEqual((await reader.read(due.length, 10)).length, 0, form);
+    }
+    const sized = (form, sectors) => endsAfterLast({ size: CONVERTIBLE[form] * sectors }, form, 45000);
+    assert.deepStrictEqual(['iso', 'subchannels', 'headerless'].map(form => [sized(form, 404850), sized(form, 404851)]),
+        [[false, true], [false, false], [false, true]]);
 });
 
 test('a conversion says how far it is, can be cancelled, and refuses what is cut or has no address', async () => {

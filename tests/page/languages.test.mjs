@@ -64,7 +64,7 @@ test('no text begins or ends with a space, except where the English one does', (
 });
 
 test('the failures that a player can see have sentences in each language, with the same facts', () => {
-    const kinds = Object.keys(KINDS).filter(kind => !['raw', 'audio', 'cue'].includes(kind));
+    const kinds = Object.keys(KINDS).filter(kind => !['raw', 'audio', 'cue', 'iso', 'subchannels'].includes(kind));
     const codes = [...Object.keys(sentences).filter(code => code.startsWith('cue/')), 'disc/two-sheets', 'disc/no-image', 'disc/no-data',
         'disc/sector-size', ...kinds.map(kind => `disc/other-file/${kind}`)];
     for (const tag of OTHERS) {

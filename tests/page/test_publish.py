@@ -8,6 +8,7 @@ from typing import Any
 
 import common
 import discs
+from common import SECTOR_SIZE
 from pages import GATE, PICKER, UNSEEN, PageTest, applied, patcher, result
 
 CUE = discs.sheet_of(game=discs.DATA)
@@ -391,7 +392,59 @@ class Player(PageTest):
         self.browser.drop('#player', [sheet, image])
         self.browser.wait('#player .say.bad', 'mine.cue also needs game.bin. Open them all together.')
 
-    def test_an_iso_image_is_no_full_dump(self) -> None:
+    def other_forms(self) -> dict[str, bytes]:
+        """The game as an ISO image, and as an image with subchannels."""
+        sectors = [discs.game()[at:at + SECTOR_SIZE] for at in range(0, len(discs.game()), SECTOR_SIZE)]
+        return {'mine.iso': b''.join(it[16:2064] for it in sectors), 'mine.img': b''.join(it + bytes(96) for it in sectors)}
+
+    def give(self, name: str, data: bytes) -> None:
+        path = common.folder('forms') / name
+        path.write_bytes(data)
+        self.browser.drop('#player', [path])
+
+    def test_an_iso_image_or_one_with_subchannels_is_converted_while_it_is_read(self) -> None:
+        for name, data in self.other_forms().items():
+            self.open_patcher(patcher(discs.game(), result(), discs.script()))
+            self.give(name, data)
+            self.browser.wait('#verdict', common.text('playerRightDisc'))
+            self.assertIn(common.text('playerFromIso' if name == 'mine.iso' else 'playerFromSubchannels'), self.browser.text('#player'))
+            self.assertNotIn(common.text('playerIsoLacksMusic'), self.browser.text('#player'))
+            self.saves_sheet('Save a cue sheet', 'Starlit (English)')
+            self.assertIn('It is exactly the image that the author made: the SHA-1 is the same.', self.browser.text('#player'))
+            saved = self.browser.downloaded('Starlit (English).bin')
+            self.assertEqual(saved.read_bytes(), result())
+            saved.unlink()
+
+    def test_an_iso_image_is_judged_by_its_sectors(self) -> None:
+        iso = self.other_forms()['mine.iso']
+        self.open_patcher(patcher(discs.game(), result(discs.named()), discs.named()))
+        for data, verdict in ((iso.replace(b'Start of', b'START OF'), 'playerOtherDumpFits'), (iso[:-1000], 'playerCannotTell'),
+                              (b''.join(common.iso_of({'README.TXT': b'other'})).ljust(len(iso), b'x'), 'playerOtherDumpFitsNot')):
+            self.give('mine.iso', data)
+            self.browser.wait('#verdict', common.text(verdict))
+        self.give('mine.iso', iso.ljust(2048 * 449851, b'x'))
+        self.browser.wait('#player .say.bad', 'mine.iso is an image that is larger than a CD')
+
+    def test_an_iso_image_lacks_the_music_of_the_authors_disc(self) -> None:
+        music = 'FILE "Starlit (English).bin" BINARY\n  TRACK 01 MODE1/2352\n    INDEX 01 00:00:00\n'
+        song = '  TRACK 02 AUDIO\n    INDEX 01 00:02:33\n'
+        whole = discs.game() + bytes(range(250)) * SECTOR_SIZE
+        self.open_patcher(patcher(whole, result(discs.named()), discs.named(), cue=music + song, name='Starlit (English).bin'))
+        self.give('mine.iso', self.other_forms()['mine.iso'])
+        self.browser.wait('#verdict', common.text('playerCannotTell'))
+        self.assertIn(common.text('playerIsoLacksMusic'), self.browser.text('#player'))
+        self.assertNotIn(common.text('playerFileProbablyCut'), self.browser.text('#player'))
+        self.press('Patch anyway')
+        self.press('Save a cue sheet')
+        saved = self.browser.downloaded('Starlit (English).cue')
+        common.waited(lambda: saved.read_text() == discs.sheet_of(**{'Starlit (English)': discs.DATA}), 'another cue sheet')
+        # In a file of its own the music is no part of the image, but an ISO image still comes without it.
+        self.open_patcher(patcher(discs.game(), result(), discs.script(), cue=music + song.replace('  T', 'FILE "song.bin" BINARY\n  T', 1)))
+        self.give('mine.iso', self.other_forms()['mine.iso'])
+        self.browser.wait('#verdict', common.text('playerRightDisc'))
+        self.assertIn(common.text('playerIsoLacksMusic'), self.browser.text('#player'))
+
+    def test_no_player_is_sent_to_a_command_of_cdpatch(self) -> None:
         self.open_patcher(patcher(discs.game(), result(), discs.script()))
         image = discs.written(mine=b''.join(common.iso_of({'README.TXT': b'game'})))['mine'].rename(common.folder('iso') / 'mine.iso')
         self.browser.drop('#player', [image])

@@ -44,7 +44,7 @@ export const KINDS: Record<FileKind, [string, string]> = {
     gdi: ['a GDI, which lists the tracks of a Dreamcast disc',
         'Choose the data track of the game, mostly track03.bin. It begins at block 45000.'],
     sub: ['the subchannels of an image (SUB)', 'Choose the image itself.'],
-    long: [`an image of more than ${MOST_SECTORS} sectors`, `A CD has at most ${LAST_BASE + 1}. Choose the image of a CD.`],
+    long: ['an image that is larger than a CD', `A CD has at most ${LAST_BASE + 1} sectors. Choose the image of a CD.`],
     text: ['a text file', 'Choose a raw image, 2352 bytes per sector, or its cue sheet.'],
     workbook: ['a workbook, such as XLSX', 'Save its table as CSV (UTF-8), and choose that file.'],
     patch: ['a patch of a different tool (PPF, xdelta, IPS, BPS, or UPS)',

@@ -25,7 +25,7 @@ export const CONVERTIBLE = Object.freeze({ iso: USER_SIZE, subchannels: SUBCHANN
 
 export type ConvertibleKind = keyof typeof CONVERTIBLE;
 
-/** The number of sectors with subchannels, or without headers, that are converted at a time. */
+/** The most sectors that a reader converts at a time. */
 const SECTORS_AT_ONCE = 512;
 
 /**
@@ -89,24 +89,55 @@ export function isConvertible(kind: string): kind is ConvertibleKind {
 }
 
 /**
+ * A file as the raw image that it is converted to, sector by sector as it is read, without an incomplete last sector. The blocks of sectors
+ * that have no address are counted from `base`.
+ * @param kind of the file
+ */
+export function rawReader(calls: Calls, reader: Reader, kind: ConvertibleKind, base: number = 0): Reader {
+    const unit = CONVERTIBLE[kind];
+    const count = Math.floor(reader.size / unit);
+    return {
+        size: count * SECTOR_SIZE,
+        async read(at, length) {
+            const first = Math.floor(at / SECTOR_SIZE);
+            const end = Math.min(Math.ceil((at + length) / SECTOR_SIZE), first + SECTORS_AT_ONCE, count);
+            if (first >= end) return new Uint8Array(0);
+            const bytes = await readBytes(reader, first * unit, (end - first) * unit);
+            const from = at - first * SECTOR_SIZE;
+            return rawSectors(calls, bytes, kind, base + first).subarray(from, from + length);
+        },
+    };
+}
+
+function rawSectors(calls: Calls, bytes: Uint8Array, kind: ConvertibleKind, first: number) {
+    if (kind === 'iso') return calls.encodeBlocks(first, bytes);
+    return kind === 'headerless' ? withHeaders(calls, bytes, first) : withoutSubchannels(bytes);
+}
+
+/** Whether the last block of an image that is converted would be after the last block of a disc. */
+export function endsAfterLast({ size }: Reader, kind: ConvertibleKind, base: number = 0) {
+    return kind !== 'subchannels' && base + size / CONVERTIBLE[kind] > LAST_BASE + 1;
+}
+
+/**
  * Converts an image to a raw image, and passes its sectors to `take`, in order. The blocks of sectors that have no address are counted from
  * `base`. Throws a Fault, `convert` or `cancelled`, and what the reader throws.
  * @param kind of the file
  */
 export async function convertToRaw({ calls, pool }: Engine, { name, reader }: DiscFile, kind: ConvertibleKind, take: TakeBytes,
     how: Sharing = {}) {
-    const size = CONVERTIBLE[kind];
+    const unit = CONVERTIBLE[kind];
     const { base = 0, progress, signal } = how;
-    const count = reader.size / size;
-    if (!Number.isInteger(count)) throw new Fault('convert/cut', { name, size: reader.size, unit: size });
-    if (kind !== 'subchannels' && base + count > LAST_BASE + 1) throw new Fault('convert/after-last', { name });
-    if (kind === 'iso') return pool.share('raw', [reader], {}, { ...how, base, units: [size] }, take);
-    for (let first = 0; first < count; first += SECTORS_AT_ONCE) {
+    if (reader.size % unit !== 0) throw new Fault('convert/cut', { name, size: reader.size, unit });
+    if (endsAfterLast(reader, kind, base)) throw new Fault('convert/after-last', { name });
+    if (kind === 'iso') return pool.share('raw', [reader], {}, { ...how, base, units: [unit] }, take);
+    const raw = rawReader(calls, reader, kind, base);
+    for (let at = 0; at < raw.size;) {
         if (signal && signal.aborted) throw cancelled();
-        const end = Math.min(first + SECTORS_AT_ONCE, count);
-        const bytes = await readBytes(reader, first * size, (end - first) * size);
-        await take(kind === 'headerless' ? withHeaders(calls, bytes, base + first) : withoutSubchannels(bytes));
-        if (progress) progress(end, count);
+        const sectors = await raw.read(at, SECTORS_AT_ONCE * SECTOR_SIZE);
+        at += sectors.length;
+        await take(sectors);
+        if (progress) progress(sectorCount(at), sectorCount(raw.size));
     }
     return undefined;
 }

@@ -10,8 +10,8 @@ export {
     surveyedTracks, surveyedWith, unsurveyedTracks, type Ranges, type Shift, type SurveyedTrack,
 } from './inform.js';
 export {
-    CONVERTIBLE, convertToRaw, extractFile, isConvertible, passUser, userRange, type ConvertibleKind, type KindRun, type TakeBytes,
-    type UserRange,
+    CONVERTIBLE, convertToRaw, endsAfterLast, extractFile, isConvertible, passUser, rawReader, userRange, type ConvertibleKind,
+    type KindRun, type TakeBytes, type UserRange,
 } from './convert.js';
 export { correctionOf, repairTrack, type Correction, type Refusal, type Repair } from './repair.js';
 export {

@@ -3,6 +3,7 @@
 import { knownFiles, openKnown, type KnownFile } from '../../core/disc/views.js';
 import { textOfFile } from '../../core/encodings/views.js';
 import { failedBy } from '../../core/faults.js';
+import { endsAfterLast, rawReader } from '../../core/tasks/index.js';
 import type { App } from '../app/index.js';
 import { discFileOf, fileOf } from '../open/index.js';
 import { copyWords, otherFiles, savingSheet, sheetNaming } from '../save/index.js';
@@ -71,6 +72,20 @@ function sheetSaver(name: string, sheet: string, label: string): Child[] {
 
 // Opens the disc of the files that a player chose. A cue sheet and the files that it names may be chosen one after the other.
 
+/** The kinds of files that are converted to raw images while they are read, and the keys of the texts about that. */
+const CONVERTED = { iso: 'playerFromIso', subchannels: 'playerFromSubchannels' } as const;
+
+export type ConvertedKind = keyof typeof CONVERTED;
+
+/** What is done with an image that is converted. */
+export function convertedWords(kind: ConvertedKind) {
+    return texts[CONVERTED[kind]];
+}
+
+function isConverted(kind: string): kind is ConvertedKind {
+    return Object.keys(CONVERTED).includes(kind);
+}
+
 function hasSheet(files: KnownFile[]) {
     return files.some(({ kind }) => kind === 'cue');
 }
@@ -79,7 +94,8 @@ export class ChosenDisc {
     /** The files of the last choice, unless they were a cue sheet and all files that it names. */
     before: KnownFile[] = [];
 
-    constructor(readonly app: App) {}
+    /** @param base of the author's image, which is that of an ISO image too */
+    constructor(readonly app: App, readonly base: number) {}
 
     /** Opens files, together with those of the previous choice if just one of the two has a cue sheet. Throws what openDisc throws. */
     async open(files: File[]) {
@@ -100,8 +116,21 @@ export class ChosenDisc {
         return kind === 'cue' && sheet !== null ? textOfFile(sheet) : '';
     }
 
+    /** The disc of files. `kind` is that of an image that is converted: no cue sheet describes what it is converted to. */
     async opened(files: KnownFile[]) {
-        return { disc: await openKnown(this.app.calls, files), files: files.flatMap(({ file }) => fileOf(file.reader) || []) };
+        const { calls } = this.app;
+        const own = files.flatMap(({ file }) => fileOf(file.reader) || []);
+        const others = files.filter(({ kind }) => isConverted(kind));
+        const [kind = null] = others.flatMap(it => isConverted(it.kind) ? it.kind : []);
+        const disc = await openKnown(calls, kind === null ? files : others.map(it => this.converted(it)));
+        return { disc, files: own, kind };
+    }
+
+    converted(known: KnownFile): KnownFile {
+        const { file: { name, reader }, kind } = known;
+        if (!isConverted(kind)) return known;
+        if (endsAfterLast(reader, kind, this.base)) return { ...known, kind: 'long' };
+        return { file: { name, reader: rawReader(this.app.calls, reader, kind, this.base) }, kind: 'raw', sheet: null };
     }
 
     /** The image of the last choice that its cue sheet does not name, or undefined. */
@@ -112,10 +141,6 @@ export class ChosenDisc {
 
     /** Returns a function that writes the notice on why files are not an image to patch, in the current language. */
     faultOf(error: unknown, files: File[]): () => HTMLElement {
-        const iso = this.before.find(({ kind }) => kind === 'iso');
-        if (iso !== undefined) {
-            return () => notice('bad', say(texts.playerIsoOfPartSectors, { name: nameOf(iso.file.name) }), texts.playerNeedsFullDump);
-        }
         const renamed = this.unnamedImage();
         if (renamed !== undefined && failedBy(error, 'disc/missing-files')) {
             const { sheet, file } = error.facts;

@@ -10,9 +10,9 @@ import {
     button, clearNotices, element, fill, hashParts, icon, isCancelled, jobBar, megabytes, nameOf, notice, refuseWhileSaving, seenLines,
     seenTitle, verdictLine, type Child,
 } from '../ui/index.js';
-import { ChosenDisc, playWords, sheetFor, wordsWithoutSheet } from './disc.js';
+import { ChosenDisc, convertedWords, playWords, sheetFor, wordsWithoutSheet, type ConvertedKind } from './disc.js';
 import type { PatcherData } from './patcher.js';
-import { damageWords, judgeImage, reasonForPlayer, refusalForPlayer, trackOfSize, verdictWords, type Judged } from './verdict.js';
+import { damageWords, hasMusic, judgeImage, reasonForPlayer, refusalForPlayer, trackOfSize, verdictWords, type Judged } from './verdict.js';
 
 // The parts from which the page of a patcher is drawn.
 
@@ -88,6 +88,8 @@ export class Player {
     image: DiscImage | null = null;
     files: File[] = [];
     sheet = '';
+    /** The kind of the image if it is converted while it is read, else null. */
+    kind: ConvertedKind | null = null;
     /** Whether the image looks like a whole disc of one track. */
     oneTrack = false;
     /** The browser's own saving of a file, which ends with the page, null if there is none. */
@@ -100,7 +102,7 @@ export class Player {
     chosen; draw;
 
     constructor(readonly app: App, readonly data: PatcherData) {
-        this.chosen = new ChosenDisc(app);
+        this.chosen = new ChosenDisc(app, data.base);
         this.input = element('input', { type: 'file', id: 'player-files', class: 'hide', multiple: true, tabindex: -1,
             change: () => this.open([...this.input.files || []]) });
         /** Draws the steps in the current language. */
@@ -143,9 +145,10 @@ export class Player {
         try {
             const opened = await this.chosen.open(files);
             if (number !== this.number) return;
-            const { disc, files: all } = opened;
+            const { disc, files: all, kind } = opened;
             this.sheet = disc.sheetText;
             this.files = all;
+            this.kind = kind;
             const track = trackOfSize(disc, this.data.image.size);
             this.image = track.image;
             await this.judge(track);
@@ -195,10 +198,18 @@ export class Player {
         return this.app.jobAt(this.steps)?.saves === true;
     }
 
-    /** The name of the image, and if the player is likely to patch it, a button that replaces it. */
+    /** The name of the image, what is converted, and if the player is likely to patch it, a button that replaces it. */
     nameLine(image: DiscImage, isChosen: boolean) {
-        return element('p', {}, element('span', { class: 'mono' }, nameOf(image.name)), ' ',
-            isChosen && button('slim bare tiny', () => this.input.click(), texts.playerChooseAnother));
+        const { kind, data } = this;
+        const lacking = kind === 'iso' && hasMusic(data, true) ? ` ${texts.playerIsoLacksMusic}` : '';
+        return element('div', {}, element('p', {}, element('span', { class: 'mono' }, nameOf(image.name)), ' ',
+            isChosen && button('slim bare tiny', () => this.input.click(), texts.playerChooseAnother)),
+        kind && element('p', { class: 'small' }, `${convertedWords(kind)}${lacking}`));
+    }
+
+    /** Whether the image is an ISO image, which lacks the music that the author's image has. */
+    get lacksMusic() {
+        return this.kind === 'iso' && hasMusic(this.data);
     }
 
     /** The first step of an image that is patched. */
@@ -208,7 +219,7 @@ export class Player {
         const { tone, words } = verdictWords(verdict, isUnknown ? null : 'verdict');
         const name = this.nameLine(image, tone !== 'bad' && !isUnknown);
         const { size } = image.reader;
-        const rest = isUnknown ? [words] : [words, reasonForPlayer(judged, size, this.data),
+        const rest = isUnknown ? [words] : [words, reasonForPlayer(judged, size, this.data, this.lacksMusic),
             detailsOf(this.data.image, size, judged)];
         return step('1', isUnknown ? 'later' : 'done', texts.playerYourDisc, name, ...tone === 'bad' ? [] : rest);
     }
@@ -246,7 +257,7 @@ export class Player {
         const isOpen = judged.verdict === 'unknown';
         const { size } = image.reader;
         const box = element('div', { class: 'say warn' }, verdictWords(judged.verdict, 'verdict').words,
-            reasonForPlayer(judged, size, this.data),
+            reasonForPlayer(judged, size, this.data, this.lacksMusic),
             isOpen && this.data.carry && element('p', {}, texts.playerAuthorPatchesDamaged),
             element('div', { class: 'row' }, button('', () => this.input.click(), texts.playerChooseAnotherImage),
                 isOpen && button('', () => this.patch(image, judged, first), texts.playerPatchAllTheSame)));
@@ -290,7 +301,7 @@ export class Player {
         const wait = !streamed && format(texts.secondKeepPageOpen, { size: megabytes(size) });
         const left = refused > 0 && `${format(texts.playerPatchesLeftOut, { n: refused })} ${texts.playerGameMayStop}`;
         const isSafe = judged.verdict === 'right' || (judged.verdict === 'fits' && damageWords(judged.findings).length === 0);
-        const doubt = !isSafe && reasonForPlayer(judged, judged.work.reader.size, this.data);
+        const doubt = !isSafe && reasonForPlayer(judged, judged.work.reader.size, this.data, this.lacksMusic);
         const tone = refused > 0 || doubt ? 'warn' : 'good';
         const message = verdictLine(tone, head, 'saved');
         const rest = [same, wait, left].map(text => text && element('p', {}, text));
@@ -309,7 +320,8 @@ export class Player {
 
     /** @param name of the image to play */
     playStep(name: string): HTMLElement {
-        const sheet = () => sheetFor(name, this.sheet, this.image ? this.image.name : '', this.data);
+        const data = { ...this.data, ...this.lacksMusic && { cue: '' } };
+        const sheet = () => sheetFor(name, this.sheet, this.image ? this.image.name : '', data);
         const take = async (file: File) => {
             this.sheet = await this.chosen.sheetText(file).catch(() => '');
             if (sheet() === '') return false;

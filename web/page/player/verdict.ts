@@ -93,22 +93,27 @@ export function damageWords(findings: Judged['findings']): string[] {
     return words.length === 0 ? [] : [...words, texts.playerGameMayStopThere];
 }
 
-/** Whether the image has music, according to the author's cue sheet. */
-function hasMusic({ cue, name }: Pick<PatcherData, 'cue' | 'name'>) {
+/**
+ * Whether the image has music, according to the author's cue sheet.
+ * @param isInAny whether the music may also be in the other files of the sheet
+ */
+export function hasMusic({ cue, name }: Pick<PatcherData, 'cue' | 'name'>, isInAny: boolean = false) {
     if (cue === '') return false;
     const { files, points } = sheetOf(cue);
-    return points.some(({ track: { type }, file }) => type === 'AUDIO' && files[file].name === name);
+    return points.some(({ track: { type }, file }) => type === 'AUDIO' && (isInAny || files[file].name === name));
 }
 
 /**
  * The text under the verdict on an image that is neither refused nor recognised by its SHA-1.
  * @param size of the image
  * @param data the author's image and cue sheet
+ * @param isPart whether the image lacks the author's music on purpose
  */
-export function reasonForPlayer({ findings, ...judged }: Judged, size: number, data: Pick<PatcherData, 'image' | 'cue' | 'name'>) {
+export function reasonForPlayer({ findings, ...judged }: Judged, size: number, data: Pick<PatcherData, 'image' | 'cue' | 'name'>,
+    isPart: boolean = false) {
     const { verdict, patches } = judged;
     const { size: wanted } = data.image;
-    const cut = size < wanted ? [texts.playerFileProbablyCut] : [];
+    const cut = size < wanted && !isPart ? [texts.playerFileProbablyCut] : [];
     const sizes = size === wanted ? [] : [format(texts.playerSizesDiffer, { n: size, wanted }), ...cut];
     const isShifted = findings.length === 0 && hasMusic(data);
     const reasons: Record<string, string[]> = {

@@ -9,7 +9,7 @@ import { ownFault } from '../../sentences/index.js';
 import { fileOf, fileReader } from '../open/index.js';
 import { format, playerTexts } from '../texts/index.js';
 import { nextTurn } from '../ui/index.js';
-import { asDownloaded, canStream, chosenOther, downloadImage, type OpenFile } from './files_out.js';
+import { asDownloaded, canStream, chosenOther, downloadImage, downloadMade, type OpenFile } from './files_out.js';
 import * as texts from '../texts/index.js';
 
 // Cuts an image into regions to save it. Each region is written in one call: slices of the file with the patched sectors between them. A
@@ -279,22 +279,32 @@ export function givingAll(pieces: Piece[]): Maker {
 /** Starts the download of the image if it is accepted. */
 async function downloadPieces(reader: Reader, make: Maker, name: string, { signal, progress, seen, accept }: Watch): Promise<SavedFile> {
     const source = fileOf(reader);
-    if (source === null) throw new Error('this image is not a file');
+    let done = 0;
+    const see = async (from: Reader, piece: Piece, take: (bytes: Uint8Array) => Promise<void> = async () => {}) => {
+        for await (const bytes of bytesOfPieces(from, [piece])) {
+            if (signal.aborted) throw cancelled();
+            if (seen) await seen(bytes);
+            await take(bytes);
+            progress(done += bytes.length);
+        }
+    };
+    const end = async () => {
+        if (accept) await accept();
+        if (signal.aborted) throw cancelled();
+    };
+    if (source === null) {
+        return downloadMade(async take => {
+            await make(piece => see(reader, piece, bytes => take(bytes.slice())));
+            await end();
+        }, name);
+    }
     const pieces: Piece[] = [];
     const keeper = new PieceKeeper();
     await make(async piece => void pieces.push(keeper.kept(piece)));
     const blob = await blobOfPieces(source, pieces);
     const file = new File([blob], name);
-    let done = 0;
-    if (seen) {
-        for await (const bytes of bytesOfPieces(forwardOf(fileReader(file)), [{ from: 0, to: file.size }])) {
-            if (signal.aborted) throw cancelled();
-            await seen(bytes);
-            progress(done += bytes.length);
-        }
-    }
-    if (accept) await accept();
-    if (signal.aborted) throw cancelled();
+    if (seen) await see(forwardOf(fileReader(file)), { from: 0, to: file.size });
+    await end();
     downloadImage(blob, name);
     return { name, streamed: false, file };
 }

@@ -6,9 +6,6 @@ export const DE: PlayerTexts = {
     sentences: {
         'disc/two-sheets': '{one} und {other} sind beide CUE-Dateien. Öffnen Sie nur eine davon.',
         'disc/no-image': 'Öffnen Sie ein Image oder eine CUE-Datei zusammen mit den Dateien, auf die sie verweist.',
-        'disc/other-file/subchannels': '{name} ist ein Image mit 2448 Byte pro Sektor, mit Subchannels. Lesen Sie die Disc noch einmal ' +
-            'ohne Subchannels, oder entfernen Sie die letzten 96 Byte jedes Sektors.',
-        'disc/other-file/iso': '{name} ist ein ISO-Image mit 2048 Byte pro Sektor.',
         'disc/other-file/chd': '{name} ist eine CHD-Datei. Entpacken Sie sie mit `chdman extractcd`, das eine CUE-Datei und ein Image ' +
             'anlegt.',
         'disc/other-file/ecm': '{name} ist eine ECM-Datei. Entpacken Sie sie mit `unecm`, das das vollständige Image anlegt.',
@@ -16,7 +13,7 @@ export const DE: PlayerTexts = {
         'disc/other-file/wave': '{name} ist Audio in einer RIFF/WAVE-Datei. Wählen Sie die Datenspur der Disc.',
         'disc/other-file/scrambled': '{name} ist ein verwürfeltes Image (scrambled), mit den Sektoren, wie sie auf der Disc sind. Machen ' +
             'Sie das zuerst mit dem Programm rückgängig, das die Disc gelesen hat.',
-        'disc/other-file/headerless': '{name} ist ein Image mit 2336 Byte pro Sektor: Mode 2 ohne Sync-Felder und Header.',
+        'disc/other-file/headerless': '{name} ist ein Image mit 2336 Byte pro Sektor: Mode 2, das kein Patch ändern kann.',
         'disc/other-file/unaligned': '{name} ist ein BIN-Image, dessen erster Sektor abgeschnitten ist. Lesen Sie die Disc noch einmal.',
         'disc/other-file/nrg': '{name} ist ein Image von Nero (NRG). Wandeln Sie es in ein BIN-Image mit CUE-Datei um.',
         'disc/other-file/mds': '{name} ist die Beschreibung eines MDF-Images (MDS). Wählen Sie die MDF-Datei: Mit 2352 Byte pro Sektor ' +
@@ -27,8 +24,7 @@ export const DE: PlayerTexts = {
         'disc/other-file/gdi': '{name} ist eine GDI-Datei, die die Spuren einer Dreamcast-Disc auflistet. Wählen Sie die Datenspur des ' +
             'Spiels, meist track03.bin.',
         'disc/other-file/sub': '{name} enthält die Subchannels eines Images (SUB). Wählen Sie das Image selbst.',
-        'disc/other-file/long': '{name} ist ein Image mit mehr als 1000000 Sektoren. Eine CD hat höchstens 449850. Wählen Sie das Image ' +
-            'einer CD.',
+        'disc/other-file/long': '{name} ist größer als eine CD, die höchstens 449850 Sektoren hat. Wählen Sie das Image einer CD.',
         'disc/other-file/text': '{name} ist eine Textdatei. Wählen Sie ein Image mit 2352 Byte pro Sektor oder seine CUE-Datei.',
         'disc/other-file/workbook': '{name} ist eine Arbeitsmappe einer Tabellenkalkulation, zum Beispiel XLSX. Wählen Sie das Image der ' +
             'Disc.',
@@ -159,10 +155,10 @@ export const DE: PlayerTexts = {
     playerDropDiscImage: 'Legen Sie das Image Ihrer Disc hier ab',
     playerDropToBeChecked: 'Legen Sie das Image Ihrer Disc ab. Es wird geprüft und nicht verändert.',
     playerChooseTheImage: 'Image wählen…',
-    playerBinOrCueAndBins: 'Die .bin-Datei oder die .cue- und alle .bin-Dateien zusammen',
-    playerIsoOfPartSectors: '{name} ist ein ISO-Image, das nur einen Teil jedes Sektors enthält.',
-    playerNeedsFullDump: 'Dieser Patcher braucht einen vollständigen Dump: eine .bin-Datei mit 2352 Byte pro Sektor. Lesen Sie Ihre Disc ' +
-        'noch einmal aus, als BIN und CUE.',
+    playerBinOrCueAndBins: 'Die .bin- oder .iso-Datei oder die .cue- und alle .bin-Dateien zusammen',
+    playerFromIso: 'Das ist ein ISO-Image. Es wird umgewandelt und als BIN und CUE gespeichert.',
+    playerFromSubchannels: 'Dieses Image hat Subchannels. Es wird ohne sie gespeichert, als BIN und CUE.',
+    playerIsoLacksMusic: 'In einem ISO-Image fehlt die Musik dieser Disc; ein Dump als BIN und CUE hat sie.',
     playerSheetNamesOther: '{sheet} verweist auf {wanted}, nicht auf {name}.',
     playerRenamedWithoutSheet: 'Wenn Ihr Image umbenannt wurde, wählen Sie es ohne die CUE-Datei.',
     playerIsMusicTrack: 'Das ist Musik; wählen Sie die Datenspur: {name}',

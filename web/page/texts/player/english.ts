@@ -3,7 +3,7 @@
 
 export const ENGLISH = {
     // the sentences for failures of the core, by code and kind of file; the English ones are in web/sentences
-    sentences: {},
+    sentences: { 'disc/other-file/headerless': '{name} is an image of 2336 bytes per sector: Mode 2, which no patch can change.' },
 
     // buttons, and the progress of a job
     cancel: 'Cancel',
@@ -115,10 +115,10 @@ export const ENGLISH = {
     playerDropDiscImage: 'Drop your disc image here',
     playerDropToBeChecked: 'Drop your disc image: it is checked, and not changed.',
     playerChooseTheImage: 'Choose the image…',
-    playerBinOrCueAndBins: 'The .bin file, or the .cue and all .bin files together',
-    playerIsoOfPartSectors: '{name} is an ISO image, which contains only part of each sector.',
-    playerNeedsFullDump:
-        'This patcher needs a full dump: a .bin file of 2352 bytes per sector. Dump your disc again, as BIN and CUE.',
+    playerBinOrCueAndBins: 'The .bin or .iso file, or the .cue and all .bin files together',
+    playerFromIso: 'This is an ISO image. It is converted, and saved as BIN and CUE.',
+    playerFromSubchannels: 'This image has subchannels. It is saved without them, as BIN and CUE.',
+    playerIsoLacksMusic: 'An ISO image lacks the music of this disc; a dump as BIN and CUE has it.',
     playerSheetNamesOther: '{sheet} names {wanted}, not {name}.',
     playerRenamedWithoutSheet: 'If your image was renamed, choose it without the cue sheet.',
     playerIsMusicTrack: 'This is music; choose the data track: {name}',

@@ -6,16 +6,13 @@ export const ES: PlayerTexts = {
     sentences: {
         'disc/two-sheets': '{one} y {other} son archivos CUE. Abre solo uno de ellos.',
         'disc/no-image': 'Abre una imagen, o un archivo CUE junto con los archivos a los que hace referencia.',
-        'disc/other-file/subchannels': '{name} es una imagen de 2448 bytes por sector, con subcanales. Vuelve a leer el disco sin ' +
-            'subcanales, o quita los últimos 96 bytes de cada sector.',
-        'disc/other-file/iso': '{name} es una imagen ISO, de 2048 bytes por sector.',
         'disc/other-file/chd': '{name} es un archivo CHD. Descomprímelo con `chdman extractcd`, que crea un archivo CUE y una imagen.',
         'disc/other-file/ecm': '{name} es un archivo ECM. Descomprímelo con `unecm`, que crea la imagen completa.',
         'disc/other-file/archive': '{name} es un archivo comprimido. Descomprímelo, y elige el archivo CUE o la imagen que contiene.',
         'disc/other-file/wave': '{name} es audio en un archivo RIFF/WAVE. Elige la pista de datos del disco.',
         'disc/other-file/scrambled': '{name} es una imagen aleatorizada (scrambled), con los sectores tal como están en el disco. Deshaz ' +
             'eso antes con el programa que leyó el disco.',
-        'disc/other-file/headerless': '{name} es una imagen de 2336 bytes por sector: Mode 2 sin sincronía ni cabeceras.',
+        'disc/other-file/headerless': '{name} es una imagen de 2336 bytes por sector: Mode 2, que ningún parche puede cambiar.',
         'disc/other-file/unaligned': '{name} es una imagen BIN cuyo primer sector está cortado. Lee el disco otra vez.',
         'disc/other-file/nrg': '{name} es una imagen de Nero (NRG). Conviértela en una imagen BIN con su archivo CUE.',
         'disc/other-file/mds': '{name} es la descripción de una imagen MDF (MDS). Elige el archivo MDF: si tiene 2352 bytes por sector, ' +
@@ -26,8 +23,7 @@ export const ES: PlayerTexts = {
         'disc/other-file/gdi': '{name} es un archivo GDI, que enumera las pistas de un disco de Dreamcast. Elige la pista de datos del ' +
             'juego, normalmente track03.bin.',
         'disc/other-file/sub': '{name} contiene los subcanales de una imagen (SUB). Elige la imagen.',
-        'disc/other-file/long': '{name} es una imagen de más de 1000000 sectores. Un CD tiene como máximo 449850. Elige la imagen de ' +
-            'un CD.',
+        'disc/other-file/long': '{name} es más grande que un CD, que tiene como máximo 449850 sectores. Elige la imagen de un CD.',
         'disc/other-file/text': '{name} es un archivo de texto. Elige una imagen con 2352 bytes por sector, o su archivo CUE.',
         'disc/other-file/workbook': '{name} es un libro de una hoja de cálculo, por ejemplo XLSX. Elige la imagen del disco.',
         'disc/other-file/patch': '{name} es un parche de otro programa (PPF, xdelta, IPS, BPS o UPS). Aplícalo con ese programa a una ' +
@@ -155,10 +151,10 @@ export const ES: PlayerTexts = {
     playerDropDiscImage: 'Suelta aquí la imagen de tu disco',
     playerDropToBeChecked: 'Suelta la imagen de tu disco: se comprueba y no se modifica.',
     playerChooseTheImage: 'Elegir la imagen…',
-    playerBinOrCueAndBins: 'El archivo .bin, o el .cue y todos los .bin juntos',
-    playerIsoOfPartSectors: '{name} es una imagen ISO, que solo tiene una parte de cada sector.',
-    playerNeedsFullDump: 'Este parcheador necesita un volcado completo: un archivo .bin con 2352 bytes por sector. Vuelve a volcar tu ' +
-        'disco, como BIN y CUE.',
+    playerBinOrCueAndBins: 'El archivo .bin o .iso, o el .cue y todos los .bin juntos',
+    playerFromIso: 'Es una imagen ISO. Se convierte y se guarda como BIN y CUE.',
+    playerFromSubchannels: 'Esta imagen tiene subcanales. Se guarda sin ellos, como BIN y CUE.',
+    playerIsoLacksMusic: 'A una imagen ISO le falta la música de este disco; un volcado como BIN y CUE la tiene.',
     playerSheetNamesOther: '{sheet} hace referencia a {wanted}, no a {name}.',
     playerRenamedWithoutSheet: 'Si has cambiado el nombre de tu imagen, elígela sin el archivo CUE.',
     playerIsMusicTrack: 'Esto es música; elige la pista de datos: {name}',

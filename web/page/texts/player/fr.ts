@@ -6,16 +6,13 @@ export const FR: PlayerTexts = {
     sentences: {
         'disc/two-sheets': '{one} et {other} sont des fichiers CUE. N’en ouvrez qu’un.',
         'disc/no-image': 'Ouvrez une image, ou un fichier CUE avec les fichiers qu’il référence.',
-        'disc/other-file/subchannels': '{name} est une image de 2448 octets par secteur, avec sous-canaux. Relisez le disque sans ' +
-            'sous-canaux, ou retirez les 96 derniers octets de chaque secteur.',
-        'disc/other-file/iso': '{name} est une image ISO, de 2048 octets par secteur.',
         'disc/other-file/chd': '{name} est un fichier CHD. Décompressez-le avec `chdman extractcd`, qui crée un fichier CUE et une image.',
         'disc/other-file/ecm': '{name} est un fichier ECM. Décompressez-le avec `unecm`, qui crée l’image complète.',
         'disc/other-file/archive': '{name} est une archive. Décompressez-la, et choisissez le fichier CUE ou l’image qu’elle contient.',
         'disc/other-file/wave': '{name} est de l’audio dans un fichier RIFF/WAVE. Choisissez la piste de données du disque.',
         'disc/other-file/scrambled': '{name} est une image embrouillée (scrambled), avec les secteurs tels qu’ils sont sur le disque. ' +
             'Désembrouillez-la d’abord avec le programme qui a lu le disque.',
-        'disc/other-file/headerless': '{name} est une image de 2336 octets par secteur\u00a0: Mode 2 sans synchro ni en-têtes.',
+        'disc/other-file/headerless': '{name} est une image de 2336 octets par secteur\u00a0: Mode 2, qu’aucun patch ne peut modifier.',
         'disc/other-file/unaligned': '{name} est une image BIN dont le premier secteur est tronqué. Relisez le disque.',
         'disc/other-file/nrg': '{name} est une image de Nero (NRG). Convertissez-la en image BIN avec son fichier CUE.',
         'disc/other-file/mds': '{name} est la description d’une image MDF (MDS). Choisissez le fichier MDF\u00a0: s’il a 2352 octets par ' +
@@ -26,8 +23,7 @@ export const FR: PlayerTexts = {
         'disc/other-file/gdi': '{name} est un fichier GDI, qui énumère les pistes d’un disque Dreamcast. Choisissez la piste de données ' +
             'du jeu, en général track03.bin.',
         'disc/other-file/sub': '{name} contient les sous-canaux d’une image (SUB). Choisissez l’image elle-même.',
-        'disc/other-file/long': '{name} est une image de plus de 1000000 secteurs. Un CD en a au plus 449850. Choisissez l’image ' +
-            'd’un CD.',
+        'disc/other-file/long': '{name} est plus grand qu’un CD, qui a au plus 449850 secteurs. Choisissez l’image d’un CD.',
         'disc/other-file/text': '{name} est un fichier texte. Choisissez une image à 2352 octets par secteur, ou son fichier CUE.',
         'disc/other-file/workbook': '{name} est un classeur de tableur, par exemple XLSX. Choisissez l’image du disque.',
         'disc/other-file/patch': '{name} est un patch d’un autre programme (PPF, xdelta, IPS, BPS ou UPS). Appliquez-le avec ce ' +
@@ -156,10 +152,10 @@ export const FR: PlayerTexts = {
     playerDropDiscImage: 'Déposez ici l’image de votre disque',
     playerDropToBeChecked: 'Déposez l’image de votre disque\u00a0: elle est vérifiée, et n’est pas modifiée.',
     playerChooseTheImage: 'Choisir l’image…',
-    playerBinOrCueAndBins: 'Le fichier .bin, ou le .cue et tous les fichiers .bin ensemble',
-    playerIsoOfPartSectors: '{name} est une image ISO, qui n’a qu’une partie de chaque secteur.',
-    playerNeedsFullDump: 'Ce patcheur a besoin d’un dump complet\u00a0: un fichier .bin à 2352 octets par secteur. Refaites le dump de ' +
-        'votre disque, en BIN et CUE.',
+    playerBinOrCueAndBins: 'Le fichier .bin ou .iso, ou le .cue et tous les .bin ensemble',
+    playerFromIso: 'C’est une image ISO. Elle est convertie et enregistrée en BIN et CUE.',
+    playerFromSubchannels: 'Cette image a des sous-canaux. Elle est enregistrée sans eux, en BIN et CUE.',
+    playerIsoLacksMusic: 'Il manque à une image ISO la musique de ce disque\u00a0; un dump en BIN et CUE l’a.',
     playerSheetNamesOther: '{sheet} référence {wanted}, et non {name}.',
     playerRenamedWithoutSheet: 'Si votre image a été renommée, choisissez-la sans le fichier CUE.',
     playerIsMusicTrack: 'C’est de la musique\u00a0; choisissez la piste de données\u00a0: {name}',

@@ -6,16 +6,13 @@ export const IT: PlayerTexts = {
     sentences: {
         'disc/two-sheets': '{one} e {other} sono entrambi file CUE. Apri solo uno dei due.',
         'disc/no-image': 'Apri un’immagine, oppure un file CUE insieme ai file che indica.',
-        'disc/other-file/subchannels': '{name} è un’immagine di 2448 byte per settore, con sottocanali. Leggi di nuovo il disco senza ' +
-            'sottocanali, oppure togli gli ultimi 96 byte di ogni settore.',
-        'disc/other-file/iso': '{name} è un’immagine ISO, di 2048 byte per settore.',
         'disc/other-file/chd': '{name} è un file CHD. Estrailo con `chdman extractcd`, che crea un file CUE e un’immagine.',
         'disc/other-file/ecm': '{name} è un file ECM. Estrailo con `unecm`, che crea l’immagine completa.',
         'disc/other-file/archive': '{name} è un archivio. Estrailo, e scegli il file CUE o l’immagine che contiene.',
         'disc/other-file/wave': '{name} è audio in un file RIFF/WAVE. Scegli la traccia dati del disco.',
         'disc/other-file/scrambled': '{name} è un’immagine rimescolata (scrambled), con i settori così come sono sul disco. Prima ' +
             'ripristinala con il programma che ha letto il disco.',
-        'disc/other-file/headerless': '{name} è un’immagine di 2336 byte per settore: Mode 2 senza sincronismo né intestazioni.',
+        'disc/other-file/headerless': '{name} è un’immagine di 2336 byte per settore: Mode 2, che nessuna patch può modificare.',
         'disc/other-file/unaligned': '{name} è un’immagine BIN il cui primo settore è tagliato. Leggi di nuovo il disco.',
         'disc/other-file/nrg': '{name} è un’immagine di Nero (NRG). Convertila in un’immagine BIN con il suo file CUE.',
         'disc/other-file/mds': '{name} è la descrizione di un’immagine MDF (MDS). Scegli il file MDF: se ha 2352 byte per settore, è ' +
@@ -26,8 +23,7 @@ export const IT: PlayerTexts = {
         'disc/other-file/gdi': '{name} è un file GDI, che elenca le tracce di un disco Dreamcast. Scegli la traccia dati del gioco, di ' +
             'solito track03.bin.',
         'disc/other-file/sub': '{name} contiene i sottocanali di un’immagine (SUB). Scegli l’immagine stessa.',
-        'disc/other-file/long': '{name} è un’immagine di più di 1000000 settori. Un CD ne ha al massimo 449850. Scegli l’immagine di ' +
-            'un CD.',
+        'disc/other-file/long': '{name} è più grande di un CD, che ha al massimo 449850 settori. Scegli l’immagine di un CD.',
         'disc/other-file/text': '{name} è un file di testo. Scegli un’immagine con 2352 byte per settore, oppure il suo file CUE.',
         'disc/other-file/workbook': '{name} è una cartella di lavoro di un foglio di calcolo, per esempio XLSX. Scegli l’immagine del ' +
             'disco.',
@@ -156,10 +152,10 @@ export const IT: PlayerTexts = {
     playerDropDiscImage: 'Trascina qui l’immagine del tuo disco',
     playerDropToBeChecked: 'Rilascia l’immagine del tuo disco: viene controllata, e non modificata.',
     playerChooseTheImage: 'Scegli l’immagine…',
-    playerBinOrCueAndBins: 'Il file .bin, oppure il .cue e tutti i file .bin insieme',
-    playerIsoOfPartSectors: '{name} è un’immagine ISO, che ha solo una parte di ogni settore.',
-    playerNeedsFullDump: 'Questo patcher richiede un dump completo: un file .bin con 2352 byte per settore. Fai di nuovo il dump del tuo ' +
-        'disco, come BIN e CUE.',
+    playerBinOrCueAndBins: 'Il file .bin o .iso, oppure il .cue e tutti i .bin insieme',
+    playerFromIso: 'È un’immagine ISO. Viene convertita e salvata come BIN e CUE.',
+    playerFromSubchannels: 'Questa immagine ha dei sottocanali. Viene salvata senza, come BIN e CUE.',
+    playerIsoLacksMusic: 'A un’immagine ISO manca la musica di questo disco; un dump come BIN e CUE ce l’ha.',
     playerSheetNamesOther: '{sheet} indica {wanted}, non {name}.',
     playerRenamedWithoutSheet: 'Se la tua immagine è stata rinominata, sceglila senza il file CUE.',
     playerIsMusicTrack: 'Questa è musica; scegli la traccia dati: {name}',

@@ -6,16 +6,13 @@ export const PT_BR: PlayerTexts = {
     sentences: {
         'disc/two-sheets': '{one} e {other} são arquivos CUE. Abra só um deles.',
         'disc/no-image': 'Abra uma imagem, ou um arquivo CUE junto com os arquivos para os quais ele aponta.',
-        'disc/other-file/subchannels': '{name} é uma imagem de 2448 bytes por setor, com subcanais. Leia o disco de novo sem subcanais, ' +
-            'ou remova os últimos 96 bytes de cada setor.',
-        'disc/other-file/iso': '{name} é uma imagem ISO, de 2048 bytes por setor.',
         'disc/other-file/chd': '{name} é um arquivo CHD. Descompacte-o com `chdman extractcd`, que cria um arquivo CUE e uma imagem.',
         'disc/other-file/ecm': '{name} é um arquivo ECM. Descompacte-o com `unecm`, que cria a imagem completa.',
         'disc/other-file/archive': '{name} é um arquivo compactado. Descompacte-o, e escolha o arquivo CUE ou a imagem que está nele.',
         'disc/other-file/wave': '{name} é áudio em um arquivo RIFF/WAVE. Escolha a faixa de dados do disco.',
         'disc/other-file/scrambled': '{name} é uma imagem embaralhada, com os setores como estão no disco. Desembaralhe-a antes com o ' +
             'programa que leu o disco.',
-        'disc/other-file/headerless': '{name} é uma imagem de 2336 bytes por setor: Mode 2 sem sincronismo nem cabeçalhos.',
+        'disc/other-file/headerless': '{name} é uma imagem de 2336 bytes por setor: Mode 2, que nenhum patch pode alterar.',
         'disc/other-file/unaligned': '{name} é uma imagem BIN cujo primeiro setor está cortado. Leia o disco de novo.',
         'disc/other-file/nrg': '{name} é uma imagem do Nero (NRG). Converta-a em uma imagem BIN com seu arquivo CUE.',
         'disc/other-file/mds': '{name} é a descrição de uma imagem MDF (MDS). Escolha o arquivo MDF: se tiver 2352 bytes por setor, é ' +
@@ -26,8 +23,7 @@ export const PT_BR: PlayerTexts = {
         'disc/other-file/gdi': '{name} é um arquivo GDI, que lista as faixas de um disco de Dreamcast. Escolha a faixa de dados do jogo, ' +
             'em geral track03.bin.',
         'disc/other-file/sub': '{name} contém os subcanais de uma imagem (SUB). Escolha a própria imagem.',
-        'disc/other-file/long': '{name} é uma imagem de mais de 1000000 setores. Um CD tem no máximo 449850. Escolha a imagem de ' +
-            'um CD.',
+        'disc/other-file/long': '{name} é maior que um CD, que tem no máximo 449850 setores. Escolha a imagem de um CD.',
         'disc/other-file/text': '{name} é um arquivo de texto. Escolha uma imagem com 2352 bytes por setor, ou seu arquivo CUE.',
         'disc/other-file/workbook': '{name} é uma pasta de trabalho de planilha, por exemplo XLSX. Escolha a imagem do disco.',
         'disc/other-file/patch': '{name} é um patch de outro programa (PPF, xdelta, IPS, BPS ou UPS). Aplique-o com esse programa a uma ' +
@@ -155,10 +151,10 @@ export const PT_BR: PlayerTexts = {
     playerDropDiscImage: 'Solte aqui a imagem do seu disco',
     playerDropToBeChecked: 'Solte a imagem do seu disco: ela é verificada, e não é alterada.',
     playerChooseTheImage: 'Escolher a imagem…',
-    playerBinOrCueAndBins: 'O arquivo .bin, ou o .cue e todos os arquivos .bin juntos',
-    playerIsoOfPartSectors: '{name} é uma imagem ISO, que só tem uma parte de cada setor.',
-    playerNeedsFullDump: 'Este patcher precisa de um dump completo: um arquivo .bin com 2352 bytes por setor. Faça o dump do seu disco ' +
-        'de novo, como BIN e CUE.',
+    playerBinOrCueAndBins: 'O arquivo .bin ou .iso, ou o .cue e todos os .bin juntos',
+    playerFromIso: 'É uma imagem ISO. Ela é convertida e salva como BIN e CUE.',
+    playerFromSubchannels: 'Esta imagem tem subcanais. Ela é salva sem eles, como BIN e CUE.',
+    playerIsoLacksMusic: 'Uma imagem ISO não tem a música deste disco; um dump como BIN e CUE tem.',
     playerSheetNamesOther: '{sheet} aponta para {wanted}, não para {name}.',
     playerRenamedWithoutSheet: 'Se a sua imagem foi renomeada, escolha-a sem o arquivo CUE.',
     playerIsMusicTrack: 'Isto é música; escolha a faixa de dados: {name}',
