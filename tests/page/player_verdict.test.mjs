@@ -76,7 +76,7 @@ test('each reason that refuses a place has its own words', () => {
 
 test('an image with other bytes may have an older version of the patch, if it is as long as the author’s', () => {
     const older = 'Or an older version of this patch has changed it: choose the original image.';
-    const words = (refused, size) => refusalForPlayer({ patches: 9, refused }, size, 2352);
+    const words = (refused, size) => refusalForPlayer({ patches: 9, refused, findings: [] }, size, 2352);
     assert.deepEqual(words([5, 5], 2352), [...reasonsOf(9, [5, 5]), older]);
     for (const [refused, size] of [[[5, 5], 4704], [[5, 4], 2352], [[5, 1], 2352], [[2], 2352]]) {
         assert.deepEqual(words(refused, size), reasonsOf(9, refused));
@@ -114,9 +114,9 @@ test('an image fits only if it is as long as the author’s and all that is writ
     const image = { size, sha1: '' };
     const set = 'set 0 0 4A was 68\n';
     const rows = [
-        [`${set}set 1 0 41 was 77\n`, image, 'fits', /^All 2 places match\. The rest of the disc differs from the author’s\. 1 sector of your image is damaged\. The game may stop there: another dump is better\.$/],
-        [set, image, 'fits', /^The place matches\./],
-        [`${set}set 1 0 41\n`, image, 'unknown', /^1 of 2 places to patch matches\. 1 of 2 patches has no old bytes to compare, so cdpatch cannot tell whether it matches\. 1 sector of your image is damaged\. The game may stop there: another dump is better\.$/],
+        [`${set}set 1 0 41 was 77\n`, image, 'hurt', /^All 2 places match\. 1 sector of your image is damaged\. The game may stop there\. Try another dump of this disc, or repair this one with the full cdpatch\.$/],
+        [set, image, 'hurt', /^The place matches\./],
+        [`${set}set 1 0 41\n`, image, 'unknown', /^1 of 2 places to patch matches\. 1 of 2 patches has no old bytes to compare, so cdpatch cannot tell whether it matches\. 1 sector of your image is damaged\. The game may stop there\. Try another dump of this disc, or repair this one with the full cdpatch\.$/],
         ['set 0 0 41\nfill 1 0 100 00\n', image, 'unknown', /^2 of 2 patches have no old bytes to compare, so cdpatch cannot tell whether they match\. 1 sector/],
         [`${set}fill 1 0 1 41\n`, image, 'unknown', /^1 of 2 places to patch matches\. 1 of 2 patches/],
         [`${set}set 1 0 4A was 77\nrebuild 1\n`, image, 'unknown', /^2 of 3 places to patch match\. 1 of 3 patches has no/],
@@ -145,13 +145,39 @@ test('music is perhaps shifted only if the author’s cue sheet lists some in th
     assert.doesNotMatch((await said(changed(sound, 2352 + 20), SCRIPT, { cue: data + audio }))[1], /music/);
 });
 
-test('the damaged, lost, and missing sectors of an image that fits are counted', async () => {
-    const after = ' The game may stop there: another dump is better.';
-    const words = async bytes => (await said(imageOfBytes(bytes), SCRIPT))[1].split('author’s. ')[1];
-    assert.equal(await words(changed(changed(sound, 2352 + 20), 2 * 2352 + 20).bytes), `2 sectors of your image are damaged.${after}`);
-    assert.equal(await words(sound.bytes.slice().fill(0, 2352, 2 * 2352)), `1 data sector of your image is lost.${after}`);
-    const long = imageOf(Array.from({ length: 60 }, () => ascii('hello'))).bytes;
+const AFTER = ' The game may stop there. Try another dump of this disc, or repair this one with the full cdpatch.';
+
+test('the damaged, lost, and missing sectors of an image that the patch matches are counted', async () => {
+    const words = async bytes => {
+        const [verdict, text] = await said(imageOfBytes(bytes), SCRIPT);
+        return [verdict, text.replace(/^The place matches[^.]*\. /, '')];
+    };
+    assert.deepEqual(await words(changed(changed(sound, 2352 + 20), 2 * 2352 + 20).bytes), ['hurt', `2 sectors of your image are damaged.${AFTER}`]);
+    assert.deepEqual(await words(sound.bytes.slice().fill(0, 2352, 2 * 2352)), ['hurt', `1 data sector of your image is lost.${AFTER}`]);
     const shifted = Buffer.concat([long.subarray(0, 20 * 2352), long.subarray(23 * 2352), long.subarray(57 * 2352)]);
-    assert.equal(await words(shifted), `Sectors are missing or extra in 1 place of your image.${after}`);
-    assert.equal(await words(sound.bytes.subarray(0, 3 * 2352 - 1)), `The file is probably incomplete.${after}`);
+    assert.deepEqual(await words(shifted), ['hurt', `Sectors are missing or extra in 1 place of your image.${AFTER}`]);
+    assert.deepEqual(await words(sound.bytes.subarray(0, 3 * 2352 - 1)), ['hurt', `The file is probably incomplete.${AFTER}`]);
+});
+
+const long = imageOf(Array.from({ length: 60 }, (_, i) => ascii(`hello ${i}`))).bytes;
+
+test('missing and lost sectors explain why places do not match, so that no other release or track is suspected', async () => {
+    const script = `cdpatch 1\n${[10, 30, 50].map(block => `set ${block} 7 41 was 30\n`).join('')}`;
+    const rows = [
+        [Buffer.concat([long.subarray(0, 20 * 2352), long.subarray(23 * 2352), long.subarray(57 * 2352)]), 'other',
+            ['2 of 3 places to patch contain different bytes.', 'Sectors are missing or extra in 1 place of your image.'], [[20, 20]]],
+        [Buffer.concat([long.subarray(0, 25 * 2352), Buffer.alloc(7 * 2352), long.subarray(32 * 2352)]), 'other',
+            ['1 of 3 places to patch is not in a Mode 1 sector here.', '7 data sectors of your image are lost.'], [[25, 31]]],
+        [changed(changed(imageOfBytes(long), 30 * 2352 + 400), 40 * 2352 + 400).bytes, 'damaged',
+            ['1 of 3 places to patch is damaged.', '2 sectors of your image are damaged.'], [[30, 30], [40, 40]]],
+        [imageOf(Array.from({ length: 60 }, (_, i) => ascii(`earth ${i + 1}`))).bytes, 'other', ['3 of 3 places to patch contain different bytes. '
+            + 'It is probably another release of the game, or a different game.', 'Or an older version of this patch has changed it: choose the original image.'], []],
+    ];
+    for (const [bytes, verdict, words, runs] of rows) {
+        const it = await judged(imageOfBytes(Uint8Array.from(bytes)), script);
+        assert.equal(it.verdict, verdict);
+        const more = runs.length > 0 ? AFTER.slice(1).split(/(?<=\.) /) : [];
+        assert.deepEqual(refusalForPlayer(it, long.length, long.length), [...words, ...more]);
+        assert.deepEqual([it.damage.runs.map(({ first, last }) => [first, last]), it.damage.sectors], [runs, 60]);
+    }
 });

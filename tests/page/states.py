@@ -519,7 +519,20 @@ class States(PageTest):
 
     def to_player_fits(self) -> None:
         """A different dump, which the patch fits."""
-        self.play(common.damaged(discs.game(), 150), 'playerOtherDumpFits', discs.named())
+        other = bytearray(discs.game())
+        other[150 * common.SECTOR_SIZE:151 * common.SECTOR_SIZE] = common.sector(150, b'another release')
+        self.play(bytes(other), 'playerOtherDumpFits', discs.named())
+
+    def to_player_damaged(self) -> None:
+        """A dump that the patch fits, with damage elsewhere: where it is, and another dump as the main choice."""
+        at = 40 * common.SECTOR_SIZE
+        self.play(common.damaged(discs.game()[:at] + bytes(6 * common.SECTOR_SIZE) + discs.game()[at + 6 * common.SECTOR_SIZE:], 150),
+                  'playerMatchesButDamaged', discs.named())
+
+    def to_player_iso(self) -> None:
+        """The right disc as an ISO image."""
+        game = discs.game()
+        self.play(b''.join(game[at + 16:at + 2064] for at in range(0, len(game), common.SECTOR_SIZE)), 'playerRightDisc', with_sheet=False)
 
     def to_player_unknown(self) -> None:
         """A different dump, for which nothing shows whether the patch fits."""

@@ -244,11 +244,30 @@ class Player(PageTest):
         self.browser.wait('#player', '0.4\u00a0MB. Keep this page open until the download is complete.')
 
     def test_another_dump_that_the_patch_fits(self) -> None:
-        other = common.damaged(discs.game(), 150)
+        other = bytearray(discs.game())
+        other[150 * SECTOR_SIZE:151 * SECTOR_SIZE] = common.sector(150, b'another release')
+        self.saves_other(bytes(other), 'This is a different dump, but the patch matches it.', 'Patch and save')
+        self.assertIn('All 4 places match. The rest of the disc differs from the author’s.', self.browser.text('#player'))
+
+    def test_for_a_damaged_dump_another_one_is_the_main_choice_and_patching_it_the_second(self) -> None:
+        other = common.damaged(common.damaged(discs.game(), 30), discs.first_block() + 20)
         self.play(other, discs.named())
-        self.browser.wait('#verdict', 'This is a different dump, but the patch matches it.')
-        self.assertIn('All 4 places match. The rest of the disc differs from the author’s. 1 sector of your image is damaged.', self.browser.text('#player'))
-        self.press('Patch and save')
+        self.browser.wait('#verdict', common.text('playerMatchesButDamaged'))
+        said = self.browser.text('#player .say.bad')
+        for words in ('All 4 places match. 2 sectors of your image are damaged. The game may stop there.', 'Damaged: /DATA/STAGE.DAT', 'The damage stays in the new file.'):
+            self.assertIn(words, said)
+        self.assertEqual(self.browser.run("return [...document.querySelectorAll('#player .btn.main')].map(it => it.innerText)"), ['Choose another image…'])
+        marks = self.browser.run("return [...document.querySelectorAll('#player .strip i')].map(it => parseFloat(it.style.left))")
+        sectors = len(other) // SECTOR_SIZE
+        self.assertEqual([round(at * sectors / 100) for at in marks], [30, discs.first_block() + 20])
+        self.saves_other(other, common.text('playerMatchesButDamaged'), 'Patch anyway')
+        self.browser.wait('#player .step.done', '2 sectors of your image are damaged.')
+
+    def saves_other(self, other: bytes, verdict: str, label: str) -> None:
+        """Gives the patcher another dump, and compares what it saves with what the program writes."""
+        self.play(other, discs.named())
+        self.browser.wait('#verdict', verdict)
+        self.press(label)
         files = discs.written(other=other, english=discs.named())
         self.assertEqual(self.browser.downloaded('Starlit (English).bin').read_bytes(), applied(files['other'], files['english'])[2])
         self.assertNotIn('the SHA-1 is the same', self.browser.text('#player'))
@@ -446,10 +465,10 @@ class Player(PageTest):
 
     def test_no_player_is_sent_to_a_command_of_cdpatch(self) -> None:
         self.open_patcher(patcher(discs.game(), result(), discs.script()))
-        image = discs.written(mine=b''.join(common.iso_of({'README.TXT': b'game'})))['mine'].rename(common.folder('iso') / 'mine.iso')
-        self.browser.drop('#player', [image])
-        self.browser.wait('#player .say.bad', 'mine.iso is an ISO image, which contains only part of each sector.')
-        self.browser.wait('#player .say.bad', 'This patcher needs a full dump')
+        mode2 = discs.mode2(700)
+        self.give('mine.bin', b''.join(mode2[at + 16:at + SECTOR_SIZE] for at in range(0, len(mode2), SECTOR_SIZE)))
+        self.browser.wait('#player .say.bad', 'mine.bin is an image of 2336 bytes per sector: Mode 2, which no patch can change.')
+        self.assertNotIn('cdscript', self.browser.text('#player .say.bad'))
 
     def test_music_is_not_taken_for_the_disc(self) -> None:
         self.play(bytes(range(1, 255)) * 2352)

@@ -12,7 +12,7 @@ import {
 } from '../ui/index.js';
 import { ChosenDisc, convertedWords, playWords, sheetFor, wordsWithoutSheet, type ConvertedKind } from './disc.js';
 import type { PatcherData } from './patcher.js';
-import { damageWords, hasMusic, judgeImage, reasonForPlayer, refusalForPlayer, trackOfSize, verdictWords, type Judged } from './verdict.js';
+import { damageParts, hasMusic, judgeImage, reasonForPlayer, refusalForPlayer, trackOfSize, verdictWords, type Judged } from './verdict.js';
 
 // The parts from which the page of a patcher is drawn.
 
@@ -215,19 +215,18 @@ export class Player {
     /** The first step of an image that is patched. */
     doneStep(image: DiscImage, judged: Judged) {
         const { verdict } = judged;
-        const isUnknown = verdict === 'unknown';
-        const { tone, words } = verdictWords(verdict, isUnknown ? null : 'verdict');
-        const name = this.nameLine(image, tone !== 'bad' && !isUnknown);
+        const isDoubted = verdict === 'unknown' || verdict === 'hurt';
+        const { tone, words } = verdictWords(verdict, isDoubted ? null : 'verdict');
+        const name = this.nameLine(image, tone !== 'bad' && !isDoubted);
         const { size } = image.reader;
-        const rest = isUnknown ? [words] : [words, reasonForPlayer(judged, size, this.data, this.lacksMusic),
+        const rest = isDoubted ? [words] : [words, reasonForPlayer(judged, size, this.data, this.lacksMusic),
             detailsOf(this.data.image, size, judged)];
-        return step('1', isUnknown ? 'later' : 'done', texts.playerYourDisc, name, ...tone === 'bad' ? [] : rest);
+        return step('1', isDoubted ? 'later' : 'done', texts.playerYourDisc, name, ...tone === 'bad' && !isDoubted ? [] : rest);
     }
 
     judged(image: DiscImage, judged: Judged, first: MakeStep) {
-        const { tone } = verdictWords(judged.verdict);
-        if (tone === 'bad') return this.showOther(image, judged, first);
-        if (tone === 'warn' && judged.verdict !== 'fits') return this.showUnknown(image, judged, first);
+        if (['other', 'damaged'].includes(judged.verdict)) return this.showOther(image, judged, first);
+        if (['unknown', 'hurt', 'changed'].includes(judged.verdict)) return this.showUnknown(image, judged, first);
         if (judged.verdict === 'patched') return this.show(first(),
             step('2', 'done', texts.playerStepPatched, texts.playerNothingLeftToDo), this.playStep(image.name));
         const patch = button('main big', () => this.patch(image, judged, first), texts.playerPatchAndSave);
@@ -243,7 +242,7 @@ export class Player {
         const carries = this.data.carry ? [texts.playerAuthorPatchesDamaged] : [];
         const reasons = refusalForPlayer(judged, image.reader.size, this.data.image.size);
         const why = [...reasons, ...carries, texts.playerNothingWasSaved].map(text => element('p', {}, text));
-        const box = element('div', { class: 'say bad' }, verdictWords(verdict, 'verdict').words, ...why,
+        const box = element('div', { class: 'say bad' }, verdictWords(verdict, 'verdict').words, ...why, ...damageParts(judged),
             element('div', { class: 'row' }, button('main', () => this.input.click(), texts.playerChooseAnotherImage)));
         const fitting = patches - refused.length;
         const some = button('slim bare', () => this.patch(image, judged, first), format(texts.playerSaveWithOthers, { n: fitting }));
@@ -252,15 +251,22 @@ export class Player {
         this.show(step('1', 'now', texts.playerYourDisc, this.nameLine(image, false), box, details));
     }
 
-    /** Shows an image that may be the wrong one for the patch, or may not be the author's result. No button is the main one. */
+    /**
+     * Shows an image that may be the wrong one for the patch or that is damaged, or that may not be the author's result. The main button
+     * replaces a damaged image; otherwise there is none.
+     */
     showUnknown(image: DiscImage, judged: Judged, first: MakeStep) {
-        const isOpen = judged.verdict === 'unknown';
+        const isOpen = judged.verdict !== 'changed';
+        const isHurt = judged.damage.runs.length > 0;
         const { size } = image.reader;
-        const box = element('div', { class: 'say warn' }, verdictWords(judged.verdict, 'verdict').words,
+        const { tone, words } = verdictWords(judged.verdict, 'verdict');
+        const box = element('div', { class: `say ${tone}` }, words,
             reasonForPlayer(judged, size, this.data, this.lacksMusic),
             isOpen && this.data.carry && element('p', {}, texts.playerAuthorPatchesDamaged),
-            element('div', { class: 'row' }, button('', () => this.input.click(), texts.playerChooseAnotherImage),
-                isOpen && button('', () => this.patch(image, judged, first), texts.playerPatchAllTheSame)));
+            ...damageParts(judged),
+            element('div', { class: 'row' }, button(isHurt ? 'main' : '', () => this.input.click(), texts.playerChooseAnotherImage),
+                isOpen && button('', () => this.patch(image, judged, first), texts.playerPatchAllTheSame)),
+            isHurt && isOpen && element('p', { class: 'small' }, texts.playerDamageStays));
         this.show(step('1', 'now', texts.playerYourDisc, this.nameLine(image, false), box, detailsOf(this.data.image, size, judged)));
     }
 
@@ -300,7 +306,7 @@ export class Player {
         const same = sha1 !== '' && texts.playerExactlyAuthorsImage;
         const wait = !streamed && format(texts.secondKeepPageOpen, { size: megabytes(size) });
         const left = refused > 0 && `${format(texts.playerPatchesLeftOut, { n: refused })} ${texts.playerGameMayStop}`;
-        const isSafe = judged.verdict === 'right' || (judged.verdict === 'fits' && damageWords(judged.findings).length === 0);
+        const isSafe = ['right', 'fits'].includes(judged.verdict);
         const doubt = !isSafe && reasonForPlayer(judged, judged.work.reader.size, this.data, this.lacksMusic);
         const tone = refused > 0 || doubt ? 'warn' : 'good';
         const message = verdictLine(tone, head, 'saved');

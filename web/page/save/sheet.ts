@@ -63,12 +63,16 @@ function nameSize(rest: string) {
 
 const MOST_NAMED = 4;
 
-/** Asks to copy the files that a cue sheet names into its directory; false if it names none. */
-export function copyWords(names: string[]) {
+/** The first names of files, and how many more there are. */
+export function listedNames(names: string[]): Child | Child[] {
     const more = names.length - MOST_NAMED;
     const files = namesOf(names.slice(0, MOST_NAMED));
-    const copied = { n: names.length, files: more > 0 ? say(playerTexts.playerFilesAndMore, { n: more, files }) : files };
-    return names.length > 0 && element('p', {}, ...say(playerTexts.playerCopySheetFiles, copied));
+    return more > 0 ? say(playerTexts.playerFilesAndMore, { n: more, files }) : files;
+}
+
+/** Asks to copy the files that a cue sheet names into its directory; false if it names none. */
+export function copyWords(names: string[]) {
+    return names.length > 0 && element('p', {}, ...say(playerTexts.playerCopySheetFiles, { n: names.length, files: listedNames(names) }));
 }
 
 /**

@@ -165,6 +165,7 @@ export const DE: PlayerTexts = {
     playerCheckingYourImage: 'Ihr Image wird geprüft',
     playerRightDisc: 'Das ist die richtige Disc.',
     playerOtherDumpFits: 'Das ist ein anderer Dump, aber der Patch passt dazu.',
+    playerMatchesButDamaged: 'Der Patch passt zu diesem Dump, aber der Dump ist beschädigt.',
     playerCannotTell: 'cdpatch kann nicht erkennen, ob das die richtige Disc ist.',
     playerOtherDumpFitsNot: 'Das ist ein anderer Dump, und der Patch passt nicht dazu.',
     playerDumpDamaged: 'Dieser Dump ist an Stellen beschädigt, die der Patch ändert.',
@@ -197,7 +198,10 @@ Alle {n} Stellen stimmen überein, aber es lässt sich nicht prüfen, ob der Res
     playerSectorsLost: '{n} Datensektor Ihres Images ist verloren.|{n} Datensektoren Ihres Images sind verloren.',
     playerSectorsMissing: 'An {n} Stelle Ihres Images fehlen Sektoren, oder es sind zu viele.|\
 An {n} Stellen Ihres Images fehlen Sektoren, oder es sind zu viele.',
-    playerGameMayStopThere: 'Dort kann das Spiel stehen bleiben: Ein anderer Dump ist besser.',
+    playerGameMayStopThere: 'Dort kann das Spiel stehen bleiben.',
+    playerWhereDamageIs: 'Wo die Disc beschädigt ist',
+    playerDamageIsIn: 'Beschädigt: {files}',
+    playerDamageStays: 'Der Schaden bleibt in der neuen Datei.',
     playerNotAuthorsResult: 'Es gibt nichts zu patchen. Aber das ist nicht das Image, das der Autor erstellt hat: Der SHA-1-Wert ' +
         'stimmt nicht überein.',
     playerAuthorPatchesDamaged: 'Auf Wunsch des Autors werden auch beschädigte Sektoren gepatcht. Sie bleiben beschädigt.',

@@ -126,6 +126,7 @@ export const ENGLISH = {
     // the verdict on the image
     playerRightDisc: 'This is the right disc.',
     playerOtherDumpFits: 'This is a different dump, but the patch matches it.',
+    playerMatchesButDamaged: 'The patch matches this dump, but the dump is damaged.',
     playerCannotTell: 'cdpatch cannot tell whether this is the right disc.',
     playerOtherDumpFitsNot: 'This is a different dump, and the patch does not match it.',
     playerDumpDamaged: 'This dump is damaged where the patch needs to write.',
@@ -159,7 +160,10 @@ All {n} places match, but cdpatch cannot tell whether the rest of the disc does.
     playerSectorsLost: '{n} data sector of your image is lost.|{n} data sectors of your image are lost.',
     playerSectorsMissing: 'Sectors are missing or extra in {n} place of your image.|\
 Sectors are missing or extra in {n} places of your image.',
-    playerGameMayStopThere: 'The game may stop there: another dump is better.',
+    playerGameMayStopThere: 'The game may stop there.',
+    playerWhereDamageIs: 'Where the damage is on the disc',
+    playerDamageIsIn: 'Damaged: {files}',
+    playerDamageStays: 'The damage stays in the new file.',
     playerNotAuthorsResult:
         'There is nothing to patch. But this is not the image that the author made: its SHA-1 does not match.',
     playerAuthorPatchesDamaged: 'The author chose to patch damaged sectors too. They stay damaged.',
