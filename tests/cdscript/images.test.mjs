@@ -270,20 +270,20 @@ test('a repair takes what the EDC of the damaged sector fits, and names what it 
     }
 }));
 
-test('merge --parity corrects what no other dump surely repairs, and needs none', () => inDirectory(async room => {
+test('merge --parity first corrects what the own codes of a sector confirm, and needs no other dump', () => inDirectory(async room => {
     const good = imageOf(room, 300);
-    const old = damaged(good, 0, [3, 500], [17, 500], [17, 2100], [20, 2064], [30, 16]);
+    const old = damaged(good, 0, [3, 500], [17, 500], [17, 2100], [20, 2064], [30, 16], [40, 5]); // 5 is in the sync field
     write(room, { good, old, edit: 'cdpatch 1\nset 17 0 4142\n' });
     tool(program, ['apply', 'good', 'edit', 'door.bin'], { cwd: room });
     write(room, { 'door.bin': damaged(read(room, 'door.bin'), 0, [3, 100]) });
     const both = await run(['merge', 'old', 'door.bin', 'one', '--parity'], { cwd: room });
     assert.deepEqual([both.status, both.errors], [0, '']);
-    assert.equal(both.out, ['20-20 from door.bin', '30-30 from door.bin', '3-3 from its own parity', '17-17 from its own parity',
-        'taken 2 damaged 0 disputed 0 different 0', ''].join('\n'));
+    assert.equal(both.out, ['20-20 from door.bin', '3-3 from its own parity', '17-17 from its own parity', '30-30 from its own parity',
+        '40-40 from its own parity', 'taken 1 damaged 0 disputed 0 different 0', ''].join('\n'));
     sameFile(read(room, 'one'), good, 'the repaired image');
     const alone = await run(['merge', '--parity', 'old', 'two', '--json'], { cwd: room });
     const { corrected, damaged: left, blocks } = JSON.parse(alone.out);
-    assert.deepEqual([alone.status, corrected, left, blocks.corrected, blocks.damaged], [1, 3, 1, [[3, 3], [17, 17], [30, 30]], [[20, 20]]]);
+    assert.deepEqual([alone.status, corrected, left, blocks.corrected, blocks.damaged], [1, 4, 1, [[3, 3], [17, 17], [30, 30], [40, 40]], [[20, 20]]]);
     sameFile(read(room, 'two'), damaged(good, 0, [20, 2064]), 'the corrected image');
     await fails(['merge', 'old', 'three'], 'merge needs OLD OTHER.. OUT; see cdscript merge --help', room);
     await fails(['merge', '--parity', 'old'], 'merge needs OLD [OTHER..] OUT; see cdscript merge --help', room);

@@ -9,7 +9,7 @@ import { CHANGES, RAW, blocksOf, changedImage, imageOf as imageWith, sectorAt, s
 
 const { baseByAddresses } = await core('disc/disc.js');
 const { RECORD, RECORD_SIZE, SECTOR_KIND } = await core('module/index.js');
-const { blocksIn, surveyRange } = await core('sectors/index.js');
+const { blocksIn, runsWithout, surveyRange } = await core('sectors/index.js');
 const { applyInMemory } = await core('tasks/scripts.js');
 const { correctionOf, repairTrack } = await core('tasks/repair.js');
 const { commonPart, firstBlock, isSameRange, rangesOf } = await core('tasks/inform.js');
@@ -130,7 +130,7 @@ test('of sound sectors that differ that one is taken whose EDC stands in the dam
 /** The result of a repair that may correct sectors by their own parity, or not. */
 const parityOf = (images, parity) => merged(images, { parity });
 
-test('with parity, a damaged sector that no dump repairs is corrected if its own EDC confirms it, and only if it is asked for', async () => {
+test('with parity, a damaged sector or sync field is first corrected if its own EDC confirms it, and only if it is asked for', async () => {
     const image = soundImage(diceOf(90), 8, BASE);
     const old = image.slice();
     for (const place of [20, 800, 2080, 2300]) old[RAW + place] ^= 0x41; // block 1: user data, P, and Q
@@ -142,16 +142,21 @@ test('with parity, a damaged sector that no dump repairs is corrected if its own
     const other = old.slice();
     other.set(sectorAt(image, 5), RAW * 5);
     const [runOf, due] = [(first, last = first) => ({ first: BASE + first, last: BASE + last }), old.slice()];
-    for (const i of [1, 5, 6]) due.set(sectorAt(image, i), RAW * i);
-    const { pieces, taken, corrected, damaged, alike } = await parityOf([old, other], true);
-    assert.deepEqual([taken, corrected], [[{ ...runOf(5), other: 0 }], [runOf(1), runOf(6)]]);
-    assert.deepEqual([damaged, alike], [[{ ...runOf(2, 4), elsewhere: false }], [runOf(2, 4)]]);
+    other.set(sectorAt(image, 2), RAW * 2);
+    for (const i of [1, 2, 5, 6, 7]) due.set(sectorAt(image, i), RAW * i);
+    const { pieces, taken, corrected, damaged, alike, lost } = await parityOf([old, other], true);
+    assert.deepEqual([taken, corrected, lost], [[{ ...runOf(2), other: 0 }], [runOf(1), runOf(5, 7)], []]);
+    assert.deepEqual([damaged, alike], [[{ ...runOf(3, 4), elsewhere: false }], [runOf(3, 4)]]);
     sameBytes(joinedPieces(old, pieces), due, 'the repaired image');
     const unasked = await parityOf([old, other], false);
-    assert.deepEqual([unasked.corrected, blocksIn(unasked.damaged)], [[], 5]);
-    due.set(sectorAt(old, 5), RAW * 5);
-    due[RAW * 5 + 100] ^= 1;
+    assert.deepEqual([unasked.corrected, blocksIn(unasked.damaged), blocksOf(unasked.taken).map(({ block }) => block - BASE)], [[], 4, [2, 5]]);
+    due.set(sectorAt(old, 2), RAW * 2);
     sameBytes(joinedPieces(old, (await parityOf([old], true)).pieces), due, 'without another dump');
+    // A lost sync field is restored only if nothing else is wrong, and a mode byte never is.
+    const worn = old.slice();
+    worn[RAW * 7 + 100] ^= 1;
+    worn[RAW * 6 + 15] ^= 3;
+    assert.deepEqual((await parityOf([worn], true)).corrected, [runOf(1), runOf(5)]);
 });
 
 test('a sector that parity corrects keeps its address, which is named if it is that of a different block', async () => {
@@ -165,8 +170,8 @@ test('a sector that parity corrects keeps its address, which is named if it is t
     sameBytes(joinedPieces(old, pieces), swapped, 'the corrected image');
 });
 
-test('parity changes nothing of a merge but damaged Mode 1 sectors, which become sound with the header and the EDC that they had', async () => {
-    let [count, doubtful] = [0, 0];
+test('parity changes nothing of a merge but damaged or lost Mode 1 sectors, which become sound with the header and the EDC that they had', async () => {
+    let [count, doubtful, confirmed] = [0, 0, 0];
     for (let seed = 0; seed < CASES / 2; seed++) {
         const dice = diceOf(seed + 9000);
         const dumps = someDumps(dice, 1 + dice(3), 24, BASE, dice(2) === 0).map(bytesOf);
@@ -175,21 +180,24 @@ test('parity changes nothing of a merge but damaged Mode 1 sectors, which become
         const corrected = new Set(blocksOf(one.corrected).map(({ block }) => block));
         const others = name => [one, two].map(it => blocksOf(it[name]).filter(({ block }) => !corrected.has(block)));
         for (const name of ['taken', 'doubtful', 'damaged', 'disputed', 'wrongAddress']) assert.deepEqual(...others(name), `seed ${seed} ${name}`);
-        const left = new Set(blocksOf([...two.damaged, ...two.doubtful]).map(({ block }) => block));
+        const left = new Set(blocksOf([...two.damaged, ...two.taken, ...two.lost, ...two.untested]).map(({ block }) => block));
         assert.deepEqual([two.corrected, [...corrected].filter(block => !left.has(block))], [[], []], `seed ${seed}`);
+        const sure = new Set(blocksOf(runsWithout(two.taken, two.doubtful)).map(({ block }) => block));
         const made = joinedPieces(dumps[0], one.pieces);
         const due = joinedPieces(dumps[0], two.pieces);
         for (const block of corrected) {
             const [sector, old] = [made, dumps[0]].map(bytes => sectorAt(bytes, block - BASE));
             assert.ok(calls.isConsistent(sector) && !calls.isConsistent(old), `seed ${seed}`);
-            for (const [from, to] of [[0, 16], [2064, 2068]]) sameBytes(sector.subarray(from, to), old.subarray(from, to), `seed ${seed}`);
+            if (sure.has(block)) sameBytes(sector, sectorAt(due, block - BASE), `seed ${seed}: another dump confirms it`);
+            for (const [from, to] of [[12, 16], [2064, 2068]]) sameBytes(sector.subarray(from, to), old.subarray(from, to), `seed ${seed}`);
             due.set(sector, RAW * (block - BASE));
         }
         sameBytes(made, due, `seed ${seed}`);
         count += corrected.size;
+        confirmed += [...corrected].filter(block => sure.has(block)).length;
         doubtful += blocksOf(two.doubtful).filter(({ block }) => corrected.has(block)).length;
     }
-    assert.ok(count > CASES / 4 && doubtful > 0, `${count} ${doubtful}`);
+    assert.ok(count > CASES / 4 && doubtful > 0 && confirmed > 0, `${count} ${doubtful} ${confirmed}`);
 });
 
 test('the lines that correct a sector make it as its parity does, and there are none if the parity cannot', async () => {
@@ -201,12 +209,16 @@ test('the lines that correct a sector make it as its parity does, and there are 
         const [first, most] = [dice(RAW), [1, 4, 24, 80, 200][dice(5)]];
         for (let k = 0; k < most; k++) old[RAW + (dice(2) === 0 ? dice(RAW) : Math.min(first + k, RAW - 1))] ^= 1 + dice(255);
         const sector = sectorAt(old, 1);
-        const due = calls.kind(sector) === SECTOR_KIND.MODE1 ? calls.correctedSector(sector) : null;
+        const due = calls.correctedSector(sector);
         const correction = correctionOf(calls, BASE + 1, sector);
         counts[Number(due !== null)] += 1;
         assert.equal(correction === null, due === null, `seed ${seed}`);
         if (correction === null) continue;
         sameBytes(correction.fresh, sectorAt(image, 1), `seed ${seed}`);
+        if (calls.kind(sector) !== SECTOR_KIND.MODE1) {
+            assert.deepEqual(correction.lines, [], `seed ${seed}`);
+            continue;
+        }
         const text = new TextEncoder().encode(`cdpatch 1\n${correction.lines.join('\n')}\n`);
         const { pieces } = await applyInMemory({ calls, pool: localPool() }, imageOf(old), { text, bases: [] });
         sameBytes(joinedPieces(old, pieces), image, `seed ${seed}`);

@@ -7,7 +7,7 @@ from states import States, all_states
 
 # The state of each picture in docs/design, and its height in pixels, which ends below a card. All are 1280 pixels wide.
 WIDTH = 1280
-PICTURES = {'start': 800, 'text_hits': 748, 'texts_left': 797, 'texts_typed': 812, 'script_fits': 620, 'publish': 748, 'player_right': 812, 'second_repair': 812,
+PICTURES = {'start': 800, 'text_hits': 748, 'texts_left': 797, 'texts_typed': 812, 'script_fits': 620, 'publish': 748, 'player_right': 812, 'second_repair': 915,
             'list': 508}
 
 

@@ -113,5 +113,6 @@ def scratches(other: bool = False) -> bytes:
     here = [*range(150, 160, 3), *range(316, 400, 23), *range(3000, 9000, 17), *range(14000, 14400, 5)]
     for block in range(40, 900, 23) if other else here:
         at = block * 2352 + (2100 if block % 7 == 0 else 300)
-        image[at:at + 3] = bytes(byte ^ 0x5A for byte in image[at:at + 3])
+        end = at + (300 if block % 3 == 0 and at == block * 2352 + 300 else 3)  # parity corrects only a few bytes
+        image[at:end] = bytes(byte ^ 0x5A for byte in image[at:end])
     return bytes(image)

@@ -372,9 +372,10 @@ function withEdc() {
 const noise = () => raw().map((_, at) => at * at % 251);
 
 const REPAIRED = {
-    'what the other dump has': { image: changed([9, 500], [11, 2100], [50, 17]), fresh: changed([11, 400]), due: [[9, 9], [50, 50]] },
+    'what parity confirms, and what the other dump has': { image: changed([9, 500], [11, 2100], [20, 13], [21, 2066], [30, 5], [50, 17], [51, 13]),
+        fresh: changed([11, 400], [51, 400]), corrected: [[9, 9], [11, 11], [30, 30], [50, 50]], due: [[20, 21]] },
     'an image that begins before block 0': { image: Buffer.concat([Buffer.alloc(RAW * 150), changed([9, 500])]),
-        fresh: Buffer.concat([Buffer.alloc(RAW * 150), raw()]), due: [[159, 159]] },
+        fresh: Buffer.concat([Buffer.alloc(RAW * 150), raw()]), corrected: [[159, 159]], due: [] },
     'sectors of Mode 2': { image: changedMode2([3, 500], [7, 100], [9, 2], [12, 14], [17, 2200]), fresh: changedMode2([7, 100], [17, 300], [20, 14]),
         due: [[3, 3], [9, 9], [12, 12]] },
     'Form 2 without EDC, which a tool has filled in': { image: changedMode2([3, 500]), fresh: withEdc(), due: [[3, 3]] },
@@ -385,7 +386,7 @@ const REPAIRED = {
 
 test('two images: repair', { skip }, async t => {
     withDocument(t);
-    for (const [name, { image, fresh, due }] of Object.entries(REPAIRED)) {
+    for (const [name, { image, fresh, corrected = [], due }] of Object.entries(REPAIRED)) {
         const app = await opened({ 'd.bin': image });
         app.setSecond((await opened({ 'e.bin': fresh })).image, 'repair');
         const job = new SecondRepair(app, () => {});
@@ -393,11 +394,13 @@ test('two images: repair', { skip }, async t => {
         const { repair, pieces } = job.found;
         write({ 'e.bin': fresh });
         rmSync(join(room, 'o.bin'), { force: true });
-        const { out, status } = cdscript('merge', ...words({ 'd.bin': image }), 'e.bin', 'o.bin');
+        const { out, status } = cdscript('merge', '--parity', ...words({ 'd.bin': image }), 'e.bin', 'o.bin');
         assert.deepEqual([repair.refused !== null, status === 2], [due === null, due === null], name);
         if (due === null) continue;
-        const taken = [...out.matchAll(/^(\d+)-(\d+) from /gm)].map(([, first, last]) => [Number(first), Number(last)]);
-        assert.deepEqual([repair.taken.map(({ first, last }) => [first, last]), taken], [due, due], name);
+        const listed = form => [...out.matchAll(form)].map(([, first, last]) => [Number(first), Number(last)]);
+        const planned = [repair.corrected, repair.taken].map(runs => runs.map(({ first, last }) => [first, last]));
+        assert.deepEqual([planned, [listed(/^(\d+)-(\d+) from its own parity$/gm), listed(/^(\d+)-(\d+) from e.bin$/gm)]],
+            [[corrected, due], [corrected, due]], name);
         const whole = pieces.map(it => 'bytes' in it ? it.bytes : image.subarray(it.from, it.to));
         assert.equal(sumOf(Buffer.concat(whole)), sumOf(read('o.bin')), name);
     }

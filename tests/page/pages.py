@@ -273,6 +273,12 @@ class PageTest(unittest.TestCase):
             self.browser.click(f'[data-menu={menu}]')
         self.browser.click_found("[...document.querySelectorAll('#menu:not([hidden]) button')].find(it => it.innerText.trim().startsWith(given[0]))", item)
 
+    def planned(self) -> dict[str, tuple[int, str]]:
+        """The parts of the plan of a repair: the number of sectors of each, and their blocks."""
+        rows = self.browser.run("""return [...document.querySelectorAll('.plan li')].map(it =>
+            [...it.querySelectorAll(':scope > b, :scope > div > b, details p')].map(part => part.textContent))""")
+        return {name: (int(count), blocks) for count, name, blocks in rows}
+
     def press_save(self) -> None:
         """Presses the button of the panel Script that applies the script and saves, under either of its labels."""
         self.press(str(common.waited(lambda: self.browser.run(SAVE), 'nothing saves')))

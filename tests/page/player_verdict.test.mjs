@@ -7,6 +7,7 @@ import { calls, imageOf, imageOfBytes, page, parts } from './page.mjs';
 
 const { judgeImage, reasonForPlayer, reasonsOf, refusalForPlayer } = await page('player/verdict.js');
 const { openDisc } = await page('../core/disc/disc.js');
+const { RESULT } = await page('../core/module/index.js');
 const { applyPatches } = await page('../core/script/patches.js');
 const { bytesOfPieces } = await page('../core/bytes.js');
 const { openTrack, validScript } = await page('../core/tasks/index.js');
@@ -180,4 +181,6 @@ test('missing and lost sectors explain why places do not match, so that no other
         assert.deepEqual(refusalForPlayer(it, long.length, long.length), [...words, ...more]);
         assert.deepEqual([it.damage.runs.map(({ first, last }) => [first, last]), it.damage.sectors], [runs, 60]);
     }
+    assert.deepEqual(refusalForPlayer({ patches: 2, refused: [RESULT.NO_BLOCK], findings: [{ code: 'short', count: 9 }] }, 2352, 4704).slice(0, 2),
+        ['1 of 2 places to patch is not in this image.', 'The file is probably incomplete.']);
 });

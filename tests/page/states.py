@@ -169,10 +169,10 @@ class States(PageTest):
         self.begin(common.damaged(discs.changed(discs.game(), (20, 2065)), discs.first_block() + 1))
         self.go_to(discs.first_block() + 1)
         self.press('Correct all from parity')
-        self.browser.wait('#correct-body .tally', 'cannot be corrected')
+        self.browser.wait('#second-body .tally', 'without a sound copy')
         self.press('Save repaired image')
-        self.browser.wait('#correct-body .say.warn', 'Saved: ')
-        self.browser.wait('#corrected-sha1', common.sha1(self.chosen_bytes()))
+        self.browser.wait('#second-body .say.warn', 'Saved: ')
+        self.browser.wait('#repaired-sha1', common.sha1(self.chosen_bytes()))
 
     def to_disc_runs(self) -> None:
         """The runs of sectors of one kind."""

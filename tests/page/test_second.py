@@ -22,6 +22,15 @@ def with_faults(*faults: tuple[int, int]) -> bytes:
     return image + AUDIO
 
 
+def torn(image: bytes, *blocks: int, by: int = 0x55) -> bytes:
+    """Changes more bytes of these blocks than their own parity corrects."""
+    made = bytearray(image)
+    for block in blocks:
+        for at in range(500, 800):
+            made[block * SECTOR_SIZE + at] ^= by
+    return bytes(made)
+
+
 def audited(path: Path) -> set[int]:
     """The blocks that the program's audit lists."""
     return {int(line.split()[0]) for line in run_program('audit', path)[1].splitlines()[:-1]}
@@ -82,11 +91,12 @@ class Second(PageTest):
 
     @in_check
     def test_a_repair_takes_what_is_damaged_here_and_sound_there_and_nothing_else(self) -> None:
-        first = bytearray(with_faults((40, 9), (60, 9), (80, 9)))
+        first = bytearray(torn(with_faults((40, 9)), 60, 80))
         first[100 * SECTOR_SIZE:100 * SECTOR_SIZE + 12] = bytes(12)
-        second = with_faults((60, 500), (90, 7))
+        second = torn(with_faults((90, 7)), 60, by=0xAA)
         path = self.pair(bytes(first), second)
         self.assertEqual(self.tally(), [3, 1, 0])
+        self.assertEqual(self.planned(), {'By their own parity': (2, 'blocks 40 and 100'), 'From other.bin': (1, 'block 80'), 'Damaged in both dumps': (1, 'block 60')})
         self.assertEqual([self.legend('can be repaired'), self.legend('without a sound copy')], [3, 1])
         self.press('Save repaired image')
         saved = self.browser.downloaded('game (repaired).bin')
@@ -180,7 +190,7 @@ class Second(PageTest):
         unread = game[:80 * SECTOR_SIZE] + b'\x55' * SECTOR_SIZE + game[81 * SECTOR_SIZE:]
         self.pair(unread, game)
         count = len(game) // SECTOR_SIZE
-        self.browser.wait('#second-body', f'But it is the same disc: {count - 1} of {count} sectors are equal')
+        self.browser.wait('#second-body', f'It is the same disc: {count - 1} of {count} sectors are equal')
         self.assertNotIn('another release', self.browser.text('#second-body'))
 
     @in_check
@@ -430,8 +440,8 @@ class Second(PageTest):
 
     def test_a_dump_that_begins_and_ends_elsewhere_repairs_what_it_has(self) -> None:
         end = SECTORS - 30 - 20
-        first = with_faults((40, 9), (60, 9), (end + 5, 9))
-        self.pair(first, with_faults((60, 9))[3 * SECTOR_SIZE:end * SECTOR_SIZE], ('.tally', 'can be repaired'))
+        first = torn(with_faults(), 40, 60, end + 5)
+        self.pair(first, torn(with_faults(), 60)[3 * SECTOR_SIZE:end * SECTOR_SIZE], ('.tally', 'can be repaired'))
         self.assertEqual(self.tally(), [1, 2, 0])
         self.browser.wait('#second-body .say.plain', f'The second image does not have blocks 0 to 2 and {end} to {SECTORS - 1}.')
         self.assertTrue(self.browser.run('return document.querySelector("[data-tab=compare]") === null'))
@@ -439,7 +449,7 @@ class Second(PageTest):
         self.browser.wait('[aria-label="Without a sound copy: 2"]', 'In block 60 both images hold the same bytes')
         self.press('Save repaired image')
         saved = self.browser.downloaded('game (repaired).bin')
-        waited(lambda: saved.read_bytes() == with_faults((60, 9), (end + 5, 9)), 'the repaired image')
+        waited(lambda: saved.read_bytes() == torn(with_faults(), 60, end + 5), 'the repaired image')
         saved.unlink()
         self.sees_second(40, 'other.bin has a sound copy, which will be used.')
 
@@ -449,9 +459,9 @@ class Second(PageTest):
         self.browser.wait('#panel-disc .say', words)
 
     def test_a_damaged_sector_says_what_becomes_of_it(self) -> None:
-        first = bytearray(with_faults((40, 9), (60, 9), (80, 9), (80, 2048)))
+        first = bytearray(torn(with_faults((80, 2048), (100, 9)), 40, 60, 80))
         first[100 * SECTOR_SIZE:100 * SECTOR_SIZE + 12] = bytes(12)
-        self.pair(bytes(first), with_faults((60, 500)), ('.tally', 'can be repaired'))
+        self.pair(bytes(first), torn(with_faults(), 60, by=0xAA), ('.tally', 'can be repaired'))
         for block, words in ((40, 'other.bin has a sound copy, which will be used.'), (60, 'other.bin has no sound copy of it.'),
                              (80, 'But its data and EDC are different'), (100, 'other.bin has a sound copy, which will be used.')):
             self.sees_second(block, words)
@@ -459,7 +469,7 @@ class Second(PageTest):
             self.assertEqual(shown, block == 60, block)
 
     def test_a_damaged_sector_leads_to_the_repair_if_the_second_image_is_compared(self) -> None:
-        self.open_two(with_faults((40, 9)), with_faults())
+        self.open_two(torn(with_faults(), 40), with_faults())
         self.browser.answer('Compare')
         self.browser.wait('.tally', 'sector differs')
         self.press('40')
@@ -482,7 +492,7 @@ class Second(PageTest):
         self.assertEqual(self.browser.run('return document.querySelector("#sheet .main").innerText'), 'Open it instead')
 
     def test_every_control_has_a_name_and_nothing_is_sent(self) -> None:
-        self.pair(with_faults((40, 9), (60, 9)), with_faults((60, 500)))
+        self.pair(torn(with_faults((30, 9)), 40, 60), torn(with_faults(), 60, by=0xAA))
         self.browser.wait('[aria-label="Without a sound copy: 1"]')
         self.assertEqual(self.browser.nameless(), [])
         for width in (360, 620, 900, 1180, 1600):

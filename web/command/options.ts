@@ -173,7 +173,7 @@ const ROWS = {
         needs: { texts: 'every' },
     },
     first: { word: '--first', value: 'BLOCK', does: 'another name for --base', parse: numberFrom('--first', 0, LAST_BASE) },
-    parity: { word: '--parity', value: '', does: 'also correct Mode 1 sectors by their own P and Q, if their EDC confirms it' },
+    parity: { word: '--parity', value: '', does: 'first correct Mode 1 sectors by their own P and Q, if their EDC confirms it' },
     carry: { word: '--carry', value: '', does: 'patch damaged sectors too, and keep their damage' },
     long: { word: '--long', value: '', does: 'accept a script with more patches or bytes than cdpatch does' },
     skipDamaged: { word: '--skip-damaged', value: '', does: 'leave out blocks that are damaged in NEW', excludes: ['partial'] },

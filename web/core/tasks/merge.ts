@@ -102,8 +102,7 @@ function hasSame(a: Uint8Array, b: Uint8Array, from: number, end: number) {
 /** Blocks of another image. */
 type RunOf = Run & { other: number };
 /**
- * How many blocks later the sectors are by their addresses, and whether a sector without a copy, or with a doubtful one, is corrected by
- * its own parity.
+ * How many blocks later the sectors are by their addresses, and whether a sector is first corrected by its own codes, if these confirm it.
  */
 export type MergeArgs = { shift: number, parity: boolean };
 /** `elsewhere` if an image has a sound sector with the address of a different block. */
@@ -111,7 +110,7 @@ type DamagedRun = Run & { elsewhere: boolean };
 /**
  * The findings of a repair, as runs of blocks. `taken`: blocks copied from one other image for each run. `doubtful`: those of them whose
  * copy nothing in the replaced sector confirms. `unread`: those of the doubtful blocks that one byte fills, which could confirm no copy.
- * `corrected`: blocks that their own parity corrected. `damaged`: blocks that nothing repaired. `alike`: those of them with the same bytes
+ * `corrected`: blocks that their own codes corrected. `damaged`: blocks that nothing repaired. `alike`: those of them with the same bytes
  * in all images that have the block. `disputed`: taken blocks in which other images are also sound, but different. `wrongAddress`: sound
  * blocks that keep the address of a different block. `others`: blocks that were not repaired, are neither sound nor Mode 1 in any image,
  * and are not tested Mode 2, with their kinds in the repaired image. `filled`: those of them that one byte fills there. `unlike`: those of
@@ -174,11 +173,11 @@ class RangeMerge {
         const isSoundIn = ({ state }: Copy) => state === STATE.SOUND;
         found.tested += Number(own.kind === SECTOR_KIND.MODE1 || isSoundIn(own));
         found.sound += Number(copies.some(it => it.kind === SECTOR_KIND.MODE2 && isSoundIn(it)));
-        const replacement = replacementOf(this.calls, address, own, others);
-        if ((replacement === null || replacement.isDoubtful) && this.correct(block, own)) {
+        if (this.correct(block, own)) {
             this.noteAddress(block, address, own);
             return;
         }
+        const replacement = replacementOf(this.calls, address, own, others);
         const { kind } = replacement === null ? own : replacement.copy;
         if (kind === SECTOR_KIND.MODE2) addToRuns(found.mode2, runOf(block));
         if (replacement !== null) this.take(block, own, replacement);
@@ -218,10 +217,9 @@ class RangeMerge {
         if (isDoubtful && isFilledAfterHeader(own.bytes)) addToRuns(found.unread, run);
     }
 
-    /** Corrects a damaged Mode 1 sector by its own parity, if this is allowed. Returns whether it was possible. */
-    correct(block: number, { bytes, kind, state }: Copy) {
-        if (!this.args.parity || kind !== SECTOR_KIND.MODE1 || state !== STATE.DAMAGED) return false;
-        const corrected = this.calls.correctedSector(bytes);
+    /** Corrects a damaged or lost sector by its own codes, if this is allowed. Returns whether it was possible. */
+    correct(block: number, { bytes, state }: Copy) {
+        const corrected = this.args.parity && state !== STATE.SOUND ? correctedSector(this.calls, bytes) : null;
         if (corrected === null) return false;
         this.sectors.push(corrected);
         addToRuns(this.found.corrected, runOf(block));
@@ -264,6 +262,14 @@ class RangeMerge {
         if (isOneByte) addToRuns(found.filled, { ...runOf(block), byte: old[i * SECTOR_SIZE] });
         if (unlike[i] !== 0) addToRuns(found.unlike, runOf(block));
     }
+}
+
+/**
+ * A damaged sector that its own codes correct: Mode 1 by its parity, if the EDC that was read confirms it, or one that lacks only its sync
+ * field. Null for any other. The mode byte excludes nearly all audio, which would take long.
+ */
+export function correctedSector(calls: Calls, sector: Uint8Array) {
+    return sector[MODE_OFFSET] === 1 ? calls.correctedSector(sector) : null;
 }
 
 /** What the codes of a sector show, as a STATE, and its SECTOR_KIND. */

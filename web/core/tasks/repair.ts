@@ -10,29 +10,29 @@ import { addToRuns, blocksIn, commonRuns, joinedRuns, runsWithout, type Gap, typ
 import {
     addressShift, commonPart, endsOfImage, firstBlock, rangesOf, shiftOf, type CommonPart, type Ranges, type Shift,
 } from './inform.js';
-import { nothingFound, type Found, type Merged } from './merge.js';
+import { correctedSector, nothingFound, type Found, type Merged } from './merge.js';
 import { trackBeside, type Engine, type OpenedTrack } from './opened.js';
 import { tailsDiffer } from './scripts.js';
 
 // Corrects one sector from its own parity, by lines of a script.
 
-/** A sector, before and after it, and the lines that do it. */
+/** A sector, before and after it, and the lines that do it; none for a sync field, which no line of a script writes. */
 export type Correction = { old: Uint8Array, fresh: Uint8Array, lines: string[] };
 
 /**
- * The correction of a damaged Mode 1 sector from its own P and Q parity, which the EDC that was read confirms. Null if there is none. The
- * lines were applied to the sector before they are returned, so they make the bytes that a repair with `parity` makes.
+ * The correction of a damaged or lost sector from its own codes, which the EDC that was read confirms. Null if there is none. The lines
+ * were applied to the sector before they are returned, so they make the bytes that a repair with `parity` makes.
  */
 export function correctionOf(calls: Calls, block: number, old: Uint8Array): Correction | null {
-    // No line of a script writes a sync field.
-    const fresh = calls.kind(old) === SECTOR_KIND.MODE1 ? calls.correctedSector(old) : null;
+    const fresh = correctedSector(calls, old);
     if (fresh === null) return null;
+    if (calls.kind(old) !== SECTOR_KIND.MODE1) return { old, fresh, lines: [] };
     const { text } = linesBetween(calls, { blocks: [block], old, fresh });
     return { old, fresh, lines: new TextDecoder().decode(text).trimEnd().split('\n') };
 }
 
 type LostRun = Lost['lost'][0];
-/** `parity`: whether sectors are also corrected by their own parity. */
+/** `parity`: whether sectors are also corrected by their own codes. */
 type RepairOptions = Sharing & { parity?: boolean };
 /**
  * The reason why a repair is refused. `untested`: the image has no sector with codes, so that nothing shows damage. The others have the
@@ -65,8 +65,8 @@ const RUNS = ['corrected', 'damaged', 'unsound', 'alike', 'disputed', 'wrongAddr
 
 /**
  * Repairs the image of a track with other dumps, in the blocks that both have. A damaged or lost sector is copied whole from a dump in
- * which it is sound and has the address of its block. With `parity`, a damaged Mode 1 sector without such a copy, or with a doubtful one,
- * is corrected by its own P and Q, if the EDC that it has confirms the result. The tail is not changed. The pieces of the repaired image
+ * which it is sound and has the address of its block. With `parity`, a damaged Mode 1 sector is first corrected by its own P and Q, and a
+ * lost one gets back its sync field, if the EDC that it has confirms the result. The tail is not changed. The pieces of the repaired image
  * are passed to `take` at once, before it is known whether the repair is refused. Throws what the readers throw, and a Fault, `cancelled`.
  */
 export async function repairTrack({ calls, pool }: Engine, opened: OpenedTrack, dumps: OpenedTrack[], take: (piece: Piece) => void

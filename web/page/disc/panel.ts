@@ -1,113 +1,15 @@
 // The panel Disc: the map and the findings on the left, a sector on the right.
 
-import type { Piece } from '../../core/bytes.js';
 import { filesAt } from '../../core/iso/views.js';
-import { pieceReader } from '../../core/readers/views.js';
-import { blocksIn } from '../../core/sectors/views.js';
-import { repairTrack, type Repair } from '../../core/tasks/index.js';
-import { blocksText } from '../../sentences/index.js';
-import { jobAt, shadesOf, type App, type Image, type Look, type MapModel } from '../app/index.js';
-import { patchedName } from '../save/index.js';
-import { RepairSaver, SecondCard, WithoutScript, writeScript } from '../second/index.js';
-import { counted, format, playerTexts } from '../texts/index.js';
-import {
-    button, byId, countsRow, element, failureNotice, fill, focusAgain, messageArea, oneTabStop, refuseWhileSaving, sayBusy, shownName,
-} from '../ui/index.js';
+import { shadesOf, type App, type Look, type MapModel } from '../app/index.js';
+import { SecondCard } from '../second/index.js';
+import { counted, format } from '../texts/index.js';
+import { button, element, fill, oneTabStop, shownName } from '../ui/index.js';
 import { Findings, mountDumps } from './findings.js';
 import { DiscMap } from './map.js';
 import { SectorCard } from './sector_card.js';
 import { addressWords, sectorWords } from './sector_fault.js';
 import * as texts from '../texts/index.js';
-
-// The card that corrects all damaged sectors of the open image from their own parity. It counts them before anything is saved.
-
-const MOST_RUNS_NAMED = 8;
-
-class CorrectCard {
-    message = messageArea();
-    body = element('div', { class: 'stack', id: 'correct-body', tabindex: -1 });
-    /** The place of the progress and the result of saving a file or writing a script. */
-    place = element('div', { class: 'stack' });
-    saver; without; part;
-
-    /** @param closed is called when the card was closed */
-    constructor(readonly app: App, readonly closed: () => void) {
-        this.saver = new RepairSaver(app, this.place, 'corrected-sha1');
-        this.without = new WithoutScript(app);
-        this.part = element('section', { class: 'card', 'aria-labelledby': 'correct-title', hidden: true },
-            element('header', {}, element('h2', { id: 'correct-title' }, 'Correct from parity'),
-                button('slim bare away', () => this.close(), playerTexts.close)),
-            element('div', { class: 'pad stack' }, this.message, this.body));
-        app.on('image', () => this.forget());
-        app.on('correct', () => void this.begin());
-    }
-
-    forget() {
-        this.app.endJobAt(this.body);
-        this.saver.forget();
-        this.without.forget();
-        this.part.hidden = true;
-        for (const part of [this.message, this.body, this.place]) fill(part);
-    }
-
-    close() {
-        if (refuseWhileSaving(this.app, [], this.message)) return;
-        this.forget();
-        this.closed();
-        focusAgain(byId('map'));
-    }
-
-    /** Corrects all sectors, without saving anything, and shows how many were corrected. */
-    async begin() {
-        const { app, app: { image } } = this;
-        if (image === null) return;
-        if (app.jobAt(this.place) !== undefined) {
-            sayBusy(this.place);
-            return;
-        }
-        this.forget();
-        this.part.hidden = false;
-        const pieces: Piece[] = [];
-        const take = (piece: Piece) => void pieces.push(piece);
-        const job = jobAt(app, this.body, {
-            name: 'Correcting all damaged sectors', of: 'image',
-            run: (bar, signal) => repairTrack(app, image.opened, [], take, { parity: true, signal, progress: bar.sectors }),
-            done: repair => this.show(image, repair, pieces),
-            failed: error => fill(this.body, failureNotice(error, texts.secondNothingFoundOut),
-                element('div', { class: 'row' }, button('', () => void this.begin(), texts.secondBeginAgain))),
-        });
-        this.body.focus({ preventScroll: true });
-        this.part.scrollIntoView({ block: 'nearest' });
-        await job;
-    }
-
-    /**
-     * Shows how many sectors were corrected, and how many were not.
-     * @param pieces of the corrected image
-     */
-    show(image: Image, { corrected, damaged, lost }: Repair, pieces: Piece[]) {
-        const left = [...damaged, ...lost].sort((a, b) => a.first - b.first);
-        const [count, others] = [corrected, left].map(blocksIn);
-        fill(this.body, countsRow([[count, 'can be corrected, each from its own parity', 'good-ink'],
-            [others, 'cannot be corrected', others > 0 ? 'bad-ink' : '']]),
-            others > 0 && element('p', {}, format('Not corrected: {blocks}.', { blocks: blocksText(left, MOST_RUNS_NAMED) })),
-            element('p', {}, texts.correctConfirmed), element('p', { class: 'small quiet' },
-                'Damage may be deliberate: some copy protections need it.'),
-            count > 0 && this.without.part,
-            count > 0 && element('div', { class: 'row' },
-                button('main', () => void this.saver.save(pieces, count, left), texts.secondSaveRepaired),
-                button('', () => this.write(image, pieces), texts.secondWriteRepairAsScript)),
-            this.place);
-        this.without.show(image, pieces);
-    }
-
-    /** Writes the script that corrects the sectors. */
-    write(image: Image, pieces: Piece[]) {
-        const fresh = pieceReader(image.reader, pieces);
-        const name = patchedName(image.name, 'repair', '.txt');
-        void writeScript(this.app, this.place, { image, fresh, goal: texts.secondTheRepairedImage, name });
-    }
-}
 
 // The legend of the map. A pressed entry shows only its mark on the map.
 
@@ -190,13 +92,16 @@ export function mountDisc(app: App, panel: HTMLElement) {
     app.on('image', () => disc.begin());
     app.on('place', ({ show, wasHidden }) => disc.drawPlace(show, wasHidden));
     app.on('second', job => disc.second.begin(job));
-    app.on('correct', () => disc.closeSector());
+    app.on('correct', () => {
+        disc.closeSector();
+        disc.second.plan();
+    });
     mountDumps(app);
 }
 
 class DiscPanel {
     words = element('span', { class: 'row' });
-    map; legend; findings; sector; steps; below; card; left; second; correct; right; part;
+    map; legend; findings; sector; steps; below; card; left; second; right; part;
 
     constructor(readonly app: App) {
         this.map = new DiscMap({
@@ -217,8 +122,7 @@ class DiscPanel {
             element('div', { class: 'readout' }, this.words, this.steps, this.below));
         this.left = element('div', { class: 'side' }, this.card, this.findings.part);
         this.second = new SecondCard(app, () => this.drawMap());
-        this.correct = new CorrectCard(app, () => this.drawMap());
-        this.right = element('div', { class: 'side' }, this.second.part, this.correct.part, this.sector.part);
+        this.right = element('div', { class: 'side' }, this.second.part, this.sector.part);
         this.part = element('div', { class: 'disc-grid' }, this.left, this.right);
     }
 
@@ -256,8 +160,7 @@ class DiscPanel {
         this.map.show(model, alone);
         this.map.per.hidden = alone >= 0;
         const isAsked = this.sector.part.contains(document.activeElement); // the user may type a block while a second image is read
-        const isBelowOthers = this.app.second !== null || !this.correct.part.hidden;
-        this.sector.part.hidden = isBelowOthers && this.app.place.block < 0 && !isAsked;
+        this.sector.part.hidden = !this.second.part.hidden && this.app.place.block < 0 && !isAsked;
         this.drawReadout();
     }
 

@@ -95,7 +95,11 @@ function correctionOffer(app: App, block: number, correction: Correction) {
         ' Only after a rebuild can a damaged sector be patched. The lines after it write the bytes that its EDC confirmed, so no damage ' +
         'is hidden.';
     return { isInScript: first > 0, note: words !== '' && element('p', {}, ...done || [], words, why),
-        buttons: [correct, button('slim', () => app.correctAll(), 'Correct all from parity…'), ...open ? [open] : []] };
+        buttons: [correct, correctAllButton(app), ...open ? [open] : []] };
+}
+
+function correctAllButton(app: App) {
+    return button('slim', () => app.correctAll(), 'Correct all from parity…');
 }
 
 /** Says which lines of the script correct a sector; '' if none do. `first` is the number of the first one, or 0. */
@@ -207,14 +211,13 @@ function hintWords(app: App, sector: Uint8Array, found: Crossings): Child[] | nu
 /** The remedies for a damaged sector. A rebuild destroys the EDC that would confirm a correction, so it comes last. */
 function remedies(app: App, block: number, correction: Correction | null) {
     const copies = repairOf(app, block);
-    if (copies === 'taken') return [soundCopy(app, copies)];
+    if (copies === 'taken' || copies === 'doubtful') return [soundCopy(app, copies)];
     const offer = correction && correctionOffer(app, block, correction);
     const own = offer === null ? [] : offer.buttons;
     const note = offer && offer.note;
     const row = (...others: HTMLElement[]) => element('div', { class: 'row' }, ...own, ...others);
-    if (copies === 'doubtful') return [soundCopy(app, copies), offer !== null && row(), note];
     const repair = offer === null || app.second !== null ? [repairButton(app, offer === null)] : []; // else it is only over the panel
-    const second = noCopy(app, copies, offer !== null);
+    const second = noCopy(app, copies);
     if (offer !== null && offer.isInScript) return [second, row(...repair), note];
     const rebuild = rebuildOffer(app, block);
     return [second, row(...repair, rebuild.button), note, ...rebuild.words];
@@ -240,11 +243,10 @@ function soundCopy({ second }: App, copies: 'taken' | 'doubtful') {
         ...say('{name} has a sound copy, which will be used.', { name }), ' '), doubt);
 }
 
-/** The message that a repair from the second image leaves a sector as it is. `hasCorrection` says whether its own parity can correct it. */
-function noCopy({ second }: App, copies: ReturnType<typeof repairOf>, hasCorrection: boolean = false) {
+/** The message that a repair from the second image leaves a sector as it is. */
+function noCopy({ second }: App, copies: ReturnType<typeof repairOf>) {
     return copies === 'none' && second !== null && element('p', {},
-        ...say('{name} has no sound copy of it.', { name: nameOf(second.name) }), ' ',
-        hasCorrection && `${texts.sectorParityCanCorrect} `);
+        ...say('{name} has no sound copy of it.', { name: nameOf(second.name) }), ' ');
 }
 
 /**
@@ -303,7 +305,10 @@ function otherKind(app: App, block: number, sector: Uint8Array) {
     }
     return element('div', { class: 'say bad thin' }, element('b', {}, noSync ? 'This sector has no sync field, but its track is data.'
         : 'This sector does not have the mode of its track.'),
-        'It has probably lost its sync field or mode byte. A patch cannot repair that, but a whole sector from another dump can.',
+        correctionOf(app.calls, block, sector) === null
+            ? 'It has probably lost its sync field or mode byte. A patch cannot repair that, but a whole sector from another dump can.'
+            : 'Only its sync field is lost: the EDC confirms the rest. A patch cannot repair that, but “Correct all from parity…” can. ',
+        correctionOf(app.calls, block, sector) !== null && element('div', { class: 'row' }, correctAllButton(app)),
         ...copies === 'taken' || copies === 'doubtful' ? [soundCopy(app, copies)]
             : [noCopy(app, copies), element('div', { class: 'row' }, repairButton(app))]);
 }

@@ -69,7 +69,8 @@ export function reasonsOf(patches: number, refused: number[], advices: Record<nu
 }
 
 /** For each finding, the result of patches that it explains. */
-const EXPLAINED: Partial<Record<Finding['code'], number>> = { gap: RESULT.DIFFERS, lost: RESULT.NOT_MODE1 };
+const EXPLAINED: Partial<Record<Finding['code'], number>> = { gap: RESULT.DIFFERS, lost: RESULT.NOT_MODE1,
+    short: RESULT.NO_BLOCK };
 
 /**
  * Why the patch does not match a player's image. An image with an older version of the patch has the same size and kinds of sectors.

@@ -1,11 +1,11 @@
-// The card of a second image: repair from it, or compare with it.
+// The card of a repair, with a second image or without one, and of the comparison with a second image.
 
 import { isSameRange } from '../../core/tasks/index.js';
 import { countedAs, readImage } from '../open/index.js';
 import { playerTexts, say } from '../texts/index.js';
 import {
     button, byId, crossButton, element, fill, focusAgain, isCancelled, keyed, messageArea, moreButton, nameOf, notice, oneTabStop,
-    refuseWhileSaving, sentence, setAttribute,
+    refuseWhileSaving, sayBusy, sentence, setAttribute,
 } from '../ui/index.js';
 import { SecondCompare } from './compare.js';
 import { SecondRepair } from './repair.js';
@@ -25,8 +25,8 @@ export class SecondCard {
     constructor(readonly app: App, readonly changed: () => void) {
         this.jobs = { repair: new SecondRepair(app, changed), compare: new SecondCompare(app, changed) };
         oneTabStop(this.tabs, '[role=tab]', tab => this.choose(tab.dataset.tab as Job));
-        const more = moreButton('slim away', 'second', 'More about the second image', () => [...this.jobs[this.tab].actions(),
-            { label: texts.openItInstead, press: () => this.openInstead() }]);
+        const more = moreButton('slim away', 'second', 'More about the repair or the second image', () => [...this.jobs[this.tab].actions(),
+            ...app.second === null ? [] : [{ label: texts.openItInstead, press: () => this.openInstead() }]]);
         const card = element('section', { class: 'card', 'aria-labelledby': 'second-title' },
             element('header', { class: 'one-line' }, this.title, more, crossButton(playerTexts.close, () => this.close())),
             element('div', { class: 'pad stack' }, this.message, this.tabs, this.body));
@@ -35,7 +35,7 @@ export class SecondCard {
 
     /** The marks of the map if it shows both images, else null. */
     model() {
-        return this.app.second === null ? null : this.jobs[this.tab].model();
+        return this.part.hidden ? null : this.jobs[this.tab].model();
     }
 
     close() {
@@ -51,15 +51,26 @@ export class SecondCard {
         readImage(this.app, countedAs(second, second.opened.byAddresses), () => focusAgain(byId('map')));
     }
 
-    /** Starts again after the second image was replaced or closed. The focus goes to the job, so that its result is next to it. */
-    begin(job: Job) {
+    /** Begins the repair that the open image and, if there is one, the second image allow. */
+    plan() {
+        const { place } = this.jobs.repair;
+        if (this.app.jobAt(place) === undefined) this.begin('repair', true);
+        else sayBusy(place);
+    }
+
+    /**
+     * Starts again after the second image was replaced or closed. The focus goes to the job, so that its result is next to it.
+     * @param isPlan whether a repair is wanted without a second image too
+     */
+    begin(job: Job, isPlan: boolean = false) {
         const { image, second } = this.app;
         this.app.endPairing();
         this.jobs.repair.forget();
         this.jobs.compare.forget();
-        this.part.hidden = image === null || second === null;
-        if (image !== null && second !== null) {
-            fill(this.title, ...say('Second image: {name}', { name: element('span', { class: 'plain' }, nameOf(second.name)) }));
+        this.part.hidden = image === null || (second === null && !isPlan);
+        if (!this.part.hidden) {
+            fill(this.title, ...second === null ? ['Repair'] : say('Second image: {name}', { name: element('span', { class: 'plain' },
+                nameOf(second.name)) }));
             this.choose(job);
             this.body.focus({ preventScroll: true });
             requestAnimationFrame(() => this.part.scrollIntoView({ block: 'nearest' }));
@@ -68,7 +79,7 @@ export class SecondCard {
     }
 
     choose(tab: Job) {
-        if (this.app.second === null) return;
+        if (this.part.hidden) return;
         this.tab = tab;
         this.drawTabs();
         const job = this.jobs[tab];
@@ -92,7 +103,8 @@ export class SecondCard {
         // A script cannot change the length of an image or move sectors, so images of different ranges are not compared.
         if (image === null || second === null || !isSameRange(image, second)) names.pop();
         this.tabs.hidden = names.length === 1;
-        setAttribute(this.body, 'aria-label', this.tab === 'repair' ? texts.secondRepairFromIt : texts.openCompareIt);
+        const repair = second === null ? 'Repair' : texts.secondRepairFromIt;
+        setAttribute(this.body, 'aria-label', this.tab === 'repair' ? repair : texts.openCompareIt);
         fill(this.tabs, ...names.map(([tab, label]) => keyed(tab, element('button', {
             type: 'button', role: 'tab', 'data-tab': tab, 'aria-selected': String(tab === this.tab), 'aria-controls': 'second-body',
             click: () => this.choose(tab),

@@ -1,7 +1,4 @@
-// The card of a second image, and what saves a repaired one.
+// The card of a repair and of a second image.
 
 export { SecondCard } from './card.js';
-export { RepairSaver } from './repair_save.js';
-export { writeScript } from './compare.js';
 export { repairOf, sectorOfSecond } from './pair_job.js';
-export { WithoutScript } from './repair.js';

@@ -56,9 +56,9 @@ export class PairMarks {
     }
 }
 
-export function repairMarks(survey: SurveyMarks, taken: Run[], unrepaired: Run[]) {
+export function repairMarks(survey: SurveyMarks, repaired: Run[], unrepaired: Run[]) {
     const marks = new PairMarks(survey, looksOf('no repair needed', [texts.secondCanBeRepaired, texts.secondHaveNoCopy]));
-    marks.setRuns(taken, 0);
+    marks.setRuns(repaired, 0);
     marks.setRuns(unrepaired, 1);
     return marks;
 }
@@ -112,17 +112,21 @@ export async function sectorOfSecond({ image, second }: App, block: number) {
     return place < from || place >= to ? null : readBytes(second.reader, (place - later) * SECTOR_SIZE, SECTOR_SIZE);
 }
 
-/** Whether a repair copies the sector of a block from the second image: '' while that is not known, or if the repair is refused. */
+/**
+ * Whether a repair copies the sector of a block from the second image: '' while that is not known, if the repair is refused, or if it
+ * corrects the sector without a copy.
+ */
 export function repairOf({ repair }: App, block: number): '' | 'taken' | 'doubtful' | 'none' {
     if (repair === null || repair.refused) return '';
     const has = (runs: Run[]) => runs.some(({ first, last }) => first <= block && block <= last);
+    if (has(repair.corrected)) return '';
     if (has(repair.doubtful) && !has(repair.unread)) return 'doubtful';
     return has(repair.taken) ? 'taken' : 'none';
 }
 
 type Watch = { signal: AbortSignal, progress: (done: number, all: number) => void };
 
-/** A job with two images. It shows its result in `body` and `table`, and on the map. */
+/** A job with two images, or a repair of one. It shows its result in `body` and `table`, and on the map. */
 export class PairJob {
     body = element('div', { class: 'stack' });
     table = element('div');
@@ -154,7 +158,8 @@ export class PairJob {
     async once<Found>(compare: (watch: Watch) => Promise<Found>, show: (found: Found) => Promise<void>) {
         this.begun = true;
         await jobAt(this.app, this.body, {
-            name: 'Comparing both images', of: 'pair', replaces: true, run: (bar, signal) => compare({ signal, progress: bar.sectors }),
+            name: this.app.second === null ? 'Correcting all damaged sectors' : 'Comparing both images', of: 'pair', replaces: true,
+            run: (bar, signal) => compare({ signal, progress: bar.sectors }),
             done: show, failed: error => {
                 this.begun = false;
                 throw error;

@@ -1,4 +1,4 @@
-// Repairs the open image from a second image, and shows the result before anything is saved.
+// Repairs the open image from its own parity and from a second image, and shows the plan before anything is saved.
 
 import { readBytes, type Piece } from '../../core/bytes.js';
 import { SECTOR_SIZE, type Calls } from '../../core/module/index.js';
@@ -9,7 +9,7 @@ import { blocksText, verdictText } from '../../sentences/index.js';
 import { mode2Finding, type App, type Image } from '../app/index.js';
 import { swapImages } from '../open/index.js';
 import { isPatched, patchedName } from '../save/index.js';
-import { format, say } from '../texts/index.js';
+import { counted, format, say } from '../texts/index.js';
 import { button, capital, countsRow, element, fill, nameOf, notice, refuseWhileSaving, tableCard, term, type Child } from '../ui/index.js';
 import { writeScript } from './compare.js';
 import { PairJob, fileSayer, repairMarks, sectorOfSecond } from './pair_job.js';
@@ -142,46 +142,80 @@ function endWords(repair: Repair, { name }: Image, otherJobs: Child[]) {
     return lacks ? notice('warn', lacks, only, row) : notice('plain', only, row);
 }
 
-/** Says which copies nothing in the replaced sector confirms. A sector that was not read could confirm none, but the other sectors do. */
-function doubtWords({ doubtful, unread, unlike, different: [different], same: [same], ranges: [{ common }] }: Repair): Child[] {
+/** Warns about copies that nothing in the replaced sector confirms. A sector that was not read could confirm none, but the others do. */
+function doubtWords({ doubtful, unread, unlike, different: [different = 0] }: Repair): Child[] {
     const others = runsWithout(doubtful, unread);
     const isOther = others.length > 0 || different > 0 || unlike.length > 0;
     const look = (runs: Run[]) => format('Perhaps the second image is another release of the disc: look at {blocks} first.',
         { blocks: blocksText(runs, MOST_RUNS_NAMED) });
-    const notRead = format(
-        '{n} sector was not read here, and cannot confirm its copy.|{n} sectors were not read here, and cannot confirm their copies.',
-        { n: blocksIn(unread) });
-    const isSame = format('But it is the same disc: {n} of {all} sectors are equal, and none is sound in both but different.',
-        { n: same, all: blocksIn(common) });
     return [others.length > 0 && notice('warn', format(
         'Nothing confirms {n} copy: data and EDC here are different.|Nothing confirms {n} copies: data and EDC here are different.',
         { n: blocksIn(others) }), look(others)),
-    unread.length > 0 && notice(isOther ? 'warn' : 'plain', notRead, isOther ? look(unread) : isSame)];
+    unread.length > 0 && isOther && notice('warn', notReadText(unread), look(unread))];
+}
+
+function notReadText(unread: Run[]) {
+    return format(
+        '{n} sector was not read here, and cannot confirm its copy.|{n} sectors were not read here, and cannot confirm their copies.',
+        { n: blocksIn(unread) });
+}
+
+/** What confirms the copies: the rest of the sector or, if it was not read, the other sectors. */
+function copiesText({ taken, doubtful, unread, different: [different], same: [same], ranges: [{ common }] }: Repair) {
+    const n = blocksIn(taken) - blocksIn(doubtful);
+    const isSame = different === 0 && format(
+        'It is the same disc: {n} of {all} sectors are equal, and none is sound in both but different.',
+        { n: same, all: blocksIn(common) });
+    return [n > 0 && format('{n} copy agrees with what is left of the sector.|{n} copies agree with what is left of the sectors.', { n }),
+        unread.length > 0 && notReadText(unread), unread.length > 0 && isSame].filter(Boolean).join(' ');
+}
+
+/** A part of the plan: its sectors, where they come from, what confirms them, and their blocks. */
+function planRow(runs: Run[], looks: string, title: Child[], ...words: Child[]) {
+    return runs.length > 0 && element('li', {}, element('b', { class: looks }, counted(blocksIn(runs))), element('div', {},
+        element('b', {}, ...title), element('p', { class: 'small quiet' }, ...words),
+        element('details', {}, element('summary', {}, 'Show the blocks'),
+            element('p', { class: 'mono small' }, blocksText(runs, MOST_ROWS)))));
+}
+
+/** The plan: what parity confirms, what the second image has, and what is left. */
+function planOf(app: App, repair: Repair, unrepaired: Run[], second: Image | null) {
+    const left = second === null
+        ? planRow(unrepaired, 'bad-ink', ['Not corrected'], 'Another dump can have a sound copy. ',
+            button('slim', () => app.choose('repair'), texts.imageRepairFromOther))
+        : planRow(unrepaired, 'bad-ink', ['Damaged in both dumps'],
+            'A third dump can have a sound copy: save the repaired image, open it, and repair it from that dump.');
+    return element('ul', { class: 'plan' },
+        planRow(repair.corrected, 'good-ink', ['By their own parity'], 'The EDC that was read confirms each. No other dump is needed.'),
+        second !== null && planRow(repair.taken, 'good-ink', say('From {name}', { name: nameOf(second.name) }), copiesText(repair)),
+        left);
 }
 
 /**
  * The result of a repair, in words.
  * @param otherJobs the buttons of the jobs that are offered if nothing is repaired, or if the second image has more blocks
  */
-function foundWords(repair: Repair, unrepaired: Run[], image: Image, second: Image, otherJobs: Child[]): Child[] {
-    const { unlike, different: [different], tails: [tail], ranges: [{ missing, beyond }] } = repair;
+function foundWords(app: App, { repair, unrepaired }: Found, image: Image, second: Image | null, otherJobs: Child[]): Child[] {
+    const { unlike, different: [different = 0], tails: [tail = false], ranges: [range] } = repair;
+    const { missing, beyond } = range || { missing: [], beyond: [] };
     const isLonger = beyond.length > 0;
-    const [taken, damaged] = [repair.taken, unrepaired].map(blocksIn);
-    const tally = countsRow([[taken, texts.secondCanBeRepaired, taken > 0 ? 'good-ink' : ''],
-        [damaged, texts.secondHaveNoCopy, damaged > 0 ? 'bad-ink' : ''], [different, 'sound in both, but different', '']]);
-    return [tally,
+    const [repaired, damaged] = [[...repair.corrected, ...repair.taken], unrepaired].map(blocksIn);
+    const tally = countsRow([[repaired, texts.secondCanBeRepaired, repaired > 0 ? 'good-ink' : ''],
+        [damaged, texts.secondHaveNoCopy, damaged > 0 ? 'bad-ink' : ''],
+        ...second === null ? [] : [[different, 'sound in both, but different', ''] as [number, string, string]]]);
+    return [tally, planOf(app, repair, unrepaired, second),
         missing.length > 0 && notice('plain', format('The second image does not have {blocks}.', { blocks: blocksText(missing) }),
             'These stay as they are here.'),
-        endWords(repair, second, isLonger ? otherJobs : []),
-        taken === 0 && nothingWords(repair, damaged, image, isLonger ? [] : otherJobs),
+        second !== null && endWords(repair, second, isLonger ? otherJobs : []),
+        second !== null && repaired === 0 && nothingWords(repair, damaged, image, isLonger ? [] : otherJobs),
         ...doubtWords(repair),
         different > 0 && notice('warn', format('{n} sector is sound in both, and differs.|{n} sectors are sound in both, and differ.',
             { n: different }), 'Perhaps it is another release of the disc. They stay as they are here.'),
         unlike.length > 0 && notice('warn', format('{n} sector was not tested, and differs.|{n} sectors were not tested, and differ.',
             { n: blocksIn(unlike) }), 'These are audio or Mode 2 sectors without codes that show damage. They stay as they are here.'),
         tail && notice('warn', texts.secondTailsDiffer, 'They stay as they are here.'),
-        element('p', { class: 'small quiet' }, 'Whole sectors are copied, and only those that are damaged or lost here and sound there. ' +
-            'A sound sector is never changed. Your file stays as it is.')];
+        element('p', { class: 'small quiet' }, 'Only sectors that are damaged or lost here are written. Your file stays as it is. ' +
+            'Damage may be deliberate: some copy protections need it.')];
 }
 
 // The note that patches of the script are not in an image that a repair or a correction saves.
@@ -228,6 +262,11 @@ export class WithoutScript {
 /** The repair, the pieces of the repaired image, and the blocks that are damaged or lost in it. */
 type Found = { repair: Repair, pieces: Piece[], unrepaired: Run[] };
 
+/** How many sectors a repair writes. */
+function repairedBlocks({ corrected, taken }: Repair) {
+    return blocksIn(corrected) + blocksIn(taken);
+}
+
 export class SecondRepair extends PairJob {
     found; drawn; saver; without;
 
@@ -250,14 +289,15 @@ export class SecondRepair extends PairJob {
 
     async begin() {
         const { app, app: { image, second } } = this;
-        if (this.begun || image === null || second === null) return;
+        if (this.begun || image === null) return;
         const pieces: Piece[] = [];
         const take = (piece: Piece) => void pieces.push(piece);
-        await this.once(watch => repairTrack(app, image.opened, [second.opened], take, watch), async repair => {
+        const dumps = second === null ? [] : [second.opened];
+        await this.once(watch => repairTrack(app, image.opened, dumps, take, { ...watch, parity: true }), async repair => {
             const unrepaired = repair.refused ? [] : [...repair.damaged, ...repair.lost].sort((a, b) => a.first - b.first);
             this.found = { repair, pieces, unrepaired };
             this.draw();
-            app.setRepair(repair);
+            if (second !== null) app.setRepair(repair);
             await this.drawTable();
         });
     }
@@ -265,12 +305,12 @@ export class SecondRepair extends PairJob {
     /** Shows the result, on the map too. If the repair is refused, only the reason is shown. */
     draw() {
         const { found, app: { image, second, survey } } = this;
-        if (found === null || image === null || second === null || survey === null) return;
+        if (found === null || image === null || survey === null) return;
         const { repair, unrepaired } = found;
-        this.marks = repair.refused ? null : repairMarks(survey.marks, repair.taken, unrepaired);
+        this.marks = repair.refused ? null : repairMarks(survey.marks, [...repair.corrected, ...repair.taken], unrepaired);
+        const jobs = second === null ? [] : this.otherJobs(image, second, found);
         const words = repair.refused ? [refusedWords(repair, repair.refused, image)]
-            : [...foundWords(repair, unrepaired, image, second, this.otherJobs(image, second, found)), this.buttons(image, found),
-                this.place];
+            : [...foundWords(this.app, found, image, second, jobs), this.buttons(image, found), this.place];
         fill(this.body, ...words);
         this.changed();
     }
@@ -280,7 +320,7 @@ export class SecondRepair extends PairJob {
      * the main button if only the second image has some blocks, and nothing is repaired.
      */
     otherJobs(image: Image, second: Image, { repair, unrepaired }: Found) {
-        const isBest = repair.ranges[0].beyond.length > 0 && repair.taken.length === 0;
+        const isBest = repair.ranges[0].beyond.length > 0 && repairedBlocks(repair) === 0;
         const label = element('span', {}, ...say(texts.openRepairOtherFrom, { name: nameOf(second.name), other: nameOf(image.name) }));
         return [unrepaired.length === 0 && isSameRange(image, second) &&
             button('main', () => this.app.setSecond(second, 'compare'), texts.openCompareIt),
@@ -289,8 +329,8 @@ export class SecondRepair extends PairJob {
 
     /** The button that saves the repaired image, with a note if patches of the script are not in it; null if nothing was repaired. */
     buttons(image: Image, { repair, pieces, unrepaired }: Found) {
-        if (blocksIn(repair.taken) === 0) return null;
-        const save = () => void this.saver.save(pieces, blocksIn(repair.taken), unrepaired, this.app.second, repair.doubtful);
+        if (repairedBlocks(repair) === 0) return null;
+        const save = () => void this.saver.save(pieces, repairedBlocks(repair), unrepaired, this.app.second, repair.doubtful);
         this.without.show(image, pieces);
         return element('div', { class: 'stack' }, this.without.part,
             element('div', { class: 'row' }, button('main', save, texts.secondSaveRepaired)));
@@ -298,7 +338,7 @@ export class SecondRepair extends PairJob {
 
     actions() {
         const { found, app: { image } } = this;
-        if (found === null || image === null || found.repair.refused || blocksIn(found.repair.taken) === 0) return [];
+        if (found === null || image === null || found.repair.refused || repairedBlocks(found.repair) === 0) return [];
         return [{ label: texts.secondWriteRepairAsScript, press: () => void this.writeScript(image, found) }];
     }
 
@@ -313,7 +353,7 @@ export class SecondRepair extends PairJob {
         const { found } = this;
         if (found === null) return;
         const number = ++this.drawn;
-        const table = await tableOfDamage(this.app, found.unrepaired);
+        const table = this.app.second === null ? null : await tableOfDamage(this.app, found.unrepaired);
         if (this.found === found && number === this.drawn) fill(this.table, table);
     }
 }

@@ -127,13 +127,15 @@ function verdictOn(app: App, image: Image, { marks }: Surveyed, verdict: Verdict
     if (base !== null) return otherBaseVerdict(app, image, base, marks.damaged());
     const tone = TONES[level];
     if (level === 'nothing') return { tone, sentence: texts.imageNoModeOne, rest: texts.imageCanBeLookedAt, buttons: [] };
-    const repair = canRepair && app.second === null && button('main', () => app.choose('repair'), texts.imageRepairFromOther);
     const first = () => app.goTo(image.base + placesOf(marks)[0].first, -1, true);
     const isMode1 = marks.mode1() > 0 && marks.damaged() > 0;
-    const correct = isMode1 && button('', () => app.correctAll(), texts.imageCorrectFromParity);
+    // What needs no other dump comes first.
+    const correct = isMode1 && app.second === null && button('main', () => app.correctAll(), texts.imageCorrectFromParity);
+    const looks = isMode1 ? '' : 'main';
+    const repair = canRepair && app.second === null && button(looks, () => app.choose('repair'), texts.imageRepairFromOther);
     const goThere = marks.findings() > 0 && total > 0 && button('', first, 'Go to the first finding');
     return { tone, sentence: `${capital(verdictText(verdict))}.`, rest: mode2Note(marks),
-        buttons: [repair, correct, goThere, ...level === 'sound' ? nextSteps(app) : []] };
+        buttons: [correct, repair, goThere, ...level === 'sound' ? nextSteps(app) : []] };
 }
 
 /** The buttons for what comes next on a disc without damage. */

@@ -217,7 +217,6 @@ export const sectorNeverCorrected =
 export const sectorOnlyLookedAt = 'You can view it, but not patch it.';
 
 // the remedies for the errors of a sector
-export const sectorParityCanCorrect = 'But its own parity can correct it.';
 
 // the fields and bytes of a sector
 export const sectorEdcField = 'EDC';
@@ -384,10 +383,8 @@ export const secondOpenInScript = 'Open in Script';
 export const secondTheRepairedImage = 'the repaired image';
 export const secondScriptNotWritten = 'The script is not written: {why}.';
 
-// ---- all sectors that their own parity corrects
+// ---- a repaired image
 
-export const correctConfirmed = 'In each corrected sector, the EDC that was read and all of P and Q match. The header and the EDC are ' +
-    'never changed. Your file stays as it is.';
 export const correctWithoutScript = 'The new image does not have the patches of the script: open it, and apply them to it.';
 
 // ---- publishing
