@@ -143,7 +143,7 @@ test('what a job does with sectors, and when it stops', () => {
     own.memory.set(vectors.subarray(0, 3 * SECTOR_SIZE), place);
     const script = new TextEncoder().encode('cdpatch 1\nset 1 2047 4142\nset 0 0 43\nset 2 2047 4142\nfill 9 0 1 44\n');
     const job = own.jobBegin([script.subarray(0, 20), script.subarray(20)], 0, 0);
-    assert.deepEqual([0, 1, 2, 3].map(i => own.jobBlocks(job, i)), [[0, 1], [1, 3], [2, 4], [9, 10]]);
+    assert.deepEqual([0, 1, 2, 3].map(i => [own.jobBlock(job, i), own.jobBlocksMet(job, i)]), [[0, 1], [1, 2], [2, 2], [9, 1]]);
     assert.deepEqual(own.jobLines(job).map(it => it.number), [3, 2, 4, 5]);
     const ok = number => ({ number, result: records.RESULT.OK, block: 0, offset: 0 });
     assert.deepEqual(own.jobApply(job, place, 2, 0, false), [ok(3)]);

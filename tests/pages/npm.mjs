@@ -32,6 +32,11 @@ for (const [name, bytes] of [['disc.bin', sound], ['damaged.bin', damaged]]) {
     }
     await file.close();
 }
+const odd = new Uint8Array(2352 * 9 + 7);
+odd.set(sound);
+[0, 1, 3, 4, 5].forEach((mode, i) => { odd[2352 * (i + 1) + 15] = mode; });
+writeFileSync('odd.bin', odd);
+assert.deepEqual(await cdpatch.list(short(odd), { base: 5 }), programs('list', '--base', '5', 'odd.bin'));
 const sectors = await cdpatch.survey(damaged, { base: 7 });
 assert.equal(sectors.length, 8);
 assert.deepEqual(sectors[3], { block: 10, kind: 'mode1', address: true, zeros: true, edc: false, p: 1, q: 1 });
@@ -123,6 +128,12 @@ assert.equal((await cut.report).status, 2);
 
 const ended = patchedStream(cdpatch, sound, script, { signal: AbortSignal.abort() });
 await assert.rejects(new Response(ended.stream).arrayBuffer(), { name: 'AbortError' });
+const dropped = patchedStream(cdpatch, sound, script);
+await dropped.stream.cancel();
+await assert.rejects(dropped.report, { name: 'AbortError', message: 'the stream was cancelled' });
+const withReason = patchedStream(cdpatch, sound, script);
+await withReason.stream.cancel(new Error('enough'));
+await assert.rejects(withReason.report, /^Error: enough$/);
 
 // Progress of a job, and its cancellation.
 const many = new Uint8Array(2352 * 4000);

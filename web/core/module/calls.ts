@@ -192,6 +192,7 @@ type LinePlace = { number: number, start: number, size: number };
 export type PatchRange = { verb: number, block: number, offset: number, size: number, old: number | null };
 /** How many patches a call applies at most, which is a few milliseconds of work. */
 const MOST_ANSWERS = 256;
+const MOST_ANSWERS_64 = BigInt(MOST_ANSWERS);
 
 /** Has a method for each call that the core makes. Arguments are copied to the arena, or held there, and answers are copies. */
 export class Calls extends SectorCalls {
@@ -296,11 +297,14 @@ export class Calls extends SectorCalls {
         });
     }
 
-    /** The first block that the i-th of the patches that are left touches, and the one after its last. */
-    jobBlocks({ next }: ScriptJob, i: number): [number, number] {
-        const at = next + i * ENTRY_STRUCT.BYTES;
-        const block = this.view.getUint32(at + ENTRY_STRUCT.BLOCK, true);
-        return [block, block + this.view.getUint32(at + ENTRY_STRUCT.BLOCKS_MET, true)];
+    /** The block in which the i-th of the patches that are left begins. */
+    jobBlock({ next }: ScriptJob, i: number) {
+        return this.view.getUint32(next + i * ENTRY_STRUCT.BYTES + ENTRY_STRUCT.BLOCK, true);
+    }
+
+    /** How many blocks the i-th of the patches that are left touches. */
+    jobBlocksMet({ next }: ScriptJob, i: number) {
+        return this.view.getUint32(next + i * ENTRY_STRUCT.BYTES + ENTRY_STRUCT.BLOCKS_MET, true);
     }
 
     /**
@@ -316,7 +320,7 @@ export class Calls extends SectorCalls {
         view.setUint32(job.at + JOB_STRUCT.COUNT, job.left, true);
         view.setUint32(job.at + JOB_STRUCT.FIRST, first, true);
         view.setUint32(job.at + JOB_STRUCT.FLAGS, job.flags | (isLast ? JOB_FLAG.LAST : 0), true);
-        job.stop = this.exports.cdpatch_apply_entries(job.at, at, BigInt(count), job.answers, BigInt(MOST_ANSWERS), answer);
+        job.stop = this.exports.cdpatch_apply_entries(job.at, at, BigInt(count), job.answers, MOST_ANSWERS_64, answer);
         if (job.stop > STOP.CAPACITY || isLast && job.stop === STOP.PIECE) throw new RangeError(`patches stopped for reason ${job.stop}`);
         const made: Answer[] = [];
         const done = view.getUint32(answer, true);

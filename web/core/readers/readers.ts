@@ -78,6 +78,12 @@ export class ReadAhead {
         return from >= 0 && from + size <= this.bytes.length ? this.bytes.subarray(from, from + size) : null;
     }
 
+    /** As many whole units of a range as are buffered, from its start on, not copied; null if the first one has to be read. */
+    units(at: number, size: number, unit: number) {
+        const there = Math.min(this.at + this.bytes.length - at, size);
+        return there < unit ? null : this.here(at, there - there % unit);
+    }
+
     /** Bytes of the image, which are read if they are not buffered. They are valid until the next request. */
     async bytesAt(at: number, size: number) {
         return this.here(at, size) || this.read(at, size);

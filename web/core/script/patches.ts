@@ -83,56 +83,70 @@ class PatchedSectors {
         return (block - this.base) * SECTOR_SIZE;
     }
 
-    /** The blocks of the image that the i-th of the patches that are left touches. A patch that begins before the image touches none. */
-    blocksOf(job: ScriptJob, i: number) {
-        const [block, after] = this.calls.jobBlocks(job, i);
-        const first = Math.min(Math.max(block, this.base), this.end);
-        return [first, block < this.base ? first : Math.min(after, this.end)];
+    /** A block, or the first or the last place of the image if it is outside. */
+    within(block: number) {
+        return Math.min(Math.max(block, this.base), this.end);
     }
 
-    /**
-     * Passes on the image up to a block, from which on sectors stay.
-     * @param to the place up to which it is passed on if no sector stays
-     */
-    *passOn(block: number, to: number = this.placeOf(block)): Generator<Step> {
-        const sent = Math.min(block - this.first, this.held);
-        const size = sent * SECTOR_SIZE;
-        if (sent > 0) yield { kind: 'write', at: this.placeOf(this.first), size, place: this.place };
-        this.calls.memory.copyWithin(this.place, this.place + size, this.place + this.held * SECTOR_SIZE);
-        this.first += sent;
-        this.held -= sent;
-        if (this.held > 0) return;
-        const at = this.placeOf(this.first);
-        if (at < to) yield { kind: 'copy', at, size: to - at };
+    /** The step that passes on the sectors before a block, or null if there are none. */
+    written(block: number): Step | null {
+        const size = this.placeOf(Math.min(block, this.first + this.held)) - this.placeOf(this.first);
+        return size > 0 ? { kind: 'write', at: this.placeOf(this.first), size, place: this.place } : null;
+    }
+
+    /** The step that passes on the image between the sectors and a later place, or null if nothing is between them. */
+    copied(to: number): Step | null {
+        const at = this.placeOf(this.first + this.held);
+        return to > at ? { kind: 'copy', at, size: to - at } : null;
+    }
+
+    /** Gives up the sectors before a block. */
+    moveTo(block: number) {
+        const place = this.place + this.placeOf(block) - this.placeOf(this.first);
+        const end = this.place + this.held * SECTOR_SIZE;
+        if (place < end) this.calls.memory.copyWithin(this.place, place, end);
+        this.held = Math.max(this.first + this.held - block, 0);
         this.first = block;
     }
 
-    /** Reads the sectors that the next patches touch, up to the first patch that touches sectors elsewhere. */
-    *fill(job: ScriptJob): Generator<Step> {
+    /** The step that reads the sectors that the next patches touch, up to the first patch that touches sectors elsewhere. */
+    missing(job: ScriptJob): Step {
+        const from = this.first + this.held;
+        let last = from;
         for (let i = 0; i < job.left; i++) {
-            const [from, end] = this.blocksOf(job, i);
-            const last = this.first + this.held;
-            if (from > last || end - this.first > PATCHED_AT_ONCE) return;
-            if (end <= last) continue;
-            const place = this.place + this.held * SECTOR_SIZE;
-            yield { kind: 'read', at: this.placeOf(last), size: (end - last) * SECTOR_SIZE, place };
-            this.held = end - this.first;
+            const block = this.calls.jobBlock(job, i);
+            // A patch that begins before the image touches no sector.
+            const end = block < this.base ? last : this.within(block + this.calls.jobBlocksMet(job, i));
+            if (this.within(block) > last || end - this.first > PATCHED_AT_ONCE) break;
+            last = Math.max(last, end);
         }
+        this.held = last - this.first;
+        return { kind: 'read', at: this.placeOf(from), size: (last - from) * SECTOR_SIZE,
+            place: this.place + (from - this.first) * SECTOR_SIZE };
     }
 
-    /** Applies the patches of a script. Some are left if the image is too long for them. */
-    *apply(job: ScriptJob, script: ScriptText): Generator<Step> {
-        for (let left = -1; job.left > 0 && job.left !== left;) {
-            left = job.left;
-            yield* this.passOn(this.blocksOf(job, 0)[0]);
-            yield* this.fill(job);
-            do {
-                const isLast = this.first + this.held === this.end && !this.isTooLong;
-                const answers = this.calls.jobApply(job, this.place, this.held, this.first, isLast);
-                if (script.numberOf) for (const it of answers) it.number = script.numberOf(it.number);
-                yield { kind: 'log', answers };
-            } while (job.stop === STOP.CAPACITY);
-        }
+    /** Applies the next patches. The image ends with the sectors if it is not too long, and they are its last ones. */
+    apply(job: ScriptJob): Answer[] {
+        const isLast = this.first + this.held === this.end && !this.isTooLong;
+        return this.calls.jobApply(job, this.place, this.held, this.first, isLast);
+    }
+}
+
+/** The steps by which a script is applied. Some of its patches are left if the image is too long for them. */
+function* stepsOfPart(sectors: PatchedSectors, job: ScriptJob, script: ScriptText): Generator<Step> {
+    for (let left = -1; job.left > 0 && job.left !== left;) {
+        left = job.left;
+        const next = sectors.within(sectors.calls.jobBlock(job, 0));
+        const [write, copy] = [sectors.written(next), sectors.copied(sectors.placeOf(next))];
+        if (write !== null) yield write;
+        if (copy !== null) yield copy;
+        sectors.moveTo(next);
+        yield sectors.missing(job);
+        do {
+            const answers = sectors.apply(job);
+            if (script.numberOf) for (const it of answers) it.number = script.numberOf(it.number);
+            yield { kind: 'log', answers };
+        } while (job.stop === STOP.CAPACITY);
     }
 }
 
@@ -147,7 +161,7 @@ export function* stepsOf(calls: Calls, parts: Iterable<ScriptText>, base: number
         for (const part of parts) {
             const job = calls.jobBegin(part.pieces(), base, flags);
             try {
-                if (job.refusal === null) yield* sectors.apply(job, part);
+                if (job.refusal === null) yield* stepsOfPart(sectors, job, part);
                 else return yield { kind: 'fail', line: job.refusal };
                 isDone = job.left === 0;
             } finally {
@@ -155,7 +169,9 @@ export function* stepsOf(calls: Calls, parts: Iterable<ScriptText>, base: number
             }
             if (!isDone) break;
         }
-        if (isDone) yield* sectors.passOn(sectors.end, sectors.isTooLong ? sectors.placeOf(sectors.end) : size);
+        const [write, copy] = [sectors.written(sectors.end), sectors.copied(sectors.isTooLong ? sectors.placeOf(sectors.end) : size)];
+        if (isDone && write !== null) yield write;
+        if (isDone && copy !== null) yield copy;
         if (!isDone || sectors.isTooLong) yield { kind: 'fail', line: calls.failureLine(FAILURE.LONG_IMAGE) };
     } finally {
         calls.giveBack(sectors.place);
@@ -213,8 +229,12 @@ export async function passPatched(calls: Calls, reader: Reader, script: ReadScri
     let failure: Uint8Array | null = null;
     for (const step of steps) {
         if (step.kind === 'read') {
-            const bytes = ahead.here(step.at, step.size) || await ahead.read(step.at, step.size);
-            calls.memory.set(bytes, step.place);
+            for (let done = 0; done < step.size;) {
+                const at = step.at + done;
+                const bytes = ahead.units(at, step.size - done, SECTOR_SIZE) || await ahead.read(at, SECTOR_SIZE);
+                calls.memory.set(bytes, step.place + done);
+                done += bytes.length;
+            }
         } else if (step.kind === 'log') log.add(step.answers);
         else if (step.kind === 'fail') failure = step.line;
         else if (out !== null) {
