@@ -1,9 +1,9 @@
 /** libcdpatch: the codes of CD-ROM sectors (ECMA-130), what cdpatch finds in
  * sectors, and scripts of patches. cc .. -lcdpatch; libcdpatch(3). The results
- * and the output of each libcdpatch call are proved for Linux on x86-64,
- * except whether cdpatch_correct_sector corrects more than light damage; the
- * header and the linking are only tested. Sectors of Mode 2 are recognised, but
- * none of their codes.
+ * of each libcdpatch call are proved for Linux on x86-64, except whether
+ * cdpatch_correct_sector corrects more than light damage; the header and the
+ * linking are only tested, and no proof covers the program that reads, writes,
+ * and prints. Sectors of Mode 2 are recognised, but none of their codes.
  *
  * The simplest program patches an image in memory:
  *
@@ -39,9 +39,10 @@
  * A sector is 2352 bytes. An address is three: minute, second, and frame in
  * BCD. Memory may hold any bytes, and a number may have any value. Each
  * pointer must be valid for the size given here, and may be null only if the
- * size is 0. What a call writes must not overlap its other arguments. Text is
- * written to the first bytes of its buffer; the other bytes do not change.
- * `spare` fields are for later releases: set those that a call reads to 0.
+ * size is 0. The bytes that a call writes must not overlap its other arguments.
+ * Text is written to the first bytes of its buffer; the other bytes do not
+ * change. `spare` fields are for later releases: set those that a call reads
+ * to 0.
  *
  * Nothing is kept between calls, so threads may make calls at the same time.
  * No other thread may access memory that a call writes. No call allocates
@@ -92,7 +93,7 @@ extern "C" {
  * second, plus its third. */
 #define CDPATCH_VERSION_NUMBER 20000
 
-/** Sizes, in bytes unless another unit is named, and limits. */
+/** Sizes and limits. Sizes are in bytes. */
 enum {
     CDPATCH_SECTOR_SIZE = 2352,    /**< A sector. */
     CDPATCH_USER_SIZE = 2048,      /**< The user data of a Mode 1 sector. */
@@ -100,15 +101,16 @@ enum {
     CDPATCH_PATCH_SIZE = 4096,     /**< The longest patch. */
     CDPATCH_LINE_SIZE = 96,        /**< Room for any line of text. */
     CDPATCH_DIGEST_SIZE = 20,      /**< A SHA-1. */
-    CDPATCH_SECTORS_IN_HAND = 3,   /**< The window of a run, in sectors. */
-    CDPATCH_COLUMNS = 86,          /**< The P columns of a sector. */
-    CDPATCH_DIAGONALS = 52,        /**< The Q diagonals of a sector. */
+    CDPATCH_COLUMNS = 86,          /**< How many P columns a sector has. */
+    CDPATCH_DIAGONALS = 52,        /**< How many Q diagonals a sector has. */
     CDPATCH_MOST_SECTORS = 1000000,         /**< The sectors of an image. */
-    CDPATCH_MOST_SCRIPT_BYTES = 67108864,   /**< A script. */
+    CDPATCH_MOST_SCRIPT_BYTES = 67108864,   /**< The bytes of a script. */
     CDPATCH_MOST_PATCHES = 65535,           /**< The patches of a script. */
-    CDPATCH_MOST_LOG_BYTES = 5243080,       /**< The log of any script. */
-    CDPATCH_MOST_AUDIT_BYTES = 40000100,    /**< The list or audit of any image:
-                                                 100, and 40 for a sector. */
+    CDPATCH_MOST_LOG_BYTES = 5243080,       /**< Room for the log of any
+                                                 script. */
+    CDPATCH_MOST_AUDIT_BYTES = 40000100,    /**< Room for the list or audit of
+                                                 any image: 100 bytes, and 40
+                                                 for each sector. */
     CDPATCH_LAST_BLOCK = 999999999, /**< The last block a patch may name. */
     CDPATCH_LAST_BASE = 449849      /**< The last block with an address, which
                                          is also the largest base. */
@@ -147,16 +149,16 @@ enum cdpatch_fit {
                               field is not. */
     CDPATCH_FIT_EDC      /**< The EDC field is the same. */
 };
-/** What a patch does. */
+/** The verbs of patches. */
 enum cdpatch_verb {
     CDPATCH_VERB_SET,     /**< Writes bytes. */
     CDPATCH_VERB_FILL,    /**< Writes one byte many times. */
     CDPATCH_VERB_REBUILD, /**< Recalculates the codes of a sector. */
     CDPATCH_VERB_ADDRESS  /**< Writes an address. */
 };
-/** What a line of a script has. Errors are 4 to 14 in every release. A later
- * release may add values above 255, for the head lines of later versions of
- * the language. */
+/** The content of a line of a script. Errors are 4 to 14 in every release. A
+ * later release may add values above 255, for the head lines of later versions
+ * of the language. */
 enum cdpatch_content {
     CDPATCH_CONTENT_NOTHING,      /**< It is blank or a comment. */
     CDPATCH_CONTENT_VERSION_1,    /**< The head line of version 1. */
@@ -175,7 +177,7 @@ enum cdpatch_content {
     CDPATCH_CONTENT_NO_MEMORY,    /**< Error of the program: no memory. */
     CDPATCH_CONTENT_NO_VERSION    /**< `version` is not a version. */
 };
-/** What cdpatch_index_script finds. */
+/** The results of cdpatch_index_script. */
 enum cdpatch_script {
     CDPATCH_SCRIPT_VALID,    /**< Each patch has an entry. */
     CDPATCH_SCRIPT_INVALID,  /**< A line has an error. */
@@ -187,7 +189,7 @@ enum cdpatch_script {
 enum cdpatch_stop {
     CDPATCH_STOP_ALL,      /**< All entries are done. */
     CDPATCH_STOP_PIECE,    /**< Its patch is for another piece. */
-    CDPATCH_STOP_CAPACITY, /**< No answer is left for it. */
+    CDPATCH_STOP_CAPACITY, /**< The answers are used up. */
     CDPATCH_STOP_ENTRY,    /**< It is not an entry of the script. */
     CDPATCH_STOP_VERSION,  /**< The version is not 1 or 2. */
     CDPATCH_STOP_BASE,     /**< The base is above 449849. */
@@ -201,20 +203,15 @@ enum cdpatch_failure {
     CDPATCH_FAILURE_READ,        /**< A read of the image failed. */
     CDPATCH_FAILURE_WRITE        /**< A write to the output failed. */
 };
-/** Flags of patches, whose sum a call gets. */
-enum cdpatch_run_flag {
+/** Flags, whose sum a call gets. */
+enum cdpatch_flag {
     CDPATCH_FLAG_CARRY = 1,      /**< Damaged sectors are patched, and keep
                                       their damage. */
-    CDPATCH_FLAG_NO_COPY = 2,    /**< Of a run: each sector is read and written,
-                                      and none copied. */
+    CDPATCH_FLAG_LAST = 2,       /**< The image ends with this piece. */
     CDPATCH_FLAG_WITHOUT_OLD = 4 /**< Old bytes are not compared. */
 };
-/** A further flag of a job. */
-enum cdpatch_job_flag {
-    CDPATCH_FLAG_LAST = 2 /**< The image ends with this piece. */
-};
 
-/** What is wrong with a sector. */
+/** The defect of a sector: what is wrong with it. */
 struct cdpatch_defect {
     bool zeros; /**< A byte of the Intermediate field is not 00. */
     bool edc;   /**< The EDC. */
@@ -274,7 +271,7 @@ struct cdpatch_entry {
     uint32_t blocks_met; /**< How many blocks it touches, 1 to 3. */
     uint32_t spare;
 };
-/** What a script has. */
+/** The patches of a script, or its error. */
 struct cdpatch_index {
     size_t count;     /**< The number of its patches; 0 if it is not valid. */
     uint32_t version; /**< Its version, 1 or 2; 0 if it is not valid. */
@@ -282,7 +279,7 @@ struct cdpatch_index {
     uint32_t line;    /**< The line of the error, else 0. */
     uint32_t spare[3];
 };
-/** What was done with a patch: the arguments of cdpatch_outcome_line. */
+/** The outcome of a patch: the arguments of cdpatch_outcome_line. */
 struct cdpatch_answer {
     uint32_t number; /**< Its line in the script. */
     uint32_t result; /**< An `enum cdpatch_result`. */
@@ -290,7 +287,7 @@ struct cdpatch_answer {
     uint32_t offset; /**< The user byte there that differs, else 0. */
     uint32_t spare[2];
 };
-/** Memory for the bytes of one patch. What it holds does not matter. */
+/** Memory for the bytes of one patch, which may hold anything. */
 struct cdpatch_patch_bytes {
     uint8_t new_bytes[CDPATCH_PATCH_SIZE];
     uint8_t old_bytes[CDPATCH_PATCH_SIZE];
@@ -315,59 +312,6 @@ struct cdpatch_named_base {
     uint32_t base;
     uint32_t spare;
 };
-
-/** Kinds of steps of a run. */
-enum cdpatch_step_kind {
-    CDPATCH_STEP_END,   /**< The run ends. */
-    CDPATCH_STEP_READ,  /**< Read from the image. */
-    CDPATCH_STEP_COPY,  /**< Copy from the image to the output. */
-    CDPATCH_STEP_WRITE, /**< Write to the output. */
-    CDPATCH_STEP_LOG    /**< Print a line. */
-};
-/** The next step of a run. It moves `size` bytes, which are at `at` in the
- * image and at `place` in the hand. `status` is that of CDPATCH_STEP_END.
- * `text` is a line of the log. For the line of a patch, `number` is the
- * patch's line in the script, `result` an `enum cdpatch_result`, and `block`
- * and `offset` are the place that refuses it. For any other line `number` is
- * 0. */
-struct cdpatch_step {
-    uint32_t kind;
-    uint32_t status;
-    uint32_t number;
-    uint32_t result;
-    uint32_t block;
-    uint32_t offset;
-    uint64_t at;
-    size_t place;
-    size_t size;
-    uint8_t text[CDPATCH_LINE_SIZE];
-};
-/** The state of a run. It holds no pointer, so it may be copied, stored, and
- * continued. */
-struct cdpatch_run {
-    uint64_t state[9];
-};
-/** Memory for the bytes of one patch of a run. */
-struct cdpatch_rooms {
-    uint8_t new_bytes[CDPATCH_PATCH_SIZE];
-    uint8_t old_bytes[CDPATCH_PATCH_SIZE];
-};
-/** Memory for cdpatch_check and cdpatch_apply: the hand of a run, and its
- * rooms. */
-struct cdpatch_buffers {
-    uint8_t hand[7056];
-    uint8_t new_bytes[CDPATCH_PATCH_SIZE];
-    uint8_t old_bytes[CDPATCH_PATCH_SIZE];
-};
-/** The size of an image that is not known before its end. */
-#define CDPATCH_UNKNOWN_SIZE UINT64_MAX
-/** Passed to cdpatch_run_next, in place of a number of bytes, if a step failed.
- */
-#define CDPATCH_MOVE_FAILED SIZE_MAX
-/** Returned by cdpatch_run_begin if it refuses its arguments. */
-#define CDPATCH_REFUSED SIZE_MAX
-/** Returned by cdpatch_run_begin for a script that is invalid or too long. */
-#define CDPATCH_INVALID (SIZE_MAX - 1)
 
 /** Returns the version of the library, as CDPATCH_VERSION_NUMBER. */
 uint32_t cdpatch_version(void);
@@ -615,21 +559,21 @@ CDPATCH_NODISCARD
 bool cdpatch_script_base(const uint8_t *script, size_t script_size,
                          uint32_t base,
                          struct cdpatch_named_base other[CDPATCH_AT_LEAST 1]);
-/** Applies patches of a script, in the order of their entries, to `count`
- * sectors in place, of which the first is block `job->first`. Writes an answer
- * for each to the first of `capacity` answers, and the number of entries that
- * were done to `done`. An accepted patch has changed the sectors that it
- * touches; a refused one has changed nothing. No other sector and no other
- * answer changes.
+/** Applies patches of a script, in the order of their entries, to a piece of
+ * `count` sectors in place. Its first sector is block `job->first`. Writes the
+ * answer for each patch to the first of `capacity` answers, and the number of
+ * entries that were done to `done`. An accepted patch has changed the sectors
+ * that it touches; a refused one has changed nothing. No other sector and no
+ * other answer changes.
  *
- * The call stops before an entry for one of these reasons, which it returns.
- * CDPATCH_STOP_PIECE: its patch touches a block before `job->first` or after
- * the piece, although the image may have that block: it is not below
- * `job->base`, and CDPATCH_FLAG_LAST is not set for a block after the piece.
- * CDPATCH_STOP_CAPACITY: there is no answer left; call again with the same
- * piece. CDPATCH_STOP_ENTRY: its line, read again, is no patch, or begins in
- * another block, so it is not from cdpatch_index_script, or the script has
- * changed. For the others, `done` becomes 0 and nothing else changes.
+ * Returns CDPATCH_STOP_ALL, or why it stopped before the next entry:
+ * CDPATCH_STOP_PIECE if the patch touches a block that the piece does not have
+ * and the image may have. The image has no block below `job->base`, and with
+ * CDPATCH_FLAG_LAST none after the piece. CDPATCH_STOP_CAPACITY if all answers
+ * are used: call again with the same piece. CDPATCH_STOP_ENTRY if the line of
+ * the entry, read again, is not a patch, or begins in another block: the entry
+ * is not from cdpatch_index_script, or the script has changed. For any other
+ * reason `done` becomes 0, and nothing else changes.
  *
  * Whatever numbers and bytes the arguments hold, the call returns and accesses
  * only this memory. Entries that the program has changed are read as they are:
@@ -699,7 +643,8 @@ enum cdpatch_result cdpatch_apply_patch(
  * @name Lines as the program prints them
  * Each is written with its line feed, and its length is returned, or 0 if the
  * program never prints such a line. This function prints an audit of an image
- * in memory, as `cdpatch audit` does, and returns its status:
+ * in memory (at most CDPATCH_MOST_SECTORS sectors and a tail), as
+ * `cdpatch audit` does, and returns its status:
  *
  *     int print_audit(const uint8_t *image, size_t size, uint32_t base) {
  *         uint32_t sectors = (uint32_t)(size / 2352), mode1 = 0, damaged = 0;
@@ -737,7 +682,8 @@ size_t cdpatch_fault_line(uint32_t number, uint32_t fault,
 /** The line before the program fails: for an `enum cdpatch_failure`. */
 size_t cdpatch_failure_line(uint32_t failure,
                             uint8_t text[CDPATCH_AT_LEAST 96]);
-/** The line of `list` for blocks of one `enum cdpatch_sector_kind`. */
+/** The line of `list` for a run of blocks of one `enum cdpatch_sector_kind`,
+ * which ends where the kind changes. */
 size_t cdpatch_list_line(uint32_t first, uint32_t last, uint32_t kind,
                          uint8_t text[CDPATCH_AT_LEAST 96]);
 /** The last line of `list`. */
@@ -763,103 +709,6 @@ void cdpatch_sha1_add(struct cdpatch_sha1 state[CDPATCH_AT_LEAST 1],
 /** Writes the digest of the bytes that were added. More may follow. */
 void cdpatch_sha1_end(const struct cdpatch_sha1 state[CDPATCH_AT_LEAST 1],
                       uint8_t digest[CDPATCH_AT_LEAST 20]);
-
-/** @}
- * @name A run of patches
- * Applies a script in steps: each says which bytes to read, copy, or write, or
- * which line to print. The calls of this group, and those on an image in
- * memory (below), will go before the release. Use cdpatch_index_script and
- * cdpatch_apply_entries.
- * @{ */
-
-/** Begins a run over an image of `image_size` bytes, or CDPATCH_UNKNOWN_SIZE,
- * whose first sector is block `base`. `flags` is 0 or a sum of flags. Reads
- * the whole script, writes an entry for each patch to the first of `room`
- * entries, and returns their number. If there are more than `room`, nothing
- * was begun: call again with that many, or with an entry for each line of the
- * script, which is enough for any. For an invalid or too long script returns
- * CDPATCH_INVALID, and the first step is the line that says why. For a base
- * above 449849 or other flags returns CDPATCH_REFUSED and writes no entry. */
-size_t cdpatch_run_begin(struct cdpatch_run run[CDPATCH_AT_LEAST 1],
-                         const uint8_t *script, size_t script_size,
-                         uint32_t base, uint64_t image_size, uint32_t flags,
-                         struct cdpatch_entry *entries, size_t room);
-/** Tells the run that `done` bytes of the last step were moved (0 at first),
- * and writes the next step, which moves `size` bytes: READ from the image to
- * `place` in the hand, COPY from the image to the output, WRITE from `place`
- * in the hand to the output, or LOG from `text`. The last step is END with a
- * status. Fewer bytes may be read or copied only if the image ends there. If
- * its size is known, that ends the run with CDPATCH_STATUS_FAILED and the line
- * `cdpatch: reading the image failed`.
- *
- * The script and the entries are those of cdpatch_run_begin. `hand` is a
- * buffer of at least three `sectors`; today only three are used. Its bytes
- * must be kept between calls; those of `rooms` need not be. Whatever bytes
- * these buffers contain, the call returns. It writes END with
- * CDPATCH_STATUS_FAILED if there are fewer than three sectors, if more bytes
- * were moved than requested, or if fewer were written or logged. After END
- * make no more calls: what they write has no meaning. The same is true of a
- * state that is not from cdpatch_run_begin: with zeros, the run may log
- * `applied 0 refused 0` and end with CDPATCH_STATUS_DONE. */
-void cdpatch_run_next(struct cdpatch_run run[CDPATCH_AT_LEAST 1], size_t done,
-                      const uint8_t *script, size_t script_size,
-                      const struct cdpatch_entry *entries, size_t room,
-                      uint8_t *hand, size_t sectors,
-                      struct cdpatch_rooms rooms[CDPATCH_AT_LEAST 1],
-                      struct cdpatch_step step[CDPATCH_AT_LEAST 1]);
-
-/** @}
- * @name Commands on an image in memory
- * An image is `size` bytes, such as a mapped file, whose first sector is block
- * `base`. Each call does the same as the command of that name (cdpatch(1)),
- * and returns its exit status. The text that the command prints has `*length`
- * bytes.
- *
- * CDPATCH_STATUS_FAILED has three causes. After an error the last line says
- * why; it is `cdpatch: writing the output failed` if `out` is too small. If
- * the text is longer than `room`, its beginning fills the room, and the size
- * that it needs is not returned. If the base is above 449849, nothing is
- * written, and `*length` becomes 0; in cdpatch_check and cdpatch_apply also if
- * the flags are not a sum of flags, or if `most`, the number of entries, is
- * less than the number of the script's patches. An entry for each line of the
- * script is enough, and so are CDPATCH_MOST_PATCHES. What entries and buffers
- * hold before does not matter.
- *
- * Enough room for cdpatch_list and cdpatch_audit is 100 bytes and 40 for each
- * sector. For a log it is 200 bytes and 80 for each line of the script, or
- * 5243080 for any script.
- * @{ */
-
-/** Prints the runs of sectors of one kind. */
-CDPATCH_NODISCARD
-enum cdpatch_status cdpatch_list(const uint8_t *image, size_t size,
-                                 uint32_t base, uint8_t *text, size_t room,
-                                 size_t length[CDPATCH_AT_LEAST 1]);
-/** Prints what is wrong with Mode 1 sectors. */
-CDPATCH_NODISCARD
-enum cdpatch_status cdpatch_audit(const uint8_t *image, size_t size,
-                                  uint32_t base, uint8_t *text, size_t room,
-                                  size_t length[CDPATCH_AT_LEAST 1]);
-/** Prints what cdpatch_apply would do with each patch of a script. */
-CDPATCH_NODISCARD
-enum cdpatch_status cdpatch_check(
-    const uint8_t *image, size_t size, const uint8_t *script,
-    size_t script_size, uint32_t base, uint32_t flags,
-    struct cdpatch_entry *entries, size_t most,
-    struct cdpatch_buffers buffers[CDPATCH_AT_LEAST 1], uint8_t *log,
-    size_t room, size_t length[CDPATCH_AT_LEAST 1]);
-/** Writes the patched image to the first `size` bytes of `out`, and prints what
- * was done with each patch. After CDPATCH_STATUS_FAILED `out` begins with a
- * prefix of the patched image, perhaps an empty one. Its other bytes do not
- * change. */
-CDPATCH_NODISCARD
-enum cdpatch_status cdpatch_apply(
-    const uint8_t *image, size_t size, const uint8_t *script,
-    size_t script_size, uint32_t base, uint32_t flags,
-    struct cdpatch_entry *entries, size_t most,
-    struct cdpatch_buffers buffers[CDPATCH_AT_LEAST 1], uint8_t *out,
-    size_t out_size, uint8_t *log, size_t room,
-    size_t length[CDPATCH_AT_LEAST 1]);
 
 /** @} */
 

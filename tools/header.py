@@ -20,7 +20,6 @@ from typing import NamedTuple
 TOP = Path(__file__).resolve().parent.parent
 MADE = 'made by tools/header.py'
 SIZES = {'void *': 8, 'bool': 1, 'uint8_t': 1, 'uint16_t': 2, 'uint32_t': 4, 'uint64_t': 8, 'size_t': 8}
-LETTERS = {'bool': '?', 'uint8_t': 'B', 'uint16_t': 'H', 'uint32_t': 'I', 'uint64_t': 'Q', 'size_t': 'N'}
 LONGEST_LINE = 140
 PAGES = ('man/cdpatch.1', 'man/libcdpatch.3')
 LONGEST_PAGE_LINE = 76
@@ -122,8 +121,6 @@ def python(header: Header) -> str:
     for name, (fields, _) in header.structs.items():
         lines += ['', '', f'class {camel(name)}Struct(ctypes.Structure):', f'    """`struct cdpatch_{name}`."""']
         lines.append(wrapped('    _fields_ = [', [f"('{field.name}', {python_type(field)})" for field in fields], ']'))
-    step = [LETTERS[field.kind] for field in header.structs['step'][0] if not field.items]
-    lines += ['', '', '# The fields of a step before its text, for the module struct.', f"STEP_FORMAT = '@{''.join(step)}'"]
     return '\n'.join(lines) + '\n'
 
 

@@ -27,9 +27,6 @@ LINES = {'.rt': '//[/!]', '.antt': '--', '.js': '//', '.ts': '//', '.mjs': '//',
 C_COMMENT = r'/\*', r'\*/'
 ENDS = {'.py': ('"""', '"""'), '.c': C_COMMENT, '.h': C_COMMENT, '.css': C_COMMENT, '.map': C_COMMENT}
 
-# Files and definitions without a description until their crate is changed for another reason: a comment costs a proof of the crates above.
-UNSAID = {'crates/cd_c/specs/State.antt', 'crates/cd_c_scripts/specs/NumberLaws.antt: FaultsHaveNumbers'}
-
 # Directories without a table of files: built files, data, and the crates, whose files have their own tables.
 NO_TABLE = {'crates', 'docs', 'man', 'completions', 'library', 'node_modules', 'out', 'wrong', 'wrong_programs', '__pycache__', 'dist'}
 
@@ -48,10 +45,8 @@ def cell(text: str) -> str:
 
 
 def said(what: str, words: str) -> str:
-    """A description, which must exist, unless it is listed in UNSAID, where it must not."""
-    if bool(words) == (what in UNSAID):
-        sys.exit(f'{what} says what it is, and stands in UNSAID' if words else f'{what} does not say what it is')
-    return words
+    """A description, which must exist."""
+    return words or sys.exit(f'{what} does not say what it is')
 
 
 def about(path: Path) -> str:

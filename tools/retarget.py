@@ -87,9 +87,9 @@ MODULE = [
     Edit('a byte and a pointer', re.compile(r'(%\S+) = load { i8, ptr }, ptr (%\S+), align \d+'),
          r'\1.byte = load i8, ptr \2, align 8\n  \1.place = getelementptr i8, ptr \2, i64 8\n  \1.pointer = load ptr, ptr \1.place, align 8\n'
          r'  \1.half = insertvalue { i8, ptr } poison, i8 \1.byte, 0\n  \1 = insertvalue { i8, ptr } \1.half, ptr \1.pointer, 1',
-         {'cd_c': 3, 'cd_c_scripts': 7}),
+         {'cd_c': 3, 'cd_c_scripts': 4}),
     # The first must have the width of an address, and the second extends it.
-    Edit('the number of an address', 'ptrtoaddr ptr', 'ptrtoint ptr', {'cd_c': 2, 'cd_c_scripts': 4}),
+    Edit('the number of an address', 'ptrtoaddr ptr', 'ptrtoint ptr', {'cd_c': 2, 'cd_c_scripts': 2}),
 ]
 
 EDITS = {'windows': WINDOWS, 'arm64': ARM64, 'wasm': MODULE}

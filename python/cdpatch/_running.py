@@ -9,8 +9,8 @@ from typing import TYPE_CHECKING, Callable, List, NoReturn, Optional, Tuple
 from ._errors import Failed, text_of
 from ._library import library
 from ._memory import Held
-from ._numbers import (LINE_SIZE, MOST_PATCHES, MOST_SCRIPT_BYTES, AnswerStruct, EntryStruct, Failure, IndexStruct, JobFlag,
-                       JobStruct, NamedBaseStruct, PatchBytesStruct, Result, RunFlag, Script, Stop)
+from ._numbers import (LINE_SIZE, MOST_PATCHES, MOST_SCRIPT_BYTES, AnswerStruct, EntryStruct, Failure, Flag, IndexStruct,
+                       JobStruct, NamedBaseStruct, PatchBytesStruct, Result, Script, Stop)
 from ._reports import Outcome, Report, checked_base
 
 if TYPE_CHECKING:
@@ -47,7 +47,7 @@ class Job:
         self._line = ctypes.create_string_buffer(LINE_SIZE)
         self._entries, count, version = self._indexed()
         self._blocks = [*_BLOCKS.iter_unpack(memoryview(self._entries)[:count * _ENTRY_SIZE])]
-        self._flags = RunFlag.CARRY if carry else 0
+        self._flags = Flag.CARRY if carry else 0
         self._patch_bytes = PatchBytesStruct()
         self._answers = ctypes.create_string_buffer(_MOST_ANSWERS * ctypes.sizeof(AnswerStruct))
         self._done = ctypes.c_size_t()
@@ -102,7 +102,7 @@ class Job:
         """Applies the patches that fit to `count` sectors at an address in memory, of which the first is block `first`, and prints their
         outcomes. `is_last`: whether the image ends with these sectors."""
         job, done, answers = self._job, self._done, memoryview(self._answers)
-        job.first, job.flags = first, self._flags | (JobFlag.LAST if is_last else 0)
+        job.first, job.flags = first, self._flags | (Flag.LAST if is_last else 0)
         stop = _CAPACITY
         while stop == _CAPACITY:
             stop = library.cdpatch_apply_entries(ctypes.byref(job), place, count, self._answers, _MOST_ANSWERS, ctypes.byref(done))

@@ -21,7 +21,7 @@ from sector import COLUMNS, DIAGONALS, SIZE, address_of, edc_bytes, parity, powe
 TESTS = Path(__file__).resolve().parent.parent
 sys.path.append(str(TESTS / 'library'))
 import by_lines  # noqa: E402
-import commands  # noqa: E402
+import in_pieces  # noqa: E402
 
 TIME = 300  # seconds, more than any command needs
 PATCHING = ('check', 'apply')  # the commands of cdpatch that cdscript has too
@@ -105,27 +105,27 @@ class Coat(Commands):
 
 
 class Library(Coat):
-    """A shared library: the calls of cdpatch.h on images, and those for values."""
+    """A shared library: the calls of cdpatch.h on sectors and pieces of images, and those for values."""
     name = 'the library'
     values = ('edc', 'address', 'changes')
-    commands = commands
+    commands = in_pieces
 
     def made(self, *given):
         return self.commands.run(self.path, *given)
 
     def edc(self, digits):
-        word = commands.opened(self.path).cdpatch_edc(listed(digits), ctypes.c_size_t(len(listed(digits))))
+        word = in_pieces.opened(self.path).cdpatch_edc(listed(digits), ctypes.c_size_t(len(listed(digits))))
         return (word % 2 ** 32).to_bytes(4, 'little').hex().upper()
 
     def address(self, block):
         made = ctypes.create_string_buffer(3)
-        has_one = commands.opened(self.path).cdpatch_address(ctypes.c_uint32(int(block)), made) & 255
+        has_one = in_pieces.opened(self.path).cdpatch_address(ctypes.c_uint32(int(block)), made) & 255
         return made.raw.hex() if has_one else 'None'
 
     def changes(self, place, amount):
         made = ctypes.create_string_buffer(SIZE)
         made[int(place)] = int(amount, 16)
-        commands.opened(self.path).cdpatch_fill_parity(made)
+        in_pieces.opened(self.path).cdpatch_fill_parity(made)
         return parity_of(made.raw)
 
 

@@ -2,28 +2,6 @@
 
 /** Extends a class of calls by a method for each of them. */
 export const withAllCalls = (Calls, sized) => class extends Calls {
-    /** What `cdpatch list` prints, sector by sector. */
-    list(image, base) {
-        const kinds = Array.from({ length: Math.floor(image.length / 2352) }, (_, i) => this.kind(image.subarray(i * 2352, (i + 1) * 2352)));
-        const lines = [];
-        for (let i = 0, first = 0; i < kinds.length; i++) {
-            if (kinds[i + 1] === kinds[i]) continue;
-            lines.push(this.listLine(base + first, base + i, kinds[i]));
-            first = i + 1;
-        }
-        return { status: 0, text: Buffer.concat([...lines, this.listEnd(kinds.length, image.length % 2352)]) };
-    }
-
-    /** What `cdpatch audit` prints, sector by sector. */
-    audit(image, base) {
-        const records = Array.from({ length: Math.floor(image.length / 2352) }, (_, i) =>
-            this.survey(image.subarray(i * 2352, (i + 1) * 2352), base + i));
-        const lines = records.map((record, i) => this.auditLine(base + i, record));
-        const [mode1, damaged] = [records.filter(([kind]) => kind === 2), records.filter(it => it.subarray(2).some(byte => byte > 0))];
-        const end = this.auditEnd(records.length, mode1.length, damaged.length, image.length % 2352);
-        return { status: Number(lines.some(line => line.length > 0)), text: Buffer.concat([...lines, end]) };
-    }
-
     /** A view of held bytes, without a copy. */
     held(from, to) {
         return this.memory.subarray(this.arena + this.within(from), this.arena + this.within(to));

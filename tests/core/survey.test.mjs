@@ -1,17 +1,25 @@
-// Surveys by ranges, compared with reports that are made sector by sector.
+// Surveys by ranges, compared with the reports of the program.
 
 import assert from 'node:assert/strict';
+import { spawnSync } from 'node:child_process';
+import { join } from 'node:path';
 import { test } from 'node:test';
-import { calls, core, decoded, diceOf, someImage, surveyed } from './common.mjs';
+import { calls, core, decoded, diceOf, someImage, surveyed, top } from './common.mjs';
 
 const { SECTOR_KIND } = await core('module/records.js');
 const { auditText, findingOf, isDamaged, isSound, kindRuns, listText, surveyCounts } = await core('sectors/survey.js');
 
+/** What the program prints about an image, and its status. */
+function reported(command, image, base) {
+    const { stdout, status } = spawnSync(process.env.PROGRAM ?? join(top, 'cdpatch'), [command, '--base', String(base), '-'],
+        { input: image, maxBuffer: 1 << 24, encoding: 'latin1' });
+    return { text: stdout, status };
+}
+
 function agrees(image, base, step) {
     const [survey, tail] = [surveyed(image, base, step), image.length % 2352];
-    for (const [came, due] of [[listText(calls, survey, tail), calls.list(image, base)], [auditText(calls, survey, tail), calls.audit(image, base)]]) {
-        assert.equal(decoded(came.text), decoded(due.text));
-        assert.equal(came.status, due.status);
+    for (const [command, { text, status }] of Object.entries({ list: listText(calls, survey, tail), audit: auditText(calls, survey, tail) })) {
+        assert.deepEqual({ text: decoded(text), status }, reported(command, image, base));
     }
 }
 
@@ -24,7 +32,7 @@ test('small images, without findings too', () => {
     const user = new Uint8Array(2048);
     const good = Buffer.concat([0, 1, 2].map(block => calls.encode(calls.address(block), user)));
     for (const image of [new Uint8Array(0), new Uint8Array(5), new Uint8Array(2352), good, good.subarray(0, 2352 * 2 + 2351)]) agrees(image, 0, 2);
-    assert.equal(calls.audit(good, 0).status, 0);
+    assert.equal(auditText(calls, surveyed(good, 0, 2), 0).status, 0);
 });
 
 test('an image whose last blocks have no address', () => {

@@ -3,7 +3,7 @@
 #define _DEFAULT_SOURCE
 /* Calls are measured, and their results are not used. */
 #define CDPATCH_NODISCARD
-#include "lent.h"
+#include <cdpatch.h>
 #include <signal.h>
 #include <stdio.h>
 #include <stdlib.h>
@@ -15,8 +15,9 @@ static uint8_t address[3] = {0x00, 0x02, 0x00}, user[CDPATCH_USER_SIZE], sector[
 enum { SECTORS = 16 };
 static const uint8_t script[] = "cdpatch 1\nset 7 5 41\n";
 static const uint8_t all_verbs[] = "cdpatch 2\nset 0 2047 4142 was 0000\nfill 1 7 4096 FF\nrebuild 2\naddress 3 00:02:03\nset 99 0 41\n";
-static uint8_t image[SECTORS * CDPATCH_SECTOR_SIZE], out[sizeof image], text[SECTORS * 40 + 300];
-static size_t length;
+static const uint8_t many[] = "cdpatch 1\nset 7 5 41\nset 6 5 41\nset 1 5 41\nset 9 5 41\nset 7 6 41\nset 0 5 41\nset 3 5 41\nset 5 5 41\nset 2 5 41\n"
+                              "set 4 5 41\nset 8 5 41\nset 5 6 41\nset 6 6 41\nset 1 6 41\nset 0 6 41\nset 2 6 41\n";
+static uint8_t image[SECTORS * CDPATCH_SECTOR_SIZE], text[CDPATCH_LINE_SIZE];
 
 /* Each round uses different bytes, so that nothing is moved out of the loop. */
 static void version(uint8_t n) { user[n] = (uint8_t)cdpatch_version(); }
@@ -40,20 +41,6 @@ static void carry_user_8(uint8_t n) { memset(user, n, 8); cdpatch_carry_user(sec
 static void carry_user_2048(uint8_t n) { user[0] = n; cdpatch_carry_user(sector, 0, user, CDPATCH_USER_SIZE); }
 static void change_address(uint8_t n) { address[2] = n; cdpatch_change_address(sector, address); }
 static void carry_address(uint8_t n) { address[2] = n; cdpatch_carry_address(sector, address); }
-static void list_16(uint8_t n) { cdpatch_list(image, sizeof image, n, text, sizeof text, &length); }
-static void audit_16(uint8_t n) { text[n] = 0; cdpatch_audit(image, sizeof image, 0, text, sizeof text, &length); }
-static void check_16(uint8_t n) {
-    cdpatch_check(image, sizeof image, script, sizeof script - 1, 0, n % 2, LENT, text, sizeof text, &length);
-}
-static void apply_16(uint8_t n) {
-    cdpatch_apply(image, sizeof image, script, sizeof script - 1, 0, n % 2, LENT, out, sizeof out, text, sizeof text, &length);
-}
-static void check_all_verbs(uint8_t n) {
-    cdpatch_check(image, sizeof image, all_verbs, sizeof all_verbs - 1, 0, n % 2, LENT, text, sizeof text, &length);
-}
-static void apply_all_verbs(uint8_t n) {
-    cdpatch_apply(image, sizeof image, all_verbs, sizeof all_verbs - 1, 0, n % 2, LENT, out, sizeof out, text, sizeof text, &length);
-}
 
 /* Lines of a script whose first digit changes, and their patches. */
 static struct cdpatch_patch patch;
@@ -125,48 +112,8 @@ static void sha1_begin(uint8_t n) { hashed.count = n; cdpatch_sha1_begin(&hashed
 static void sha1_2352(uint8_t n) { sector[20] = n; cdpatch_sha1_add(&hashed, sector, sizeof sector); }
 static void sha1_end(uint8_t n) { hashed.count = n; cdpatch_sha1_end(&hashed, text); }
 
-/* A run of that script up to each of its steps: a copy, a read sector, the line of the patch, the written sector, another copy, the last
- * line, and the end. */
-enum { STEPS = 7 };
-static struct cdpatch_run run, states[STEPS];
-static size_t moved[STEPS + 1];
-static struct cdpatch_step step;
-static struct cdpatch_rooms rooms;
-static struct cdpatch_entry entries[SECTORS];
-static uint8_t hand[CDPATCH_SECTORS_IN_HAND * CDPATCH_SECTOR_SIZE];
-static const uint8_t many[] = "cdpatch 1\nset 7 5 41\nset 6 5 41\nset 1 5 41\nset 9 5 41\nset 7 6 41\nset 0 5 41\nset 3 5 41\nset 5 5 41\nset 2 5 41\n"
-                              "set 4 5 41\nset 8 5 41\nset 5 6 41\nset 6 6 41\nset 1 6 41\nset 0 6 41\nset 2 6 41\n";
-
-static void next_step(size_t i) {
-    cdpatch_run_next(&run, moved[i], script, sizeof script - 1, entries, SECTORS, hand, CDPATCH_SECTORS_IN_HAND, &rooms, &step);
-}
-static void begin_run(const uint8_t *text, size_t size, uint8_t n) {
-    cdpatch_run_begin(&run, text, size, 0, sizeof image, n % 2, entries, SECTORS);
-}
-static void walk_to_each_step(void) {
-    begin_run(script, sizeof script - 1, 0);
-    for (size_t i = 0; i < STEPS; i++) {
-        states[i] = run;
-        next_step(i);
-        moved[i + 1] = step.size;
-        if (step.kind == CDPATCH_STEP_READ)
-            memcpy(hand, image + step.at, step.size);
-    }
-}
-static void step_again(size_t i) {
-    run = states[i];
-    next_step(i);
-}
-static void run_begin_1(uint8_t n) { begin_run(script, sizeof script - 1, n); }
-static void run_begin_16(uint8_t n) { begin_run(many, sizeof many - 1, n); }
-static void run_copy(uint8_t n) { text[0] = n; step_again(0); }
-static void run_read(uint8_t n) { text[0] = n; step_again(1); }
-static void run_log(uint8_t n) { text[0] = n; step_again(2); }
-static void run_write(uint8_t n) { text[0] = n; step_again(3); }
-static void run_last_line(uint8_t n) { text[0] = n; step_again(5); }
-static void run_end(uint8_t n) { text[0] = n; step_again(6); }
-
 /* The scripts of one and of 16 patches on the whole image, and on a piece that ends before the first patch. */
+static struct cdpatch_entry entries[SECTORS];
 static struct cdpatch_index index_found;
 static struct cdpatch_patch_bytes patch_bytes;
 static struct cdpatch_answer answers[SECTORS];
@@ -185,6 +132,10 @@ static void entries_1(uint8_t n) {
 static void entries_16(uint8_t n) {
     index_script(many, sizeof many - 1);
     apply_entries(many, sizeof many - 1, SECTORS, n % 2 + CDPATCH_FLAG_LAST);
+}
+static void entries_all_verbs(uint8_t n) {
+    index_script(all_verbs, sizeof all_verbs - 1);
+    apply_entries(all_verbs, sizeof all_verbs - 1, SECTORS, n % 2 + CDPATCH_FLAG_LAST);
 }
 static void entries_none(uint8_t n) {
     index_script(script, sizeof script - 1);
@@ -221,13 +172,10 @@ static const struct row { const char *name; void (*round)(uint8_t n); const char
     {"patch_address", patch_address, "apply_patch"}, {"outcome_line", outcome_line, "outcome_line"}, {"last_line", last_line, "last_line"},
     {"failure_line", failure_line, "failure_line"}, {"block", block_of, "block"}, {"script_base", script_base, "script_base"},
     {"index_16", index_16, "index_script"}, {"entries_1", entries_1, "apply_entries"}, {"entries_16", entries_16, "apply_entries"},
-    {"entries_none", entries_none, "apply_entries"},
-    {"run_begin_1", run_begin_1, "run_begin"}, {"run_begin_16", run_begin_16, "run_begin"}, {"run_copy", run_copy, "run_next"},
-    {"run_read", run_read, "run_next"}, {"run_log", run_log, "run_next"}, {"run_write", run_write, "run_next"},
-    {"run_last_line", run_last_line, "run_next"}, {"run_end", run_end, "run_next"}, {"fault_line", fault_line, "fault_line"}, {"list_line", list_line, "list_line"},
-    {"list_end", list_end, "list_end"}, {"audit_line", audit_line, "audit_line"}, {"audit_end", audit_end, "audit_end"}, {"sha1_begin", sha1_begin, "sha1_begin"}, {"sha1_2352", sha1_2352, "sha1_add"},
-    {"sha1_end", sha1_end, "sha1_end"}, {"list_16", list_16, "list"}, {"audit_16", audit_16, "audit"}, {"check_16", check_16, "check"},
-    {"check_all_verbs", check_all_verbs, "check"}, {"apply_16", apply_16, "apply"}, {"apply_all_verbs", apply_all_verbs, "apply"},
+    {"entries_all_verbs", entries_all_verbs, "apply_entries"}, {"entries_none", entries_none, "apply_entries"},
+    {"fault_line", fault_line, "fault_line"}, {"list_line", list_line, "list_line"}, {"list_end", list_end, "list_end"},
+    {"audit_line", audit_line, "audit_line"}, {"audit_end", audit_end, "audit_end"}, {"sha1_begin", sha1_begin, "sha1_begin"},
+    {"sha1_2352", sha1_2352, "sha1_add"}, {"sha1_end", sha1_end, "sha1_end"},
 };
 enum { ROWS = sizeof rows / sizeof *rows };
 
@@ -272,7 +220,6 @@ int main(int count, char **arguments) {
     memset(spaces, ' ', sizeof spaces - 1);
     memcpy(longest, "set 0 5 ", 8);
     cdpatch_sha1_begin(&hashed);
-    walk_to_each_step();
     if (count == 2)
         print_stacks();
     for (size_t i = 0; i < ROWS && count != 2; i++) {

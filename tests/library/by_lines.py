@@ -1,5 +1,4 @@
-"""Builds the commands of the program from the calls of a shared libcdpatch for lines, patches, sectors, and lines of the log, without the
-calls for whole images."""
+"""Builds the commands of the program from the calls of a shared libcdpatch for lines, patches, sectors, and lines of the log."""
 
 import ctypes
 from functools import lru_cache

@@ -26,7 +26,7 @@ test_printed_program() {
 }
 
 # printed_audit HEADER: prints the function that audits an image in memory.
-printed_audit() { sed -n '/does, and returns its status:$/,/^ \* @{ \*\/$/s/^ \* \{5\}//p' "$1"; }
+printed_audit() { sed -n '/audit` does, and returns its status:$/,/^ \* @{ \*\/$/s/^ \* \{5\}//p' "$1"; }
 
 # audits_as_program IMAGE: whether that function has the output and the status of `cdpatch audit`.
 audits_as_program() {
@@ -99,7 +99,7 @@ test_forgotten_results() {
         compiler=(gcc "-std=$language")
         [ "$language" = c99 ] || compiler=(g++ -x c++ "-std=$language")
         for call in 'cdpatch_change_user(bytes, 2047, bytes + 2352, 2)' 'cdpatch_rebuild(bytes)' \
-            'cdpatch_survey(bytes, 1, 0, (struct cdpatch_record *)bytes, 2)' 'cdpatch_list(bytes, 0, 0, bytes, 0, &length)' \
+            'cdpatch_survey(bytes, 1, 0, (struct cdpatch_record *)bytes, 2)' \
             'cdpatch_index_script(bytes, 1, NULL, 0, (struct cdpatch_index *)bytes)' \
             'cdpatch_script_base(bytes, 1, 0, (struct cdpatch_named_base *)bytes)' \
             'cdpatch_apply_entries((struct cdpatch_job *)bytes, bytes, 1, NULL, 0, &length)'; do

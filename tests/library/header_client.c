@@ -66,19 +66,38 @@ static int differs(const char *what, size_t at) {
     return 1;
 }
 
+/* Applies the script to the whole image in `out`, and returns the number of answers in `answers`. */
+static size_t apply_to(char *out, struct cdpatch_answer *answers, size_t capacity) {
+    static struct cdpatch_entry entries[9];
+    static struct cdpatch_patch_bytes bytes;
+    struct cdpatch_index index;
+    size_t done = 0;
+    if (cdpatch_index_script((const uint8_t *)script, sizeof script - 1, entries, 9, &index) != CDPATCH_SCRIPT_VALID)
+        exit(9);
+    struct cdpatch_job job = {(const uint8_t *)script, sizeof script - 1, entries, index.count, &bytes, index.version, 0, 0, CDPATCH_FLAG_LAST, {0}};
+    if (cdpatch_apply_entries(&job, (uint8_t *)out, SECTORS, answers, capacity, &done) != CDPATCH_STOP_ALL)
+        exit(9);
+    return done;
+}
+
 static int try_faults(void) {
-    static uint8_t out[SIZE], log[10000];
-    static struct cdpatch_entry entries[CDPATCH_MOST_PATCHES];
-    static struct cdpatch_buffers buffers;
-    size_t length;
-    uint8_t user[2048] = {0}, address[3];
+    static char out[SIZE];
+    struct cdpatch_answer answers[9];
+    uint8_t user[2048] = {0}, address[3], line[CDPATCH_LINE_SIZE];
+    size_t length = 0;
     for (uint32_t block = 0; block < SECTORS && cdpatch_address(block, address); block++)
         cdpatch_encode(address, user, (uint8_t *)image.bytes + 2352 * block);
-    int due = (int)cdpatch_apply((const uint8_t *)image.bytes, SIZE, (const uint8_t *)script, sizeof script - 1, 0, 0, entries,
-                                 CDPATCH_MOST_PATCHES, &buffers, out, SIZE, log, sizeof log, &length);
-    if (status_of(NEVER, NEVER, NEVER) != due || made.at != SIZE || memcmp(out, made.bytes, SIZE) || logged.at != length ||
-        memcmp(log, logged.bytes, length)) {
-        puts("a client is not cdpatch_apply");
+    memcpy(out, image.bytes, SIZE);
+    size_t count = apply_to(out, answers, 9);
+    bool same = status_of(NEVER, NEVER, NEVER) == CDPATCH_STATUS_FOUND && made.at == SIZE && !memcmp(out, made.bytes, SIZE);
+    for (size_t i = 0; i < count; i++) {
+        size_t size = cdpatch_outcome_line(answers[i].number, answers[i].result, answers[i].block, (uint16_t)answers[i].offset, line);
+        same = same && !memcmp(logged.bytes + length, line, size);
+        length += size;
+    }
+    size_t size = cdpatch_last_line(3, 1, line);
+    if (!same || count != 4 || memcmp(logged.bytes + length, line, size) || logged.at != (length += size)) {
+        puts("the client gives another image or log than one piece");
         return 1;
     }
     for (size_t at = 0; at <= SIZE; at += at < SIZE - 300 ? 98 : 1)

@@ -1,8 +1,10 @@
-"""Applies a script to pieces of an image by the calls of a shared libcdpatch, as `cdpatch check` and `cdpatch apply` do."""
+"""Builds the commands of the program from the calls of a shared libcdpatch. `check` and `apply` pass pieces of the image."""
 
 import ctypes
 import struct
 from functools import lru_cache
+
+import by_lines
 
 SECTOR = 2352
 KEPT = b'\xA5'
@@ -14,6 +16,7 @@ CARRY, LAST = 1, 2
 VALID, INVALID, TOO_LONG = 0, 1, 2
 ALL, PIECE, CAPACITY = 0, 1, 2
 DONE, FOUND, FAILED = 0, 1, 2
+PIECES = 3, 4, 446
 
 
 @lru_cache
@@ -73,7 +76,7 @@ class Job:
         return piece.raw[:len(sectors)]
 
 
-def run(path, command, image, base, carry, script, most):
+def made_in_pieces(path, command, image, base, carry, script, most):
     """The status, the text, and the new image or None, with pieces of at most `most` sectors."""
     job = Job(path, script, base, carry)
     if not job.is_valid:
@@ -89,3 +92,14 @@ def run(path, command, image, base, carry, script, most):
         out, piece, first = out + piece[:sent], piece[sent:], first + sent // SECTOR
     job.print('last', *job.counts)
     return FOUND if job.counts[1] else DONE, job.log, out + image[whole:] if command == 'apply' else None
+
+
+def run(path, command, image, base, carry, script):
+    """The status, the text, and the new image or None. Raises ValueError if pieces of other sizes give another result."""
+    if command in ('list', 'audit'):
+        return by_lines.run(path, command, image, base, carry, script)
+    made = made_in_pieces(path, command, image, base, carry, script, len(image) // SECTOR + 1)
+    for most in PIECES:
+        if made_in_pieces(path, command, image, base, carry, script, most) != made:
+            raise ValueError(f'pieces of {most} sectors make something else')
+    return made

@@ -6,6 +6,7 @@ uint8_t sector[CDPATCH_SECTOR_SIZE], user[CDPATCH_USER_SIZE], address[3], column
 uint8_t new_bytes[CDPATCH_PATCH_SIZE], old_bytes[CDPATCH_PATCH_SIZE];
 struct cdpatch_patch patch;
 struct cdpatch_place place;
+struct cdpatch_job job;
 
 int main(void) {
     struct cdpatch_line line;
@@ -17,8 +18,8 @@ int main(void) {
     cdpatch_fill_parity(NULL);
 #elif defined A_LINE_THAT_IS_NULL
     has_line = cdpatch_first_line(text, sizeof text, NULL);
-#elif defined A_LENGTH_THAT_IS_NULL
-    result = cdpatch_list(sector, sizeof sector, 0, text, sizeof text, NULL);
+#elif defined A_COUNT_THAT_IS_NULL
+    result = cdpatch_apply_entries(&job, sector, 1, NULL, 0, NULL);
 #elif defined A_SECTOR_OF_USER_DATA
     result = cdpatch_rebuild(user);
 #elif defined USER_DATA_OF_A_LINE

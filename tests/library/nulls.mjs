@@ -9,6 +9,7 @@ const LINE = 16;
 const PATCH = 16;
 const PATCH_BYTES = 4096;
 const DIGEST_STATE = 96;
+const [INDEX, NAMED_BASE] = [32, 16];
 
 /** @typedef {Uint8Array | Room | Size | number | boolean} Given */
 
@@ -45,10 +46,8 @@ const rows = [
     ['read_line', none => [1, new Size(0), none, new Size(0), new Room(PATCH), new Room(PATCH_BYTES), new Room(PATCH_BYTES)]],
     ['apply_patch', none => [patch(), new Uint8Array(PATCH_BYTES), new Uint8Array(PATCH_BYTES), none, new Size(0), true, new Room(8)]],
     ['sha1_add', none => [new Room(begun()), none, new Size(0)]],
-    ['list', none => [none, new Size(0), 0, new Room(100), new Size(100), new Room(8)]],
-    ['list', none => [sector(), new Size(2352), 0, none, new Size(0), new Room(8)]],
-    ['audit', none => [none, new Size(0), 0, new Room(100), new Size(100), new Room(8)]],
-    ['audit', none => [sector(), new Size(2352), 0, none, new Size(0), new Room(8)]],
+    ['index_script', none => [none, new Size(0), none, new Size(0), new Room(INDEX)]],
+    ['script_base', none => [none, new Size(0), 0, new Room(NAMED_BASE)]],
 ];
 
 /**

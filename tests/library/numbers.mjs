@@ -7,7 +7,7 @@ import { readFileSync } from 'node:fs';
 const numbers = await import(`data:text/javascript,${encodeURIComponent(readFileSync(process.argv[2], 'utf8'))}`);
 
 /** @type {Record<string, string>} the prefix of the members of an enum that has another name */
-const PREFIXES = { SECTOR_KIND: 'KIND', STEP_KIND: 'STEP', RUN_FLAG: 'FLAG', JOB_FLAG: 'FLAG' };
+const PREFIXES = { SECTOR_KIND: 'KIND' };
 
 /** @param {string} fact */
 const holds = fact => console.log(`_Static_assert(${fact}, "");`);

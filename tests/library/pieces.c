@@ -1,8 +1,7 @@
-/* Applies random scripts to random images in pieces of 3, 4, and 446 sectors and as a whole, and compares each with the program or with
- * cdpatch_apply: `pieces COUNT [SEED [PROGRAM PROGRAM_COUNT]]`. Then scripts and images at their limits, and scripts with errors. */
+/* Applies random scripts to random images in pieces of 3, 4, and 446 sectors and as a whole, and compares each with a client by lines or with
+ * the program: `pieces COUNT [SEED [PROGRAM PROGRAM_COUNT]]`. Then scripts and images at their limits, and scripts with errors. */
 #include "pieces.h"
 #include "by_program.h"
-#include "lent.h"
 
 static const struct how ways[] = {{3, MOST_ANSWERS, 0}, {3, 1, 0}, {4, 2, 0}, {MOST_PIECE, MOST_ANSWERS, 0}, {WHOLE, MOST_ANSWERS, 0}, {WHOLE, 1, 0}};
 enum { WAYS = sizeof ways / sizeof *ways };
@@ -13,21 +12,18 @@ static bool is_made(const struct made *made, uint32_t status, const uint8_t *out
            (status == CDPATCH_STATUS_FAILED || (made->sent == size && !memcmp(made->out, out, size)));
 }
 
-/* Compares clients with cdpatch_apply. `flags` are further flags, with which `it` does what `due` does without them. */
+/* Compares clients with one that applies `due` line by line. `flags` are further flags, with which `it` gives what `due` gives without them. */
 static void test_ways(const struct some_case *it, const struct some_case *due, uint32_t flags, unsigned number) {
-    uint8_t *out = more(NULL, due->size + 1), *log = more(NULL, due->log_room);
-    size_t length = 0;
-    uint32_t status = cdpatch_apply(due->image, due->size, due->script, due->script_size, due->base, due->carry ? CDPATCH_FLAG_CARRY : 0, LENT, out,
-                                    due->size, log, due->log_room, &length);
+    struct made wanted = made_by_lines(due, 0);
     for (unsigned i = 0; i < WAYS; i++) {
         struct how how = ways[i];
         how.flags = flags;
         struct made made = made_in_pieces(it, how);
-        judge(is_made(&made, status, out, due->size, log, length), made.wrong ? made.wrong : "pieces are not what cdpatch_apply makes", number * WAYS + i);
+        judge(is_made(&made, wanted.status, wanted.out, due->size, wanted.log, wanted.logged) && !wanted.wrong,
+              made.wrong ? made.wrong : "pieces are not what lines give", number * WAYS + i);
         free_made(&made);
     }
-    free(out);
-    free(log);
+    free_made(&wanted);
 }
 
 static void test_without_old(const struct some_case *it, unsigned number) {
@@ -99,19 +95,31 @@ static struct made made_of_zeros(uint8_t *zeros, size_t size, const char *script
     return made;
 }
 
+/* The log of an image of zeros with fewer than the most sectors, with the most, and with more. */
 static void test_long_images(void) {
-    static const char *const scripts[] = {"cdpatch 2\n", "cdpatch 2\nset 999998 2047 000000\nset 999997 0 00\nset 999999 2047 0000\nset 1000000 0 00\n",
-                                          "cdpatch 2\nrebuild 5\nset 1000003 0 00\n"};
-    static uint8_t due[4096];
-    size_t limit = (size_t)CDPATCH_MOST_SECTORS * SECTOR, more_bytes[] = {0, 1, SECTOR, 3 * SECTOR + 7}, length;
+    static const struct { const char *script, *logs[3]; } rows[] = {
+        {"cdpatch 2\n", {"applied 0 refused 0\n", "applied 0 refused 0\n", ""}},
+        {"cdpatch 2\nset 999998 2047 000000\nset 999997 0 00\nset 999999 2047 0000\nset 1000000 0 00\n",
+         {"line 3: refused: block 999997 is not mode 1\nline 2: refused: block 999998 is not mode 1\nline 4: refused: no block 999999\n"
+          "line 5: refused: no block 1000000\napplied 0 refused 4\n",
+          "line 3: refused: block 999997 is not mode 1\nline 2: refused: block 999998 is not mode 1\nline 4: refused: block 999999 is not mode 1\n"
+          "line 5: refused: no block 1000000\napplied 0 refused 4\n",
+          "line 3: refused: block 999997 is not mode 1\nline 2: refused: block 999998 is not mode 1\n"}},
+        {"cdpatch 2\nrebuild 5\nset 1000003 0 00\n",
+         {"line 2: refused: block 5 is not mode 1\nline 3: refused: no block 1000003\napplied 0 refused 2\n",
+          "line 2: refused: block 5 is not mode 1\nline 3: refused: no block 1000003\napplied 0 refused 2\n", "line 2: refused: block 5 is not mode 1\n"}}};
+    size_t limit = (size_t)CDPATCH_MOST_SECTORS * SECTOR, sizes[] = {limit - 1, limit, limit + 1, limit + SECTOR, limit + 3 * SECTOR + 7};
     uint8_t *zeros = (uint8_t *)mmap(NULL, limit + 4 * SECTOR, PROT_READ | PROT_WRITE, MAP_PRIVATE | MAP_ANONYMOUS | MAP_NORESERVE, -1, 0);
     if (zeros == MAP_FAILED)
         exit(2);
-    for (unsigned number = 0; number < 26; number++) {
-        size_t size = number < 24 ? limit + more_bytes[number / 2 % 4] : limit - 1;
-        const char *script = number < 24 ? scripts[number / 8] : scripts[1];
-        struct made made = made_of_zeros(zeros, size, script, number % 2);
-        uint32_t status = cdpatch_check(zeros, size, (const uint8_t *)script, strlen(script), 0, 0, LENT, due, sizeof due, &length);
+    for (unsigned number = 0; number < 30; number++) {
+        unsigned at = number / 2 % 5;
+        const char *script = rows[number / 10].script;
+        struct made made = made_of_zeros(zeros, sizes[at], script, number % 2);
+        char due[4096];
+        size_t length = (size_t)snprintf(due, sizeof due, "%s%s", rows[number / 10].logs[at < 2 ? at : 2],
+                                         at < 2 ? "" : "cdpatch: the image has more than 1000000 sectors\n");
+        uint32_t status = at > 1 ? CDPATCH_STATUS_FAILED : number < 10 ? CDPATCH_STATUS_DONE : CDPATCH_STATUS_FOUND;
         judge(!made.wrong && made.status == status && made.logged == length && !memcmp(made.log, due, length), "an image of about 1000000 sectors", number);
         free_made(&made);
     }
@@ -146,6 +154,7 @@ static void test_errors(void) {
 static void test_longest_log(void) {
     static const char first[] = "cdpatch 1\n", patch[] = "set 999999999 0 41\n";
     static struct cdpatch_patch_bytes patch_bytes;
+    static struct cdpatch_entry entries[CDPATCH_MOST_PATCHES];
     const size_t size = CDPATCH_MOST_SCRIPT_BYTES, patches = CDPATCH_MOST_PATCHES;
     char *script = more(NULL, size), *at = script + size - patches * strlen(patch);
     struct made made = {.log = more(NULL, CDPATCH_MOST_LOG_BYTES)};
@@ -156,9 +165,9 @@ static void test_longest_log(void) {
     memcpy(script, first, strlen(first));
     for (size_t i = 0; i < patches; i++)
         memcpy(at + i * strlen(patch), patch, strlen(patch));
-    judge(cdpatch_index_script((uint8_t *)script, size, lent_entries, patches, &index) == CDPATCH_SCRIPT_VALID && index.count == patches,
+    judge(cdpatch_index_script((uint8_t *)script, size, entries, patches, &index) == CDPATCH_SCRIPT_VALID && index.count == patches,
           "the most patches", 0);
-    struct cdpatch_job job = {(uint8_t *)script, size, lent_entries, index.count, &patch_bytes, index.version, 0, 0, CDPATCH_FLAG_LAST, {0}};
+    struct cdpatch_job job = {(uint8_t *)script, size, entries, index.count, &patch_bytes, index.version, 0, 0, CDPATCH_FLAG_LAST, {0}};
     while (call(&job, NULL, 0, MOST_ANSWERS, &made, counts) == CDPATCH_STOP_CAPACITY)
         continue;
     print(&made, line, cdpatch_last_line((uint32_t)counts[0], (uint32_t)counts[1], line));

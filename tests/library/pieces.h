@@ -1,4 +1,4 @@
-/* A client that applies a script to an image piece by piece, as the tests use it. */
+/* Two clients that apply a script to an image, as the tests use them: one piece by piece, and one line by line. */
 #include "fenced.h"
 #include "some_cases.h"
 
@@ -104,5 +104,68 @@ static struct made made_in_pieces(const struct some_case *it, struct how how) {
         made.status = counts[1] ? CDPATCH_STATUS_FOUND : CDPATCH_STATUS_DONE;
     }
     free(entries);
+    return made;
+}
+
+/* A patch that was read from its line. */
+struct read_patch { struct cdpatch_patch patch; uint32_t number; bool done; uint8_t new_bytes[CDPATCH_PATCH_SIZE], old_bytes[CDPATCH_PATCH_SIZE]; };
+
+/* Reads a script line by line. Returns the number of its patches, or `room` and the line of its error in the log. */
+static size_t read_patches(const struct some_case *it, struct read_patch *patches, size_t room, struct made *made) {
+    struct cdpatch_line line;
+    uint32_t version = 0, number = 1;
+    size_t count = 0, left = it->script_size;
+    uint8_t text[CDPATCH_LINE_SIZE];
+    for (const uint8_t *at = it->script; cdpatch_first_line(at, left, &line); at += line.taken, left -= line.taken, number++) {
+        struct read_patch *next = patches + count;
+        enum cdpatch_content content = cdpatch_read_line(version, count, at, line.size, &next->patch, next->new_bytes, next->old_bytes);
+        if (line.taken == 0 || line.size > line.taken || line.taken > left)
+            made->wrong = "a line that is not in its text";
+        if (content >= CDPATCH_CONTENT_NO_HEAD && content < CDPATCH_CONTENT_NO_VERSION) {
+            print(made, text, cdpatch_fault_line(number, content, text));
+            return room;
+        }
+        next->number = number;
+        next->done = false;
+        count += content == CDPATCH_CONTENT_PATCH;
+        version = content == CDPATCH_CONTENT_VERSION_1 || content == CDPATCH_CONTENT_VERSION_2 ? content : version;
+    }
+    if (version)
+        return count;
+    print(made, text, cdpatch_fault_line(number, CDPATCH_CONTENT_NO_HEAD, text));
+    return room;
+}
+
+/* The next patch: of those that are not done, the first one with the lowest block. */
+static struct read_patch *next_patch(struct read_patch *patches, size_t count) {
+    struct read_patch *next = NULL;
+    for (size_t i = 0; i < count; i++)
+        if (!patches[i].done && (!next || patches[i].patch.block < next->patch.block))
+            next = patches + i;
+    return next;
+}
+
+/* Applies a script to an image line by line, and makes what `cdpatch apply` makes. */
+static struct made made_by_lines(const struct some_case *it, uint32_t flags) {
+    struct made made = {.out = more(NULL, it->size + 1), .log = more(NULL, it->log_room), .status = CDPATCH_STATUS_FAILED};
+    size_t room = it->room, all = it->size / SECTOR, counts[2] = {0, 0};
+    struct read_patch *patches = more(NULL, room * sizeof *patches), *next;
+    size_t count = read_patches(it, patches, room, &made);
+    uint8_t text[CDPATCH_LINE_SIZE];
+    memcpy(made.out, it->image, made.sent = it->size);
+    while (count < room && (next = next_patch(patches, count))) {
+        struct cdpatch_place place = {0, 0};
+        size_t first = next->patch.block - it->base, there = next->patch.block >= it->base && first < all ? all - first : 0;
+        enum cdpatch_result result = cdpatch_apply_patch(&next->patch, next->new_bytes, next->old_bytes, made.out + (there ? first * SECTOR : 0), there,
+                                                         flags + (it->carry ? CDPATCH_FLAG_CARRY : 0), &place);
+        next->done = true;
+        counts[result != CDPATCH_RESULT_OK]++;
+        print(&made, text, cdpatch_outcome_line(next->number, result, place.block, place.offset, text));
+    }
+    if (count < room) {
+        print(&made, text, cdpatch_last_line((uint32_t)counts[0], (uint32_t)counts[1], text));
+        made.status = counts[1] ? CDPATCH_STATUS_FOUND : CDPATCH_STATUS_DONE;
+    }
+    free(patches);
     return made;
 }

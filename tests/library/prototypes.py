@@ -8,14 +8,11 @@ from pathlib import Path
 TYPES = {'u8': 'uint8_t', 'u16': 'uint16_t', 'u32': 'uint32_t', 'u64': 'uint64_t', 'usize': 'size_t', 'bool': 'bool'}
 NAMES = {'bcd': 'address', 'found': 'defect', 'used': 'length'}  # parameters with different names in C
 NAMES_IN = {('cdpatch_result_text', 'number'): 'result'}
-PREFIXES = {'cdpatch_sector_kind': 'KIND', 'cdpatch_step_kind': 'STEP', 'cdpatch_run_flag': 'FLAG', 'cdpatch_job_flag': 'FLAG'}  # others are the enum's name
+PREFIXES = {'cdpatch_sector_kind': 'KIND'}  # others are the enum's name
 STRUCTS = {'FoundDefect': 'cdpatch_defect', 'SectorRecord': 'cdpatch_record', 'TextLine': 'cdpatch_line',
            'FlatPatch': 'cdpatch_patch', 'Place': 'cdpatch_place', 'DigestState': 'cdpatch_sha1', 'Entry': 'cdpatch_entry',
-           'Rooms': 'cdpatch_rooms', 'Buffers': 'cdpatch_buffers', 'RunStep': 'cdpatch_step', 'Index': 'cdpatch_index',
-           'Answer': 'cdpatch_answer', 'PatchBytes': 'cdpatch_patch_bytes', 'Job': 'cdpatch_job', 'NamedBase': 'cdpatch_named_base'}
-# A struct with private fields: C sees 64-bit words.
-WORDS = {'ScriptRun': 'cdpatch_run'}
-BYTES = {'u8': 1, 'u16': 2, 'u32': 4, 'u64': 8, 'usize': 8}
+           'Index': 'cdpatch_index', 'Answer': 'cdpatch_answer', 'PatchBytes': 'cdpatch_patch_bytes', 'Job': 'cdpatch_job',
+           'NamedBase': 'cdpatch_named_base'}
 # Bytes that are 0 or 1, declared as bool in C.
 FLAGS = {('FoundDefect', 'zeros'), ('FoundDefect', 'edc'), ('SectorRecord', 'address'), ('SectorRecord', 'zeros'),
          ('SectorRecord', 'edc')}
@@ -23,14 +20,13 @@ FLAGS = {('FoundDefect', 'zeros'), ('FoundDefect', 'edc'), ('SectorRecord', 'add
 ENUMS = {'cdpatch_kind': 'cdpatch_sector_kind', 'cdpatch_read_line': 'cdpatch_content', 'cdpatch_merge_sector': 'cdpatch_fit',
          'cdpatch_index_script': 'cdpatch_script', 'cdpatch_apply_entries': 'cdpatch_stop',
          **dict.fromkeys(['cdpatch_rebuild', 'cdpatch_change_user', 'cdpatch_carry_user', 'cdpatch_change_address',
-                          'cdpatch_carry_address', 'cdpatch_apply_patch'], 'cdpatch_result'),
-         **dict.fromkeys(['cdpatch_list', 'cdpatch_audit', 'cdpatch_check', 'cdpatch_apply'], 'cdpatch_status')}
+                          'cdpatch_carry_address', 'cdpatch_apply_patch'], 'cdpatch_result')}
 FAULTS = {'Head': 'NO_HEAD', 'Verb': 'UNKNOWN_VERB', 'Words': 'WORD_COUNT', 'Number': 'BAD_NUMBER', 'Hex': 'BAD_HEX',
           'Length': 'BAD_LENGTH', 'Offset': 'BAD_OFFSET', 'Address': 'BAD_ADDRESS', 'TooMany': 'TOO_MANY',
           'NoMemory': 'NO_MEMORY'}
 KINDS = ('NOSYNC', 'MODE0', 'MODE1', 'MODE2', 'OTHER')
 SIZES = {'CDPATCH_SECTOR_SIZE': ['SECTOR_SIZE'], 'CDPATCH_USER_SIZE': ['USER_SIZE'], 'CDPATCH_PATCH_SIZE': ['MAX_BYTES'],
-         'CDPATCH_LINE_SIZE': ['LINE_SIZE'], 'CDPATCH_SECTORS_IN_HAND': ['MAX_BLOCKS_MET'],
+         'CDPATCH_LINE_SIZE': ['LINE_SIZE'],
          'CDPATCH_MOST_SECTORS': ['MAX_SECTORS'], 'CDPATCH_MOST_SCRIPT_BYTES': ['MAX_TEXT'], 'CDPATCH_MOST_PATCHES': ['MAX_PATCHES'],
          'CDPATCH_LAST_BLOCK': ['MAX_NUMBER'], 'CDPATCH_LAST_BASE': ['MAX_BASE', 'MAX_BLOCK'], 'CDPATCH_COLUMNS': ['COLUMNS']}
 # Sizes of arrays that no constant of the sources has as a number.
@@ -59,8 +55,8 @@ def of_c(call, parameter, constants):
     item = piece.group(1) if piece else target
     item = item.replace("<'_>", '')
     array = re.fullmatch(r'\[u8; (\w+)\]', item)
-    if item in {**STRUCTS, **WORDS}:
-        made, count = f'struct {({**STRUCTS, **WORDS})[item]}', '1'
+    if item in STRUCTS:
+        made, count = f'struct {STRUCTS[item]}', '1'
     elif item in ('usize', 'u32'):
         made, count = TYPES[item], '1'
     elif array or item in ('u8', 'Sector'):
@@ -71,16 +67,10 @@ def of_c(call, parameter, constants):
     return [made if changes else 'const ' + made] + ['size_t'] * bool(piece)
 
 
-def fields_of(struct, body, source):
+def fields_of(struct, body):
     """The types and names of a struct's fields."""
     made = []
     for name, kind in re.findall(r'^    (?:pub )?(\w+): ([^,]+),$', body, re.M):
-        if kind in STRUCTS:  # a struct in a struct is written out
-            made += fields_of(kind, body_of(kind, source), source)
-            continue
-        if kind.startswith('[Sector; '):
-            made.append('uint8_t hand[7056]')
-            continue
         pointer = re.fullmatch(r"&'a (mut )?\[?(\w+)(\])?", kind)
         if pointer:  # a slice is a pointer and a size, which may have any name
             target = f'struct {STRUCTS[pointer[2]]}' if pointer[2] in STRUCTS else TYPES[pointer[2]]
@@ -96,20 +86,6 @@ def fields_of(struct, body, source):
 def body_of(struct, source):
     found = re.search(rf"^pub struct {struct}(?:<'a>)? {{\n(.*?)\n}}", source, re.S | re.M)
     return found and found.group(1) + '\n'
-
-
-def numbers_of(struct, source):
-    """The sizes of a struct's numbers, including those of nested structs."""
-    for kind in re.findall(r'^    pub \w+: (\w+),$', body_of(struct, source), re.M):
-        yield from [BYTES[kind]] if kind in BYTES else numbers_of(kind, source)
-
-
-def words_of(struct, source):
-    """The number of 64-bit words that a struct of numbers occupies."""
-    at = 0
-    for size in numbers_of(struct, source):
-        at = -(-at // size) * size + size
-    return -(-at // 8)
 
 
 def numbered(enum, pairs):
@@ -130,9 +106,7 @@ def exports(source):
         made[name] = [answered, *(c for parameter in parameters for c in of_c(name, parameter, sizes))]
     for struct, name in STRUCTS.items():
         body = body_of(struct, source)
-        made[f'struct {name}'] = fields_of(struct, body, source) if body else None
-    for struct, name in WORDS.items():
-        made[f'struct {name}'] = [f'uint64_t state[{words_of(struct, source)}]']
+        made[f'struct {name}'] = fields_of(struct, body) if body else None
     results = [(name, number) for name, number in re.findall(r'pub const (\w+): u32 = (\d+);', source)
                if name not in ('VERSION', *KINDS)]
     contents = [(FAULTS[name], number) for name, number in re.findall(r'ScriptFault::(\w+)(?:\(_\))? => (\d+),', source)]
@@ -145,7 +119,7 @@ def exports(source):
     for name, beginning in (('script', 'SCRIPT_'), ('stop', 'STOP_'), ('failure', 'FAILURE_')):
         numbers[name] = [(each.removeprefix(beginning), number) for each, number in constants if each.startswith(beginning)]
     for name, found in (('status', ('DONE', 'FOUND', 'FAILED')), ('verb', ('SET', 'FILL', 'REBUILD', 'ADDRESS')), ('sector_kind', KINDS),
-                        ('step_kind', ('END', 'READ', 'COPY', 'WRITE', 'LOG')), ('run_flag', ('CARRY', 'NO_COPY', 'WITHOUT_OLD')), ('job_flag', ('LAST',))):
+                        ('flag', ('CARRY', 'LAST', 'WITHOUT_OLD'))):
         numbers[name] = [pair for pair in constants if pair[0] in found]
     made.update((f'enum cdpatch_{name}', numbered(f'cdpatch_{name}', pairs)) for name, pairs in numbers.items())
     for name, sources in SIZES.items():

@@ -10,7 +10,7 @@
 #include <stdlib.h>
 #include <string.h>
 
-enum { SECTOR = CDPATCH_SECTOR_SIZE, MOST_SECTORS = 6, MOST_BYTES = MOST_SECTORS * SECTOR + 5000, MOST_ARGUMENTS = 16, MOST_ENTRIES = 12, CALLS = 39 };
+enum { SECTOR = CDPATCH_SECTOR_SIZE, MOST_SECTORS = 6, MOST_BYTES = MOST_SECTORS * SECTOR + 5000, MOST_ARGUMENTS = 16, MOST_ENTRIES = 12, CALLS = 35 };
 
 static uint64_t state;
 static uint8_t sectors[MOST_BYTES], bytes[MOST_BYTES], old_bytes[MOST_BYTES], out[MOST_BYTES], address[3], address_room[3];
@@ -22,10 +22,8 @@ static struct cdpatch_defect defect;
 static struct cdpatch_record records[MOST_SECTORS];
 static struct cdpatch_sha1 sha1;
 static struct cdpatch_entry entries[MOST_ENTRIES];
-static struct cdpatch_buffers buffers;
 static struct cdpatch_index index_found;
 static struct cdpatch_named_base other;
-static size_t length;
 
 /* ---- the record of a call */
 
@@ -196,33 +194,6 @@ static void change_header(const char *call, enum cdpatch_result (*change)(uint8_
     room(sectors, SECTOR), input(address, 3);
     end(change(sectors, address));
 }
-static void report(const char *call, enum cdpatch_status (*command)(const uint8_t *, size_t, uint32_t, uint8_t *, size_t, size_t *)) {
-    size_t count = once_in(6) ? 0 : make_sectors(MOST_SECTORS) * SECTOR + some(once_in(2) ? 1 : SECTOR), rooms = some(once_in(3) ? 60 : 400);
-    uint32_t base = (uint32_t)(once_in(4) ? some_number() : some(20));
-    uint8_t *image = (uint8_t *)lent(sectors, count), *to = (uint8_t *)lent(out, rooms);
-    begin(call);
-    input(image, count), size(count), number(base), room(to, rooms), size(rooms), room(&length, 8);
-    end(command(image, count, base, to, rooms, &length));
-}
-static void patch_image(bool applies) {
-    size_t count = once_in(6) ? 0 : make_sectors(MOST_SECTORS) * SECTOR + some(once_in(2) ? 1 : SECTOR), rooms = some(once_in(3) ? 60 : 600);
-    size_t script_size = make_script(), out_size = once_in(6) ? some(count + 1) : count + some(9);
-    uint32_t base = (uint32_t)(once_in(9) ? some_number() : some(4));
-    uint32_t flags = (uint32_t)some(9);
-    uint8_t *image = (uint8_t *)lent(sectors, count), *script = (uint8_t *)lent(bytes, script_size), *to = (uint8_t *)lent(text, rooms);
-    uint8_t *made = (uint8_t *)lent(out, out_size);
-    begin(applies ? "apply" : "check");
-    input(image, count), size(count), input(script, script_size), size(script_size), number(base), number(flags);
-    room(entries, sizeof entries), size(MOST_ENTRIES), room(&buffers, sizeof buffers);
-    if (applies)
-        room(made, out_size), size(out_size);
-    room(to, rooms), size(rooms), room(&length, 8);
-    if (applies)
-        end(cdpatch_apply(image, count, script, script_size, base, flags, entries, MOST_ENTRIES, &buffers, made, out_size, to,
-                          rooms, &length));
-    else
-        end(cdpatch_check(image, count, script, script_size, base, flags, entries, MOST_ENTRIES, &buffers, to, rooms, &length));
-}
 
 static void on_line(void) {
     uint32_t version = (uint32_t)(once_in(20) ? some_number() : some(3));
@@ -379,27 +350,23 @@ static void make_call(uint64_t which) {
     case 2: change_bytes("carry_user", cdpatch_carry_user); break;
     case 3: change_header("change_address", cdpatch_change_address); break;
     case 4: change_header("carry_address", cdpatch_carry_address); break;
-    case 5: report("list", cdpatch_list); break;
-    case 6: report("audit", cdpatch_audit); break;
-    case 7: patch_image(false); break;
-    case 8: patch_image(true); break;
-    case 9: on_line(); break;
-    case 10: on_text(); break;
-    case 11: on_hand(); break;
-    case 12: on_survey(); break;
-    case 13: begin("sha1_begin"), room(&sha1, sizeof sha1), cdpatch_sha1_begin(&sha1), end(0); break;
-    case 14: on_digest(); break;
-    case 15: begin("sha1_end"), input(&sha1, sizeof sha1), room(digest, 20), cdpatch_sha1_end(&sha1, digest), end(0); break;
-    case 16: begin("version"), end(cdpatch_version()); break;
-    case 17: case 18: case 19: case 20: on_lines(which - 17); break;
-    case 21: case 22: case 23: case 24: on_report_lines(which - 21); break;
-    case 25: on_merge(); break;
-    case 26: on_correction(); break;
-    case 27: on_script(true); break;
-    case 28: on_script(false); break;
-    case 29: on_block(); break;
-    case 30: on_failure(); break;
-    default: on_codes(which - 31);
+    case 5: on_line(); break;
+    case 6: on_text(); break;
+    case 7: on_hand(); break;
+    case 8: on_survey(); break;
+    case 9: begin("sha1_begin"), room(&sha1, sizeof sha1), cdpatch_sha1_begin(&sha1), end(0); break;
+    case 10: on_digest(); break;
+    case 11: begin("sha1_end"), input(&sha1, sizeof sha1), room(digest, 20), cdpatch_sha1_end(&sha1, digest), end(0); break;
+    case 12: begin("version"), end(cdpatch_version()); break;
+    case 13: case 14: case 15: case 16: on_lines(which - 13); break;
+    case 17: case 18: case 19: case 20: on_report_lines(which - 17); break;
+    case 21: on_merge(); break;
+    case 22: on_correction(); break;
+    case 23: on_script(true); break;
+    case 24: on_script(false); break;
+    case 25: on_block(); break;
+    case 26: on_failure(); break;
+    default: on_codes(which - 27);
     }
 }
 

@@ -10,7 +10,7 @@ enum { SECTOR = CDPATCH_SECTOR_SIZE, MOST_SECTORS = 9, MOST_LINES = 9, SMALL_ROO
 
 /* `without_old` is the same script without old bytes. */
 struct some_case { uint8_t *image; size_t size; uint8_t *script; size_t script_size; uint8_t *without_old; size_t without_old_size; uint32_t base;
-                   bool carry; size_t room, log_room, sectors_in_hand; };
+                   bool carry; size_t room, log_room; };
 
 static void *more(void *memory, size_t size) {
     memory = realloc(memory, size ? size : 1);
@@ -120,7 +120,6 @@ static struct some_case case_of(uint64_t seed, unsigned number) {
     struct some_case it = {.room = SMALL_ROOM, .log_room = 1 << 16};
     it.base = bases[below(&dice, 5)];
     it.carry = below(&dice, 3) == 0;
-    it.sectors_in_hand = CDPATCH_SECTORS_IN_HAND + below(&dice, 3);
     some_image(&dice, &it, number % LARGE_EACH == LARGE_EACH - 1);
     some_script(&dice, &it);
     return it;

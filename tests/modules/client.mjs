@@ -1,10 +1,10 @@
 // A client that builds the four commands on an image from the calls that allocate no memory.
 
 import { KEPT, Lent, Room, Size, UNWRITTEN, same } from './calls.mjs';
-import { sameByRuns } from './run.mjs';
+import { sameInPieces } from './pieces.mjs';
 
 /** @typedef {import('./calls.mjs').Calls} Calls */
-/** @typedef {{ status: number, text: Uint8Array, out: Uint8Array | null }} Answer */
+/** @typedef {import('./pieces.mjs').Answer} Answer */
 /** @typedef {{ number: number, block: number, record: Uint8Array, fresh: Uint8Array, old: Uint8Array }} Patch */
 
 export const SECTOR = 2352;
@@ -118,9 +118,9 @@ export function script(calls, text) {
  * @returns {Answer}
  */
 export function apply(calls, { image, base, carry, script: text }) {
-    const given = { image, base, carry, script: text };
+    const given = { image, script: text, base, flags: Number(carry) };
     const patches = script(calls, text);
-    if (patches instanceof Uint8Array) return sameByRuns(calls, given, { status: 2, text: patches, out: null });
+    if (patches instanceof Uint8Array) return sameInPieces(calls, given, { status: 2, text: patches, out: null });
     const out = image.slice();
     const end = image.length - image.length % SECTOR;
     const [fresh, old] = [new Uint8Array(PATCH_SIZE), new Uint8Array(PATCH_SIZE)];
@@ -142,7 +142,7 @@ export function apply(calls, { image, base, carry, script: text }) {
         if (there) out.set(hand.bytes, first);
     }
     log.push(lineBy(calls, 'cdpatch_last_line', applied, patches.length - applied));
-    return sameByRuns(calls, given, { status: Number(applied < patches.length), text: Buffer.concat(log), out });
+    return sameInPieces(calls, given, { status: Number(applied < patches.length), text: Buffer.concat(log), out });
 }
 
 /**
@@ -160,34 +160,6 @@ function survey(calls, image, base) {
 }
 
 /**
- * The text and the status of a call that reports on an image.
- * @param {Calls} calls
- * @param {string} name
- * @param {Uint8Array} image
- * @param {number} base
- * @returns {Answer}
- */
-function reported(calls, name, image, base) {
-    const [room, length] = [new Room(100 + 40 * Math.floor(image.length / SECTOR)), new Room(8)];
-    const status = Number(calls.call(name, image, new Size(image.length), base, room, new Size(room.bytes.length), length));
-    return { status, text: room.bytes.subarray(0, Number(fields(length.bytes).getBigUint64(0, true))), out: null };
-}
-
-/**
- * Returns an answer built from the survey, and throws an Error if the call that reports gives a different one.
- * @param {Calls} calls
- * @param {string} name
- * @param {Uint8Array} image
- * @param {number} base
- * @param {Answer} made
- */
-function agreed(calls, name, image, base, made) {
-    const due = reported(calls, name, image, base);
-    if (due.status !== made.status || Buffer.compare(due.text, made.text) !== 0) throw new Error(`${name} prints another text than its survey`);
-    return made;
-}
-
-/**
  * `list`.
  * @param {Calls} calls
  * @param {{ image: Uint8Array, base: number }} given
@@ -201,7 +173,7 @@ export function list(calls, { image, base }) {
         first = i;
     }
     lines.push(lineBy(calls, 'cdpatch_list_end', kinds.length, image.length % SECTOR));
-    return agreed(calls, 'cdpatch_list', image, base, { status: 0, text: Buffer.concat(lines), out: null });
+    return { status: 0, text: Buffer.concat(lines), out: null };
 }
 
 /**
@@ -216,5 +188,5 @@ export function audit(calls, { image, base }) {
     const damaged = records.filter(record => record.subarray(DEFECT).some(value => value !== 0)).length;
     const status = Number(lines.some(line => line.length > 0));
     lines.push(lineBy(calls, 'cdpatch_audit_end', records.length, mode1, damaged, image.length % SECTOR));
-    return agreed(calls, 'cdpatch_audit', image, base, { status, text: Buffer.concat(lines), out: null });
+    return { status, text: Buffer.concat(lines), out: null };
 }

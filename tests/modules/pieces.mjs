@@ -3,16 +3,18 @@
 import { Lent, same } from './calls.mjs';
 
 /** @typedef {import('./calls.mjs').Calls} Calls */
-/** @typedef {import('./run.mjs').Answer} Answer */
+/** @typedef {{ status: number, text: Uint8Array, out: Uint8Array | null }} Answer */
 /** @typedef {{ script: Uint8Array, base: number, flags: number }} Asked */
 
 const SECTOR = 2352;
 const [ENTRY_SIZE, INDEX_SIZE, ANSWER_SIZE, JOB_SIZE, PATCH_BYTES_SIZE, LINE_SIZE] = [24, 32, 24, 72, 8192, 96];
 const [MOST_ENTRIES, MOST_ANSWERS] = [64, 3];
 const LAST = 2;
+const [MOST_SECTORS, LAST_SECTORS, FRONT_SECTORS] = [1000000, 999996, 8]; // the last two as in piece_cases.c
 const [VALID, INVALID, TOO_LONG] = [0, 1, 2];
 const [PIECE, CAPACITY] = [1, 2];
 const [DONE, FOUND, FAILED] = [0, 1, 2];
+const [LONG_SCRIPT, LONG_IMAGE] = [0, 1];
 
 /** A script that is applied in a module, from its beginning. */
 class Job {
@@ -35,7 +37,7 @@ class Job {
         const found = this.calls.exports.cdpatch_index_script(this.script, BigInt(asked.script.length), this.entries, BigInt(MOST_ENTRIES), this.index);
         this.count = Number(this.view.getBigUint64(this.index, true));
         if (found === INVALID) this.print('fault', this.number(this.index + 16), this.number(this.index + 12));
-        if (found === TOO_LONG) this.print('failure', 0);
+        if (found === TOO_LONG) this.print('failure', LONG_SCRIPT);
         this.isValid = found === VALID;
         this.given = this.lent.piece(1).slice();
     }
@@ -129,7 +131,7 @@ function madeInPieces(calls, asked, image, most) {
 }
 
 /**
- * Throws an Error if pieces of 3 or 4 sectors, or the whole image, give a result other than `due`.
+ * Returns `due`, and throws an Error if pieces of 3 or 4 sectors, or the whole image, give another result.
  * @param {Calls} calls
  * @param {Asked & { image: Uint8Array }} given
  * @param {Answer} due
@@ -140,4 +142,33 @@ export function sameInPieces(calls, { image, ...asked }, due) {
         if (made.status !== due.status || Buffer.compare(made.text, due.text) !== 0) throw new Error('pieces print another log than is due');
         if (due.out && made.out && Buffer.compare(made.out, due.out) !== 0) throw new Error('pieces make another image than is due');
     }
+    return due;
+}
+
+/**
+ * Applies a script to the first sectors and the last ones of a long image. `sectors` has the first four and those from LAST_SECTORS on; all
+ * others are blank. Throws an Error if the result is other than `due`, which has the sectors of both pieces.
+ * @param {Calls} calls
+ * @param {Asked} asked
+ * @param {{ sectors: Uint8Array, size: number }} image
+ * @param {Answer} due
+ */
+export function sameOfLong(calls, asked, { sectors, size }, due) {
+    const [job, isLong] = [new Job(calls, asked, FRONT_SECTORS), size > MOST_SECTORS * SECTOR];
+    const piece = job.lent.piece(8);
+    const end = Math.min(MOST_SECTORS, Math.floor(size / SECTOR));
+    /** @type {Uint8Array[]} */
+    const out = [];
+    for (const [from, count, bytes] of /** @type {[number, number, Uint8Array][]} */ ([
+        [0, FRONT_SECTORS, sectors.subarray(0, 4 * SECTOR)], [LAST_SECTORS, end - LAST_SECTORS, sectors.subarray(4 * SECTOR)]])) {
+        piece.fill(0);
+        piece.set(bytes.subarray(0, count * SECTOR));
+        job.apply(asked.base + from, count, from > 0 && !isLong);
+        out.push(piece.slice(0, count * SECTOR));
+    }
+    if (isLong) job.print('failure', LONG_IMAGE);
+    else job.print('last', job.done - job.refused, job.refused);
+    const status = isLong ? FAILED : job.refused ? FOUND : DONE;
+    if (status !== due.status || Buffer.compare(Buffer.concat(job.log), due.text) !== 0) throw new Error('pieces print another log than is due');
+    if (Buffer.compare(Buffer.concat(out), /** @type {Uint8Array} */ (due.out)) !== 0) throw new Error('pieces make another image than is due');
 }

@@ -45,7 +45,7 @@ installed_and_removed() {
     judge 'the program does what its README says' used_by_its_readme
     judge 'Python uses the library' used_in_python
     judge 'the example in C is compiled by pkg-config, and runs' used_in_c
-    judge 'man finds the page of a call' test -e "$root/usr/share/man/man3/cdpatch_apply.3.gz"
+    judge 'man finds the page of a call' test -e "$root/usr/share/man/man3/cdpatch_edc.3.gz"
     judge 'apt removes them' apt remove "${all[@]}"
     judge 'nothing is left but what was there' is_as_before
     judge 'dpkg purges them' inside dpkg --purge "${all[@]}" 2> "$scratch/log"

@@ -126,7 +126,7 @@ packaged_for_debian() {
     same "Debian's packages have what make install installs, in Debian's places" wanted.names got.names
     judge 'the program and the library in them are as they were' eval 'cmp "$program" system/usr/bin/cdpatch &&
         cmp "$library/libcdpatch.so.2" system/usr/lib/x86_64-linux-gnu/libcdpatch.so.2'
-    judge 'the page of a call is a link in it' test "$(readlink system/usr/share/man/man3/cdpatch_apply.3.gz)" = libcdpatch.3.gz
+    judge 'the page of a call is a link in it' test "$(readlink system/usr/share/man/man3/cdpatch_edc.3.gz)" = libcdpatch.3.gz
     judge 'their links lead to what they have' test -z "$(find system/usr -xtype l)"
     judge 'each that contains crates has their notices' test "$(grep -L '^== clap ==$' system/usr/share/doc/*/copyright)" = \
         system/usr/share/doc/python3-cdpatch/copyright

@@ -1,5 +1,4 @@
 mod BlockLemmas
-mod ReportLemmas
 pub mod SurveyLemmas
 mod TextSizeLemmas
 pub mod Walking

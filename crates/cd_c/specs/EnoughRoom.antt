@@ -9,11 +9,6 @@ use Rattle.cd_report.specs.ListText.{list_text}
 abbrev pub text_room : List ℕ → ℕ
 text_room image = 100 + 40 * (length image / 2352)
 
--- the base and the image are within their limits, and the room has enough bytes
-abbrev pub HasEnoughRoom : ℕ → List ℕ → List ℕ → Type 0
-HasEnoughRoom base image room =
-    (base ≤ base_limit) × (length image ≤ image_limit) × (text_room image ≤ length room)
-
 -- no text of `list` or `audit` is longer than `text_room`
 abbrev pub TextsAreShort : Type 0
 TextsAreShort =

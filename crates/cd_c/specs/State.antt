@@ -1,3 +1,4 @@
+-- The state of a digest, and the bytes that were added to it.
 use Rattle.std.specs.Prelude.{ℕ, List}
 use Rattle.sha1.specs.declared.Sha1.{Sha1}
 use Rattle.sha1.specs.Sha1.{Holds}

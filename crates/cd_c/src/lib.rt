@@ -1,7 +1,6 @@
 //! The calls of C that use no script (`cdpatch_*` of `cdpatch.h`): on one sector or many, repairs of
-//! a sector, lines and texts, incremental SHA-1, and `list` and `audit` of an image in memory. Each call passes its
-//! arguments on to the crates below, and repeats their clauses. None allocates memory. A call
-//! checks its arguments, but not that pointers are valid and not null, and that its outputs overlap
+//! a sector, lines and texts, and incremental SHA-1. Each call passes its arguments on to the crates
+//! below, and repeats their clauses. None allocates memory. A call checks its arguments, but not that pointers are valid and not null, and that its outputs overlap
 //! nothing else that is passed: the C program must ensure this.
 #![tactic(auto)]
 
@@ -12,7 +11,6 @@ mod kinds;
 mod log_lines;
 mod repairing;
 mod report_lines;
-mod reports;
 mod results;
 mod sectors;
 mod short_texts;

@@ -1,6 +1,7 @@
 -- A step of indexing, by the content of its line.
-use Rattle.std.proofs.Common.{◌≡◌, ℕ, ◌+◌, ◌<◌, ◌≤◌, List, ◌∷◌, length, take, drop, Some, Result, Ok, Err, refl, ap, ◌∙◌, arith}
+use Rattle.std.proofs.Common.{◌≡◌, ℕ, ◌+◌, ◌<◌, ◌≤◌, List, [], ◌∷◌, ◌++◌, length, take, drop, Some, Result, Ok, Err, refl, ap, ◌∙◌, arith, add-one}
 use Rattle.std.proofs.Math.ListN.{length-take}
+use Rattle.std.proofs.Math.Seq.{take-suc-set}
 use Rattle.std.proofs.lemmas.List.{length-drop, length-set, length-take-le}
 use Rattle.std.specs.Str.Lines.{lines}
 use Rattle.cd_script.specs.ByLine.{meaning_at}
@@ -14,7 +15,11 @@ use Rattle.cd_c_scripts.specs.Indexing.{IndexesBy}
 use Rattle.std.specs.List.{slice_set}
 use Rattle.cd_script.specs.Order.{order}
 use Rattle.cd_c_scripts.proofs.IndexLemmas.{Index-fault, Index-head, Index-passed, Index-patch, Indexing, head_above, patch_below}
-use Rattle.cd_c_scripts.proofs.general.Lists.{take_set}
+
+-- the front of a list, up to a member that was changed
+take_set : {X : Type 0} (xs : List X) (n : ℕ) (x : X) → n < length xs
+    → take (n + 1) (slice_set xs n x) ≡ take n xs ++ x ∷ []
+take_set xs n x inside = rw add-one (take-suc-set xs n x inside)
 
 -- ---- a step, by the content of its line
 

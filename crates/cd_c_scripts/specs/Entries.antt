@@ -1,6 +1,6 @@
 -- The entries of the patches of a script, one for each patch, in the order of application.
 use Rattle.std.specs.Prelude.{◌≡◌, ℕ, ◌+◌, ◌*◌, ◌<◌, ◌≤◌, List, [], ◌∷◌, All, Some, Ok, drop, take, length}
-use Rattle.std.specs.List.{slice_get, slice_index_or}
+use Rattle.std.specs.List.{slice_index_or}
 use Rattle.cd_script.specs.ByLine.{meaning_at}
 use Rattle.cd_script.specs.Order.{order}
 use Rattle.cd_script.specs.PatchForm.{Patch}
@@ -54,19 +54,6 @@ pub record IsRead (text : List ℕ) (number count : ℕ) (es : List Entry) : Typ
   pub version : Version
   pub numbered : head_numbered number ≡ Some (Some version)
   pub indexed : IsIndexed text version count es
-
--- the entry at a place has this line number; its line, read again, is a patch that begins in its
--- block, and touches the same number of blocks
-pub record Rereads (text : List ℕ) (version : ℕ) (es : List Entry) (place number : ℕ) : Type 0 where
-  pub e : Entry
-  pub p : Patch
-  pub named : Version
-  pub at : slice_get es place ≡ Some e
-  pub is_version : head_numbered version ≡ Some (Some named)
-  pub reads : HasLine text named e p
-  pub block : p.block ≡ e.block
-  pub met : blocks_met p ≡ e.blocks_met
-  pub number_is : number ≡ e.number
 
 -- the line numbers of patches increase along a script
 abbrev pub LinesRise : List Patch → Type 0

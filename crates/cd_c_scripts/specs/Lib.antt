@@ -1,16 +1,9 @@
 pub mod Bases
-pub mod Client
 pub mod Entries
 pub mod Flags
 pub mod FlatPatch
-pub mod Images
-pub mod InOrder
 pub mod Indexing
 pub mod Lines
 pub mod NumberLaws
 pub mod Outcomes
 pub mod Pieces
-pub mod Plain
-pub mod Runs
-pub mod StepKinds
-pub mod StepRooms

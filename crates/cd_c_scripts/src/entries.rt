@@ -55,7 +55,7 @@ pub(crate) fn blocks_met(patch: &HexPatch<'_>) -> u32
     blocks_met_spelled(patch) as u32
 }
 
-/// Proof step: the number of a version, from which a run finds the version again.
+/// Proof step: the number of a version, from which a call finds the version again.
 pub(crate) fn version_number(version: Version) -> u32
     ensures { head_numbered result ≡ Some (Some version) }
 {

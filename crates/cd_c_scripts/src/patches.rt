@@ -1,4 +1,4 @@
-//! The call of C that applies a patch to the sectors in hand.
+//! The call of C that applies a patch to sectors.
 
 ghost use Rattle.std.specs.Prelude.{◌≡◌, ◌≢◌, ◌↔◌, IfSome};
 ghost use Rattle.cd_script.specs.Patch.{IsPatch};
@@ -9,8 +9,8 @@ ghost use Rattle.cd_c_scripts.specs.FlatPatch.{IsSomePatch, flat_patch};
 ghost use Rattle.cd_patch.specs.OutcomeNumbers.{no_patch, outcome_number};
 ghost use Rattle.cd_c_scripts.specs.Outcomes.{place_after};
 
+use crate::flags::carries;
 use crate::flat_patch::{FlatPatch, patch_of};
-use crate::run_state::carries;
 use cd_patch::result_numbers::NO_PATCH;
 use cd_patch::{Outcome, apply_lent};
 use cd_script::{MAX_BYTES, is_patch};
@@ -42,7 +42,7 @@ fn note_place(outcome: Outcome, place: &mut Place)
 /// Decides a patch on sectors, and applies it if it is accepted, as [`apply_lent`]. `sectors` has
 /// the sectors of the image from the patch's first block on; at most three of them are used. The
 /// patch is `patch`, with its bytes at the front of `new_bytes` and `old_bytes`, as
-/// `cdpatch_read_line` writes them. Of the flags of a run, only that for damage has an effect.
+/// `cdpatch_read_line` writes them. Of the flags, only that for damage has an effect.
 /// Returns a number of `enum cdpatch_result`. If the patch is refused, `place` gets the block and
 /// the byte. A record that is not a patch changes nothing.
 #[unsafe(no_mangle)]

@@ -1,6 +1,6 @@
 //! The call of C that applies patches of a script to a piece of an image.
 
-ghost use Rattle.std.specs.Prelude.{◌≡◌, ◌≢◌, ◌↔◌, ◌+◌, ◌<◌, ◌≤◌, ◌⊎◌, List, Some, drop, length, take, true};
+ghost use Rattle.std.specs.Prelude.{◌≡◌, ◌≢◌, ◌↔◌, ◌+◌, ◌<◌, ◌≤◌, ◌⊎◌, Some, drop, length, take, true};
 ghost use Rattle.std.specs.List.{slice_get, slice_index_or};
 ghost use Rattle.cd_script.specs.Patch.{IsPatch};
 ghost use Rattle.cd_script.specs.declared.version.Version.{Version as TheVersion};
@@ -12,9 +12,9 @@ ghost use Rattle.cd_sector.specs.Image.{base_limit};
 ghost use Rattle.cd_c_scripts.specs.Lines.{head_numbered};
 ghost use Rattle.cd_c_scripts.specs.Pieces.{AreBlocksIn, AreRefused, IsDone, IsLeft, IsOfNoPatch, Tells};
 
-use crate::deciding::{lend_entry, named_version};
 use crate::entries::Entry;
-use crate::run_state::{FLAGS, carries};
+use crate::flags::{FLAGS, carries, ends};
+use crate::rereading::{lend_entry, named_version};
 use cd_address::MAX_BLOCK;
 use cd_patch::{Outcome, apply_lent};
 use cd_script::{LentBytes, MAX_BYTES, Patch, Version};
@@ -43,9 +43,6 @@ const STOP_FIRST: u32 = 6;
 
 /// A flag does not exist.
 const STOP_FLAGS: u32 = 7;
-
-/// The flag that the image ends with the piece.
-const LAST: u32 = 2;
 
 /// The answer for a patch, as C's `struct cdpatch_answer`.
 #[derive(Clone, Copy)]
@@ -92,13 +89,6 @@ pub struct Job<'a> {
     pub flags: u32,
     /// Room for a later release.
     pub spare: [u32; 4],
-}
-
-/// Whether the image ends with the piece.
-fn ends(flags: u32) -> bool
-    ensures { result ≡ ends flags }
-{
-    flags / LAST % 2 == 1
 }
 
 /// Whether the patch of an entry, by the entry's numbers, does the same on a piece of `count`

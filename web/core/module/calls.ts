@@ -2,7 +2,7 @@
 
 import { Arena } from './arena.js';
 import {
-    ADDRESS_SIZE, ANSWER_STRUCT, COLUMNS, DIAGONALS, DIGEST_SIZE, ENTRY_STRUCT, FAILURE, FIT, INDEX_STRUCT, JOB_FLAG, JOB_STRUCT, LAST_BASE,
+    ADDRESS_SIZE, ANSWER_STRUCT, COLUMNS, DIAGONALS, DIGEST_SIZE, ENTRY_STRUCT, FAILURE, FIT, FLAG, INDEX_STRUCT, JOB_STRUCT, LAST_BASE,
     LINE_STRUCT, NAMED_BASE_STRUCT, PATCH_STRUCT, SCRIPT, SECTOR_SIZE, SHA1_STRUCT, STOP, USER_SIZE,
 } from './numbers.js';
 import { MOST_PATCHES, RECORD, RECORD_SIZE, VERB, sectorCount } from './records.js';
@@ -258,7 +258,7 @@ export class Calls extends SectorCalls {
     /**
      * Reads a script that is to be applied, and lends memory to it until `jobEnd`.
      * @param script in pieces
-     * @param flags of RUN_FLAG
+     * @param flags of FLAG
      */
     jobBegin(script: Uint8Array[], base: number = 0, flags: number = 0): ScriptJob {
         if (base !== base >>> 0 || base > LAST_BASE) throw new RangeError(`no image begins with block ${base}`);
@@ -319,7 +319,7 @@ export class Calls extends SectorCalls {
         view.setUint32(job.at + JOB_STRUCT.ENTRIES, job.next, true);
         view.setUint32(job.at + JOB_STRUCT.COUNT, job.left, true);
         view.setUint32(job.at + JOB_STRUCT.FIRST, first, true);
-        view.setUint32(job.at + JOB_STRUCT.FLAGS, job.flags | (isLast ? JOB_FLAG.LAST : 0), true);
+        view.setUint32(job.at + JOB_STRUCT.FLAGS, job.flags | (isLast ? FLAG.LAST : 0), true);
         job.stop = this.exports.cdpatch_apply_entries(job.at, at, BigInt(count), job.answers, MOST_ANSWERS_64, answer);
         if (job.stop > STOP.CAPACITY || isLast && job.stop === STOP.PIECE) throw new RangeError(`patches stopped for reason ${job.stop}`);
         const made: Answer[] = [];

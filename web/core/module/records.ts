@@ -3,7 +3,7 @@
 import { CONTENT, RECORD_STRUCT, SECTOR_KIND, SECTOR_SIZE } from './numbers.js';
 
 export {
-    CONTENT, FAILURE, FIT, RESULT, RUN_FLAG, SECTOR_KIND, STATUS, STOP, VERB, MOST_PATCHES, MOST_SCRIPT_BYTES, PATCH_SIZE,
+    CONTENT, FAILURE, FIT, FLAG, RESULT, SECTOR_KIND, STATUS, STOP, VERB, MOST_PATCHES, MOST_SCRIPT_BYTES, PATCH_SIZE,
 } from './numbers.js';
 
 /** The offsets of the members of a sector's record, and the size of a record in bytes. */

@@ -2,7 +2,7 @@
 
 import { ByteList, PieceCutter, PieceKeeper, type Piece, type Reader } from '../bytes.js';
 import {
-    FAILURE, MOST_SECTORS, RESULT, RUN_FLAG, SECTOR_SIZE, STATUS, STOP, sectorCount, type Answer, type Calls, type ScriptJob,
+    FAILURE, FLAG, MOST_SECTORS, RESULT, SECTOR_SIZE, STATUS, STOP, sectorCount, type Answer, type Calls, type ScriptJob,
 } from '../module/index.js';
 import { ReadAhead } from '../readers/index.js';
 import { imageTooLong } from '../sectors/index.js';
@@ -223,7 +223,7 @@ export async function passPatched(calls: Calls, reader: Reader, script: ReadScri
     const ahead = new ReadAhead(reader);
     const out = take && new JoinedPieces(take);
     const log = new PatchLog(calls);
-    const flags = (carry ? RUN_FLAG.CARRY : 0) + (withoutOld ? RUN_FLAG.WITHOUT_OLD : 0);
+    const flags = (carry ? FLAG.CARRY : 0) + (withoutOld ? FLAG.WITHOUT_OLD : 0);
     const steps = 'parts' in script ? stepsOf(calls, script.parts, base, reader.size, flags)
         : stepsOfScript(calls, [script.text], base, reader.size, flags);
     let failure: Uint8Array | null = null;

@@ -3,7 +3,7 @@
 import { ByteList, joinedBytes, sameBytes } from '../bytes.js';
 import { Fault } from '../faults.js';
 import {
-    CONTENT, LAST_BASE, MOST_SCRIPT_BYTES, RECORD, RECORD_SIZE, RESULT, RUN_FLAG, SECTOR_KIND, SECTOR_SIZE, USER_SIZE, type Calls,
+    CONTENT, FLAG, LAST_BASE, MOST_SCRIPT_BYTES, RECORD, RECORD_SIZE, RESULT, SECTOR_KIND, SECTOR_SIZE, USER_SIZE, type Calls,
 } from '../module/index.js';
 import type { Job } from '../pool/index.js';
 import {
@@ -249,7 +249,7 @@ function firstWrong(calls: Calls, { version, text }: Text, { blocks, old, fresh 
     const made = old.slice();
     const places = new Map(blocks.map((block, i) => [block, i]));
     const head = new TextEncoder().encode(`${headLine(version)}\n`);
-    for (const step of stepsOfScript(calls, [head, text], base, size, carry ? RUN_FLAG.CARRY : 0)) {
+    for (const step of stepsOfScript(calls, [head, text], base, size, carry ? FLAG.CARRY : 0)) {
         if (step.kind === 'fail') return 0;
         if (step.kind === 'log') {
             const refused = step.answers.find(({ result }) => result !== RESULT.OK);
