@@ -23,11 +23,14 @@ export const ENCODINGS_KNOWN = JSON.parse(readFileSync(join(top, 'tests/encoding
 /** The result of a process or a call: its status, and its standard streams as text and as bytes. */
 const ended = (status, out, errors) => ({ status, out: out.toString(), errors: errors.toString(), bytes: out });
 
-/** Writes a copy of cdscript whose threads begin at 8000 sectors: an image that is long enough for them is too large for most tests. */
+/** Writes a copy of cdscript whose threads begin at 8000 sectors, or for each file of a scan: images that are long enough for them are too large. */
 export function earlyCommand(directory) {
-    const text = readFileSync(command, 'utf8');
-    const early = text.replace(/\bSECTORS_FOR_THREADS ?= ?[\de]+/, 'SECTORS_FOR_THREADS=8000');
-    assert.notEqual(early, text);
+    let early = readFileSync(command, 'utf8');
+    for (const [name, least] of [['SECTORS_FOR_THREADS', '8000'], ['BYTES_FOR_THREAD', '1']]) {
+        const found = new RegExp(`\\b${name} ?= ?[\\de]+`);
+        assert.match(early, found);
+        early = early.replace(found, `${name}=${least}`);
+    }
     write(directory, { early });
     return join(directory, 'early');
 }

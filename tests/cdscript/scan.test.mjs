@@ -12,7 +12,7 @@ import { gzipSync } from 'node:zlib';
 
 // Must run before cdscript is loaded, which binds the calls.
 const faults = createRequire(import.meta.url)('./faulty.cjs');
-const { call, command, damaged, imageOf, inDirectory, read, run, sameFile, tool, write } = await import('./common.mjs');
+const { call, command, damaged, earlyCommand, imageOf, inDirectory, read, run, sameFile, tool, write } = await import('./common.mjs');
 const { noise } = await import('./discs.mjs');
 
 const preload = fileURLToPath(new URL('./faulty.cjs', import.meta.url));
@@ -307,7 +307,7 @@ test('an image that vanishes is named, and a full disk leaves whole lines', () =
 test('without threads a scan is the same', () => inDirectory(async room => {
     const rows = writeCollection(room);
     write(room, { 'none.cjs': "require('node:worker_threads').Worker = class { constructor() { throw new Error('EAGAIN'); } };" });
-    const { status, stdout } = spawnSync(process.execPath, ['-r', './none.cjs', command, 'scan', 'one', 'two', '--dat', 'all.dat'], { cwd: room, encoding: 'utf8' });
+    const { status, stdout } = spawnSync(process.execPath, ['-r', './none.cjs', earlyCommand(room), 'scan', 'one', 'two', '--dat', 'all.dat'], { cwd: room, encoding: 'utf8' });
     assert.deepEqual([status, stdout.split('\n').filter(Boolean).sort()], [1, rows]);
 }));
 
@@ -319,7 +319,7 @@ test('a thread that fails ends no scan', () => inDirectory(async room => {
             fail() { this.emit('error', new Error('gone')); }
             postMessage() { ${posted ? 'setImmediate(() => this.fail())' : ''} }
             terminate() {} }` });
-        const { status, stdout, stderr } = spawnSync(process.execPath, ['-r', './fails.cjs', command, 'scan', 'one', 'two', '--dat', 'all.dat'],
+        const { status, stdout, stderr } = spawnSync(process.execPath, ['-r', './fails.cjs', earlyCommand(room), 'scan', 'one', 'two', '--dat', 'all.dat'],
             { cwd: room, encoding: 'utf8' });
         return { status, lines: stdout.split('\n').filter(Boolean).sort(), faults: stderr.split('\n').filter(it => it.endsWith(': Error: gone')) };
     };

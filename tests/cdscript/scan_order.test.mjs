@@ -8,7 +8,7 @@ import { test } from 'node:test';
 
 // Must run before cdscript is loaded, which binds the calls.
 const faults = createRequire(import.meta.url)('./faulty.cjs');
-const { damaged, imageOf, inDirectory, read, run, runProcess, write } = await import('./common.mjs');
+const { damaged, earlyCommand, imageOf, inDirectory, read, run, runProcess, write } = await import('./common.mjs');
 
 const track = (number, name) => `FILE "${name}" BINARY\n TRACK ${String(number).padStart(2, '0')} MODE1/2352\n INDEX 01 00:00:00\n`;
 const linesIn = text => text.toString().split('\n').filter(Boolean);
@@ -34,6 +34,8 @@ test('lines come in the order of names, with threads and without, in text and in
     const names = await writeShelf(room);
     const due = linesIn(runProcess(['scan', '.'], { cwd: room }).out);
     assert.deepEqual(namesIn(due.join('\n')), names);
+    const early = await inDirectory(elsewhere => linesIn(runProcess(['scan', '.'], { cwd: room, file: earlyCommand(elsewhere) }).out));
+    assert.deepEqual(early, due, 'with threads');
     for (const words of [['c.bin', 'z\t.bin', 'b', 'b.d', '.'], ['.']]) {
         assert.deepEqual(linesIn((await run(['scan', ...words], { cwd: room })).out), due);
         const objects = linesIn(runProcess(['scan', '--json', ...words], { cwd: room }).out).map(line => JSON.parse(line));

@@ -139,7 +139,7 @@ function sheetIn(named, there) {
 function linesInOrder(sheets, files) {
     const named = i => Array.from({ length: 198 }, (_, k) => `${(i + k) % files}.bin`);
     const names = [...Array.from({ length: sheets }, (_, i) => `${i}.cue`), ...Array.from({ length: files }, (_, i) => `${i}.bin`)];
-    const collection = { wanted: () => names.map(name => ({ name, real: name, id: name })), placeOf: name => ({ real: name, id: name }),
+    const collection = { found: new Map(names.map(name => [name, { name, real: name, id: name }])), fileNamed: name => ({ real: name, id: name }),
         filesNamedBy: ({ name }) => ({ names: name.endsWith('.cue') ? named(parseInt(name, 10)) : [], isWhole: true }) };
     return () => {
         const units = unitsOf(collection);

@@ -123,7 +123,7 @@ manual() {
 # pages NAME DIRECTORY MANUALS EXAMPLES: runs all user pages of a directory, and the man pages of another with the images of a third. Only the
 # gate runs the guides of the sources, since those of the tarball are the same.
 pages() {
-    local name
+    local name maker
     page "$1-readme" "$2/README.md"
     [ "$1" = tarball ] || [ -n "${GATE-}" ] || return 0
     for name in SCRIPTS TRANSLATE-CLI REPAIR COLLECTION FAQ; do
@@ -133,7 +133,9 @@ pages() {
     for name in node genisoimage jq; do
         ! missing "$name" "$(packaged "$name")" 'the examples of cdscript(1)' || return 0
     done
-    manual "$1-cdscript" "$3/cdscript.1" sh "$4/small_images.sh"
+    # The page names the command that makes the images. That of the sources names the place where it will be installed.
+    maker=$(sed -n 's/^\.Dl \(sh .*\/small_images\.sh\)$/\1/p' "$3/cdscript.1")
+    manual "$1-cdscript" "$3/cdscript.1" sh -c "${maker/\/usr\/local\/share\/doc\/cdpatch\/examples/$4}"
 }
 
 pages sources "$top" "$top/man" "$top/examples"

@@ -47,7 +47,7 @@ export class Collection {
         return this.tried(path, () => {
             if (path === INPUT) return void this.found.set(INPUT, { name: INPUT, isNamed: true, real: INPUT, id: INPUT, state: null });
             const stat = statSync(pathOf(path), { bigint: true });
-            return stat.isDirectory() ? this.addAll(path) : this.addFile({ name: path, isNamed: true, ...placeOf(path, stat) }, stat);
+            return stat.isDirectory() ? this.addAll(path) : this.addFile({ name: path, isNamed: true, ...fileAt(path, stat) }, stat);
         });
     }
 
@@ -72,7 +72,7 @@ export class Collection {
      */
     addEntry(path: string, real?: string) {
         const stat = statSync(pathOf(path), { bigint: true });
-        if (stat.isFile()) this.addFile({ name: path, isNamed: false, ...placeOf(path, stat, real) }, stat);
+        if (stat.isFile()) this.addFile({ name: path, isNamed: false, ...fileAt(path, stat, real) }, stat);
         else if (stat.isDirectory()) this.links.push(path);
     }
 
@@ -84,20 +84,19 @@ export class Collection {
         });
     }
 
-    addFile(file: Omit<Wanted, 'state'>, stat: BigIntStats) {
-        const isTarget = stat.dev === this.target.dev && stat.ino === this.target.ino;
+    addFile(file: Wanted, { dev, ino }: BigIntStats) {
+        const isTarget = dev === this.target.dev && ino === this.target.ino;
         if (isTarget || this.found.has(file.real)) return;
-        const wanted = { ...file, state: stat.isFile() ? stateIn(stat) : null };
-        this.found.set(file.real, wanted);
-        this.byName.set(file.name, wanted);
+        this.found.set(file.real, file);
+        this.byName.set(file.name, file);
     }
 
-    /** The real path and the `id` of a file. If it is gone, both are its name. */
-    placeOf(name: string): Pick<Wanted, 'real' | 'id'> {
+    /** A file by its name. If it is gone, the name is its real path and its `id`. */
+    fileNamed(name: string): Omit<Wanted, 'name' | 'isNamed'> {
         try {
-            return this.byName.get(name) || placeOf(name, statSync(pathOf(name), { bigint: true }));
+            return this.byName.get(name) || fileAt(name, statSync(pathOf(name), { bigint: true }));
         } catch {
-            return { real: name, id: name };
+            return { real: name, id: name, state: null };
         }
     }
 
@@ -113,11 +112,10 @@ export class Collection {
 
     /** The files that a cue sheet names, and whether none is missing; no files for anything else. */
     filesNamedBy(file: Wanted): { names: string[], isWhole: boolean } {
-        const bytes = this.bytesOfSheet(file);
-        if (bytes === null) return { names: [], isWhole: false };
         try {
+            const bytes = this.bytesOfSheet(file);
             const exists = (path: string) => this.byName.has(path) || existsSync(pathOf(path));
-            const readings = pathsOfSheet(file.name, sheetsOf(bytes), exists);
+            const readings = bytes === null ? [] : pathsOfSheet(file.name, sheetsOf(bytes), exists);
             const whole = readings.find(paths => !paths.includes(null));
             return { names: [...new Set((whole || readings.flat()).flatMap(path => path || []))], isWhole: whole !== undefined };
         } catch {
@@ -134,17 +132,12 @@ export class Collection {
             this.fault(`cannot read ${path}: ${reasonOf(error)}`);
         }
     }
-
-    /** The collected files. */
-    wanted() {
-        return [...this.found.values()];
-    }
 }
 
 function realPath(name: string) {
     return nameOfBytes(realpathSync.native(pathOf(name), 'buffer'));
 }
 
-function placeOf(name: string, { dev, ino, nlink }: BigIntStats, real: string = realPath(name)) {
-    return { real, id: nlink > 1n ? `${dev} ${ino}` : real };
+function fileAt(name: string, stat: BigIntStats, real: string = realPath(name)) {
+    return { real, id: stat.nlink > 1n ? `${stat.dev} ${stat.ino}` : real, state: stat.isFile() ? stateIn(stat) : null };
 }

@@ -23,7 +23,8 @@ export class Job {
     calls = library().calls;
     names; options; output; watch; pool;
 
-    constructor({ names, options }: Given, streams: Streams, readonly files: Files, readonly messages: Messages) {
+    constructor({ names, options }: Given, streams: Streams, readonly files: Files,
+        readonly messages: Pick<Messages, 'say' | 'progress' | 'hideProgress'>) {
         this.names = names;
         this.options = options;
         this.output = new Output(streams.output, () => messages.hideProgress());

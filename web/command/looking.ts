@@ -26,17 +26,12 @@ const BYTES_SHOWN = 128;
 
 /** The entries of the file with a path. Throws a Fault if there is none. */
 export async function entriesAtPath(opened: Pick<OpenedTrack, 'contents'>, path: string) {
-    const { files } = volumeIn(await opened.contents());
-    const named = entriesNamed(files, path);
-    if (named.length > 0) return named;
-    const meant = nearest(pathFromRoot(path), files.map(file => pathFromRoot(file.path)));
-    throw ownFault(`no file ${path} on the disc; ${meant === null ? 'cdscript files lists the files' : `did you mean ${meant}?`}`);
-}
-
-/** The volume of a track. Throws a Fault, `volume`, if there is none. */
-function volumeIn({ volume, fault }: TrackContents) {
+    const { volume, fault } = await opened.contents();
     if (volume === null) throw fault;
-    return volume;
+    const named = entriesNamed(volume.files, path);
+    if (named.length > 0) return named;
+    const meant = nearest(pathFromRoot(path), volume.files.map(file => pathFromRoot(file.path)));
+    throw ownFault(`no file ${path} on the disc; ${meant === null ? 'cdscript files lists the files' : `did you mean ${meant}?`}`);
 }
 
 /** Reports why no file is named, if there is no volume. */
@@ -47,10 +42,12 @@ export function sayNoVolume(job: Job, { fault }: TrackContents) {
 export async function filesJob(job: Job) {
     const target = await job.target();
     const opened = await openTrackOf(job, job.names[0]);
-    const { files, faults } = volumeIn(await opened.contents());
+    const { volume, fault } = await opened.contents();
+    if (volume === null) throw fault;
+    const { files, faults } = volume;
     await target.write(bytesOfLines(filesLines(files, visible, sentenceOf)));
-    faults.forEach(fault => job.say(sentenceOf(fault)));
-    return Number(faults.length > 0 || files.some(({ fault }) => fault !== null));
+    faults.forEach(it => job.say(sentenceOf(it)));
+    return Number(faults.length > 0 || files.some(it => it.fault !== null));
 }
 
 /** The files that contain a place, each with its number of bytes before the place; '-' if there is none. */

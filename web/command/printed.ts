@@ -37,7 +37,7 @@ export function untestedTexts(runs: KindRun[], hasSheet: boolean) {
     const [mode2, others] = [runs.filter(isMode2), runs.filter(it => !isMode2(it))];
     const isAudio = hasSheet && others.every(({ kind }) => kind === SECTOR_KIND.NOSYNC);
     const what = isAudio ? 'audio' : `not mode1${hasSheet ? '' : '; a cue sheet would say whether they are audio'}`;
-    return [...untestedText(others, what), ...untestedText(mode2, 'mode2 without codes that show damage')];
+    return [untestedText(others, what), untestedText(mode2, 'mode2 without codes that show damage')].filter(it => it !== '');
 }
 
 /** The name of a kind of sectors that were not tested. */
@@ -47,9 +47,8 @@ export function nameOfUntested(kind: number) {
 
 /** @param what the sectors are */
 function untestedText(runs: BlockRun[], what: string) {
-    const blocks = blocksText(joinedRuns(runs), MOST_UNTESTED);
     const count = blocksIn(runs);
-    return count === 0 ? [] : [`not tested ${count}: ${blocks} ${count === 1 ? 'is' : 'are'} ${what}`];
+    return count === 0 ? '' : `not tested ${count}: ${blocksText(joinedRuns(runs), MOST_UNTESTED)} ${count === 1 ? 'is' : 'are'} ${what}`;
 }
 
 // The output of --json: one JSON object a line. The man page documents the keys, which stay.

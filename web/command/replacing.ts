@@ -79,8 +79,7 @@ function freshBytes(job: Job, { encoding, hits }: Places, text: string) {
 async function writeReplaced(job: Job, target: Target, opened: OpenedTrack, places: Places,
     { text, inside }: { text: string, inside: boolean | undefined }) {
     const known = freshBytes(job, places, text);
-    const freshFor = (size: number) => (known.get(size) as Uint8Array);
-    const { script, left } = await replaceHits(job, opened, { ...places, freshFor, inside });
+    const { script, left } = await replaceHits(job, opened, { ...places, freshFor: size => known.get(size) as Uint8Array, inside });
     if (left.length === 1 && places.hits.length === 1) throw new Fault(left[0].why.code, left[0].why.facts);
     sayOfRuns(job, left, facts => sentenceOf({ code: 'replace/hit-left', facts }));
     if (script === null) throw ownFault('every place is left out, so no script was written');

@@ -24,7 +24,7 @@ export type Unit = { wanted: Wanted, names: string[], named: string[], isWhole: 
 
 /** The files to examine, in the order of the first names that they may give. */
 export function unitsOf(collection: Collection) {
-    const units = collection.wanted().map(wanted => {
+    const units = Array.from(collection.found.values(), wanted => {
         const { names: named, isWhole } = collection.filesNamedBy(wanted);
         const names = [...new Set([wanted.name, ...named].map(listedName))].sort();
         return { wanted, names, named, isWhole, files: [], sheets: 0 } as Unit;
@@ -36,7 +36,7 @@ export function unitsOf(collection: Collection) {
         if (!isSheetName(name)) files.get(id)?.push(unit);
     }
     for (const unit of units) {
-        unit.files = [...new Set(unit.named.map(name => collection.placeOf(name).id))].flatMap(id => files.get(id) || []);
+        unit.files = [...new Set(unit.named.map(name => collection.fileNamed(name).id))].flatMap(id => files.get(id) || []);
         unit.files.forEach(it => void (it.sheets += 1));
     }
     return units.sort(({ names: [a] }, { names: [b] }) => Number(a > b) - Number(a < b));

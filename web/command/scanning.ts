@@ -18,7 +18,6 @@ import { Job, type Target } from './job.js';
 import { missingText, siblingsOf, surveyedIn } from './opening.js';
 import { fileObject, jsonLine, untestedTexts } from './printed.js';
 import { LinesInOrder, resumedList, unitsOf, type FileState, type ResumedList, type Unit } from './scan_list.js';
-import type { Messages } from './system.js';
 import { begunThread } from './threads.js';
 
 // A thread of `scan`, which examines one image after the other without the help of other threads.
@@ -28,12 +27,6 @@ import { begunThread } from './threads.js';
  * examined, else ''.
  */
 export type Answer = { files: FileSummary[], notes: string[], missing: string[], fault: string };
-
-/** Collects messages instead of printing them. */
-function keptMessages(notes: string[]) {
-    const messages = { say: (note: string) => void notes.push(note), progress() {}, hideProgress() {} };
-    return (messages as unknown) as Messages;
-}
 
 /** Reports the sectors that were not tested in a file with tested sectors, if there is no cue sheet that gives their kind. */
 function sayUntested(job: Job, { sheet }: Disc, { file: { name }, surveys }: FileFound) {
@@ -54,7 +47,8 @@ type Asked = { name: string, needs: Needs, done: string[] };
 async function scanOne({ name, needs, done }: Asked): Promise<Answer> {
     const files = new Files(0);
     const notes: string[] = [];
-    const job = new Job({ job: 'scan', names: [name], options: {} }, { input: 0, output: 1, errors: 2 }, files, keptMessages(notes));
+    const messages = { say: (note: string) => void notes.push(note), progress() {}, hideProgress() {} };
+    const job = new Job({ job: 'scan', names: [name], options: {} }, { input: 0, output: 1, errors: 2 }, files, messages);
     job.pool.isAlone = true;
     files.warn = text => job.say(text);
     try {
@@ -91,7 +85,7 @@ class Scanners {
     waiting: ((thread: ReturnType<typeof begunThread>) => void)[] = [];
     threads; free;
 
-    /** @param count of threads. If there is only one file, the start of a thread would take longer than it helps */
+    /** @param count of threads; the current thread is the only one of one */
     constructor(count: number) {
         this.threads = Array.from({ length: count }, () => count === 1 ? null : begunThread(true));
         this.free = [...this.threads];
@@ -186,9 +180,9 @@ class Scan {
 
     /** The lines of those files that were not reported before, by their names in the list. */
     linesOf(files: FileSummary[]): Map<string, Uint8Array> {
-        const fresh = files.filter(({ name }) => !this.told.has(this.collection.placeOf(name).real))
+        const fresh = files.filter(({ name }) => !this.told.has(this.collection.fileNamed(name).real))
             .map(it => summaryByDat(it, this.known, basename(it.name)));
-        fresh.forEach(({ name }) => this.told.add(this.collection.placeOf(name).real));
+        fresh.forEach(({ name }) => this.told.add(this.collection.fileNamed(name).real));
         this.status = Math.max(this.status, ...fresh.map(({ verdict }) => verdict.status));
         const unlisted = fresh.filter(({ name }) => !this.done.has(listedName(name)));
         unlisted.forEach(it => this.count(it));
@@ -229,7 +223,7 @@ class Scan {
         const own = listedName(name);
         if ((this.done.has(own) && !this.doneSheets.has(own)) || this.told.has(real)) return true;
         if (named.length === 0 || !isWhole || !named.every(it => this.done.has(listedName(it)))) return false;
-        named.forEach(it => this.told.add(this.collection.placeOf(it).real));
+        named.forEach(it => this.told.add(this.collection.fileNamed(it).real));
         return true;
     }
 }
@@ -241,9 +235,16 @@ function statesOf(units: Unit[]) {
     return states;
 }
 
-/** How many files can be examined at once: sheets that name the same file wait for each other. */
-function atOnce(collection: Collection, units: Unit[]) {
-    return new Set(units.map(({ wanted: { id }, named }) => named.length > 0 ? collection.placeOf(named[0]).id : id)).size;
+/** A thread examines at least so many bytes, since its start takes as long as some of them. To open a file takes as long as FOR_OPENING. */
+const BYTES_FOR_THREAD = 3e8;
+const FOR_OPENING = 5e5;
+
+/** How many threads examine files: at most one for each sheet or file, as sheets that name the same file wait for each other. */
+function threadCount(collection: Collection, units: Unit[]) {
+    const files = units.map(({ wanted, named }) => named.length > 0 ? named.map(it => collection.fileNamed(it)) : [wanted]);
+    const sizes = new Map(files.flat().map(({ id, state }) => [id, FOR_OPENING + (state ? state.size : 0)]));
+    const work = [...sizes.values()].reduce((sum, size) => sum + size, 0);
+    return Math.min(cpus().length || 1, new Set(files.map(([first]) => first.id)).size, Math.ceil(work / BYTES_FOR_THREAD));
 }
 
 export async function scanJob(job: Job) {
@@ -252,7 +253,7 @@ export async function scanJob(job: Job) {
     const scan = new Scan(job, list || await job.target(), known);
     await scan.collection.addPaths(job.names);
     const units = unitsOf(scan.collection);
-    const scanners = new Scanners(Math.min(cpus().length || 1, atOnce(scan.collection, units)));
+    const scanners = new Scanners(threadCount(scan.collection, units));
     try {
         if (list) goOn(scan, list, units, await list.bringUpToDate(statesOf(units), scan.needs, known));
         else scan.order = new LinesInOrder(units);
@@ -265,16 +266,14 @@ export async function scanJob(job: Job) {
     sayOthers(job, scan.others);
     const { verdicts } = scan;
     if (verdicts === null) return scan.status;
-    if (verdicts.known.games.length > 0) await tellGames(job, verdicts.games(), scan.target);
+    if (verdicts.known.games.length > 0) {
+        const { json, missing = false } = job.options;
+        const games = verdicts.games();
+        if (json) await scan.target.write(jsonLine(gamesObject(games, missing)));
+        else gameLines(games, missing).forEach(line => job.say(line));
+    }
     job.say(verdicts.text());
     return Math.max(scan.status, verdicts.status);
-}
-
-/** Reports which games are complete. */
-async function tellGames(job: Job, found: ReturnType<Verdicts['games']>, target: Target) {
-    const { json, missing = false } = job.options;
-    if (json) await target.write(jsonLine(gamesObject(found, missing)));
-    else gameLines(found, missing).forEach(line => job.say(line));
 }
 
 /**
@@ -309,16 +308,6 @@ function sayOthers(job: Job, others: { name: string, what: string }[]) {
     for (const line of lines.sort()) job.say(line);
 }
 
-/** Yields units with their answers, in order. Of the units that follow, only some are begun. */
-async function* answered(units: Unit[], begin: (unit: Unit) => Promise<Answer | null>) {
-    const begun: Promise<Answer | null>[] = [];
-    for (const [i, unit] of units.entries()) {
-        while (begun.length < AHEAD && i + begun.length < units.length) begun.push(begin(units[i + begun.length]));
-        const answer = await begun.shift();
-        yield { unit, answer: answer || null };
-    }
-}
-
 /** The files of a unit that other units may have too: those that a sheet names, and a file with several names. */
 function sharedOf({ wanted: { name, real, id }, named }: Unit) {
     return named.length > 0 || id === real ? named : [name];
@@ -329,7 +318,7 @@ function sharedOf({ wanted: { name, real, id }, named }: Unit) {
  * that cue sheets name is examined by itself if they have left it out.
  */
 async function scanAll(scan: Scan, units: Unit[], scanners: Scanners) {
-    const idOf = (name: string) => scan.collection.placeOf(name).id;
+    const idOf = (name: string) => scan.collection.fileNamed(name).id;
     const examined = new Map<string, FileSummary>();
     const last = new Map<string, Promise<Answer | null>>();
     const examine = async (unit: Unit) => {
@@ -352,8 +341,10 @@ async function scanAll(scan: Scan, units: Unit[], scanners: Scanners) {
         return answer;
     };
     const takeAll = async (some: Unit[]) => {
-        for await (const { unit, answer } of answered(some, begin)) {
-            await scan.take(unit, answer);
+        const begun: Promise<Answer | null>[] = [];
+        for (const [i, unit] of some.entries()) {
+            while (begun.length < AHEAD && i + begun.length < some.length) begun.push(begin(some[i + begun.length]));
+            await scan.take(unit, await begun.shift() || null);
             unit.files.forEach(it => void (it.sheets -= 1));
             await takeAll(unit.files.filter(it => it.sheets === 0));
         }

@@ -89,14 +89,6 @@ function sayEnds(job: Job, paths: Map<number, string[]>) {
     }
 }
 
-/** Writes the tables of pointers to the listed texts, and reports how many there are and which files were not searched. */
-async function writePointers(job: Job, target: Target, opened: Pick<OpenedTrack, 'contents'>, listed: ListedSpans) {
-    const { text, count, unsearched } = await findPointers(opened, listed, job.watch);
-    await target.write(new TextEncoder().encode(text));
-    job.say(`tables of pointers ${count}`);
-    if (unsearched !== null) job.say(sentenceOf(unsearched));
-}
-
 export async function textsJob(job: Job) {
     const { encoding, table: file, end, csv, po, lines, min: least, in: paths, list, any, every, pointers } = job.options;
     assertListed(job.options);
@@ -123,7 +115,12 @@ export async function textsJob(job: Job) {
         await writeRecords(job, target, opened, { ...how, encoding: own });
     sayEnds(job, ends);
     job.say(`texts ${texts}`);
-    if (forPointers !== null) await writePointers(job, forPointers, opened, listed);
+    if (forPointers !== null) {
+        const { text, count, unsearched } = await findPointers(opened, listed, job.watch);
+        await forPointers.write(new TextEncoder().encode(text));
+        job.say(`tables of pointers ${count}`);
+        if (unsearched !== null) job.say(sentenceOf(unsearched));
+    }
     if (texts === 0) job.say(nothingFound(encoding !== undefined || table !== undefined));
     if (news) sayUnused(job, news);
     return Number(texts === 0);
