@@ -237,12 +237,12 @@ test('a repair takes sound sectors only, of the first image that has one', () =>
         first: withTail(damaged(good, 30, [40, 17], [50, 77])), second: withTail(damaged(good, 30, [50, 2300], [60, 100])),
     });
     const { status, out, errors } = await run(['merge', 'old', 'first', 'second', 'out'], { cwd: room });
-    assert.deepEqual([status, errors], [1, 'cdscript: out: the last sector is cut\n']);
+    assert.deepEqual([status, errors], [1, 'cdscript: out: the last sector is incomplete\n']);
     assert.equal(out, '31-31 from first\n40-40 from second\n41-41 from first\n50-50 damaged, without a sound copy\ntaken 3 damaged 1 disputed 0 different 0\n');
     sameFile(read(room, 'out'), withTail(damaged(good, 30, [50, 1000])), 'the repaired image');
     write(room, { sound: withTail(good), plain: damaged(good, 30, [31, 500]), good });
     const whole = await run(['merge', 'old', 'sound', 'whole', '--json'], { cwd: room });
-    assert.deepEqual([whole.status, whole.errors, JSON.parse(whole.out).tail], [1, 'cdscript: whole: the last sector is cut\n', tail.length]);
+    assert.deepEqual([whole.status, whole.errors, JSON.parse(whole.out).tail], [1, 'cdscript: whole: the last sector is incomplete\n', tail.length]);
     sameFile(read(room, 'whole'), withTail(good), 'the repaired image');
     assert.deepEqual([(await run(['merge', 'plain', 'good', 'all'], { cwd: room })).status, read(room, 'all')], [0, good]);
 }));
@@ -297,7 +297,7 @@ test('a repair of many places names the first of them', () => inDirectory(async 
     write(room, { old: Buffer.concat([damaged(good, 0, ...odd), Buffer.from('a')]), other });
     const { status, out, errors } = await run(['merge', 'old', 'other', 'out'], { cwd: room });
     assert.deepEqual([status, errors], [1, 'cdscript: the incomplete last sector is different in other; that of old is kept\n' +
-        'cdscript: out: the last sector is cut\n']);
+        'cdscript: out: the last sector is incomplete\n']);
     const lines = out.split('\n');
     const due = odd.map(([block]) => block).filter(block => block !== 11).slice(0, 1000).map(block => `${block}-${block} from other`);
     assert.deepEqual(lines, [...due, 'and so on: 1199 places in all', '11-11 sound, but only with the address of a different block',

@@ -8,7 +8,7 @@ import { test } from 'node:test';
 import { inDirectory, read, run, top, write } from './common.mjs';
 
 /** What the line of the verdict has for a kind of finding. Wrong addresses after a gap are not counted again. */
-const SAYS = { damaged: /damaged/, lost: /lost/, short: /missing at the end/, cut: /the last sector is cut/, gap: /before block \d|in \d+ places/,
+const SAYS = { damaged: /damaged/, lost: /lost/, short: /missing at the end/, cut: /the last sector is incomplete/, gap: /before block \d|in \d+ places/,
     untested: /could not be tested/, missing: /in a missing file/, address: /wrong address|before block|in \d+ places/ };
 
 const IS_WRONG = { damage: 1, doubt: 1, sound: 0, nothing: 0 };
@@ -51,7 +51,7 @@ test('merge gives the verdict of info on an image that begins too late or ends t
     spawnSync('python3', ['-B', join(top, 'tests/lib/verdict_images.py'), room]);
     const SHORT = '40 blocks of the volume are missing at the end';
     for (const [name, due, reasons, tail] of [['short.bin', SHORT, { short: 40 }, 0], ['short.cue', SHORT, { short: 40 }, 0],
-        ['cut.bin', '1 block of the volume is missing at the end; the last sector is cut', { short: 1, cut: 1 }, 1352],
+        ['cut.bin', '1 block of the volume is missing at the end; the last sector is incomplete', { short: 1, cut: 1 }, 1352],
         ['late-start.bin', '3 sectors are missing before block 3', { gap: 1 }, 0], ['sound.bin', '', {}, 0]]) {
         for (const words of [[name, '--parity'], [name, 'sound.bin']]) {
             const { status, out, errors } = await run(['merge', ...words, `${words.join()}.out`, '--json'], { cwd: room });

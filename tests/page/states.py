@@ -224,7 +224,7 @@ class States(PageTest):
         """A dump that a list of known dumps verifies."""
         self.begin(discs.game())
         self.open_files(self.dumps())
-        self.browser.wait('#disc-line .tag.good', 'known dump')
+        self.browser.wait('#disc-line .tag.good', 'verified')
 
     # ---- a second image
 

@@ -429,7 +429,7 @@ class Second(PageTest):
         cut = game[:-20 * SECTOR_SIZE - 1000]
         self.open_two(cut, game)
         self.browser.answer('Repair the open game.bin with this file')
-        self.browser.wait('#second-body .say.warn', 'The last sector is cut.')
+        self.browser.wait('#second-body .say.warn', 'The last sector is incomplete.')
         self.browser.wait('#second-body .say.warn', f'Only other.bin has blocks {end - 21} to {end - 1}. To include them, repair it from this image.')
         self.browser.wait('#second-body .say.plain', 'No damaged sector was found in game.bin.')
         mains = self.browser.run('return [...document.querySelectorAll("#second-body .main")].map(it => it.innerText)')

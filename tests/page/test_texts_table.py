@@ -371,8 +371,8 @@ class TextsTable(PageTest):
         files = discs.written(game=game, hurt=hurt, other=common.image_of([b'other'] * 20), same=game[:-1] + bytes([game[-1] ^ 1]))
         self.open_list(dat_of(('Starlit Detective (Japan).bin', game, ''), ('Hurt.bin', hurt, 'status="baddump"')))
         self.browser.wait('#start-message .say.good', 'It lists 2 known dumps.')
-        for name, said in (('game', 'known dump: Starlit Detective (Japan).bin'), ('hurt', 'known as a bad dump: Hurt.bin'),
-                           ('same', 'but different bytes: damaged or patched?'), ('other', 'in none of the lists')):
+        for name, said in (('game', 'verified: Starlit Detective (Japan).bin'), ('hurt', 'known as a bad dump: Hurt.bin'),
+                           ('same', 'but different bytes: damaged or patched?'), ('other', 'not in the DAT')):
             self.open_image(files[name])
             self.browser.wait('#disc-line .tag', said)
             for panel in ('text', 'disc'):
@@ -392,13 +392,13 @@ class TextsTable(PageTest):
         self.open_files(path)
         self.browser.wait('#start-message .say.good', 'known dump')
         self.open_image(discs.written(game=game)['game'])
-        self.browser.wait('#disc-line .tag.good', 'known dump: game.bin')
+        self.browser.wait('#disc-line .tag.good', 'verified: game.bin')
 
     def test_a_list_that_is_opened_later_names_the_open_disc(self) -> None:
         self.open_image(discs.written(game=discs.game())['game'])
         self.assertFalse(self.browser.run("return document.querySelector('#disc-line .tag') !== null"))
         self.open_list(dat_of(('Starlit.bin', discs.game(), '')), 'games.xml')
-        self.browser.wait('#disc-line .tag.good', 'known dump: Starlit.bin')
+        self.browser.wait('#disc-line .tag.good', 'verified: Starlit.bin')
 
     def test_a_list_that_is_cut_is_not_taken(self) -> None:
         self.open_image(discs.written(game=discs.game())['game'])

@@ -45,7 +45,7 @@ const CLAUSES: Record<Finding['code'], (finding: Finding, tested: number) => str
     damaged: ({ count }, tested) => `${count.toLocaleString('en')} of ${counted(tested, 'data sector')} ${are(count)} damaged`,
     lost: lostClause,
     short: ({ count }) => `${counted(count, 'block')} of the volume ${are(count)} missing at the end`,
-    cut: () => 'the last sector is cut',
+    cut: () => 'the last sector is incomplete',
     gap: gapClause,
     missing: ({ count }) => `${counted(count, 'track')} ${are(count)} in a missing file`,
     untested: ({ count }) => `${counted(count, 'Mode 2 sector')} could not be tested`,

@@ -61,11 +61,11 @@ export function dumpWords({ dumps }: App, { name: own, reader, sha1, crc32, md5 
         const names = dumps.flatMap(known => known.namesOfSize(reader.size));
         const name = seen(names.includes(own) ? own : names[0] || '');
         const words = names.length > 0 ? format('same size as {name}, but different bytes: damaged or patched?', { name })
-            : 'in none of the lists of known dumps';
+            : 'not in the DAT';
         return element('span', { class: 'tag warn' }, words);
     }
     const [{ name, isBad }] = found;
-    const words = isBad ? 'known as a bad dump: {name}' : 'known dump: {name}';
+    const words = isBad ? 'known as a bad dump: {name}' : 'verified: {name}';
     return element('span', { class: `tag ${isBad ? 'bad' : 'good'} dump` }, format(words, { name: seen(name) }));
 }
 

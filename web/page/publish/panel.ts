@@ -34,7 +34,7 @@ function soundRow(survey: App['survey']): Row {
     if (level === 'sound') return ['good', 'All sectors of your image that were tested are sound.'];
     const what = verdictText(survey.verdict);
     if (!canPublish) return ['bad',
-        format('Your image is not whole: {what}. Players compare theirs with it, so publish from a whole image.', { what })];
+        format('Your image is not complete: {what}. Players compare theirs with it, so publish from a complete image.', { what })];
     return ['warn', format('Of your image, {what}. Players with a sound disc have a different SHA-1.', { what })];
 }
 
