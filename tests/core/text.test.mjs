@@ -253,6 +253,19 @@ test('loosely each half-width form is one with its full-width one, from the firs
     assert.deepStrictEqual(forms('Ａ', true).sort(), ['41', '61', '8260', '8281']);
 });
 
+test('composed and apart are one text, so are a yen sign and a backslash, and loosely a table has its characters in either case', () => {
+    const spelled = (encoding, text, loose) => unitsAlike(encoding, text, loose).map(part => part.map(hex).sort().join(' '));
+    for (const [text, other] of [['パ', 'ハ\u309A'], ['한', '한'.normalize('NFD')], ['¥', '\\']]) {
+        const both = [text, other].map(it => encoded('utf8', it)).sort().join(' ');
+        for (const it of [text, other]) assert.deepStrictEqual(spelled(encodingOf('UTF-8'), it), [both], it);
+    }
+    for (const text of ['パソ', 'ハ\u309Aソ']) assert.deepStrictEqual(spelled(encodingOf('CP932'), text), ['8370', '835C']);
+    for (const text of ['¥1', '\\1']) assert.deepStrictEqual(spelled(encodingOf('CP932'), text), ['5C', '31']);
+    const own = table('01=A\n02=b\n03=the\n04=a\n05060708=パ\n');
+    assert.deepStrictEqual([spelled(own, 'Abthe', true), spelled(own, 'ﾊﾟ', true)], [['01 04', '02', '03'], ['05060708']]);
+    for (const space of [' ', '\u3000']) assert.deepStrictEqual(spelled(encodingOf('hex'), `ab${space}cd`, true), ['AB', 'CD']);
+});
+
 /** The error for a character that an encoding lacks, with its place in whole characters, from 1, and in the string. */
 const lacking = (name, character, place, at) => ({ code: 'text/no-character', facts: { name, character, place, at } });
 
