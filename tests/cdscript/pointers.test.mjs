@@ -24,7 +24,7 @@ async function madeDisc(room, files) {
     return run(['texts', 'disc.bin', '-o', 'texts.tsv', '--pointers', 'pointers.tsv'], { cwd: room });
 }
 
-test('a translation of 300 texts that are longer than their room is on the patched disc, and undo takes it back', { skip }, () => inDirectory(async room => {
+test('a translation of 300 texts that are too long is on the patched disc, and undo takes it back', { skip }, () => inDirectory(async room => {
     const listed = await madeDisc(room, FILES);
     const notSearched = 'cdscript: not searched for pointers: /MAIN.EXE (1.3 MB), 1 more\n';
     assert.deepEqual([listed.status, listed.errors], [0, `cdscript: texts ${FILES * TEXTS}\ncdscript: tables of pointers ${FILES}\n${notSearched}`]);
@@ -50,7 +50,7 @@ test('a translation of 300 texts that are longer than their room is on the patch
     sameFile(read(room, 'back.bin'), read(room, 'disc.bin'), 'the disc after undo');
 }));
 
-test('--keep leaves rows in place, tables that cannot be read are messages, and options need one another', { skip }, () => inDirectory(async room => {
+test('--keep leaves rows in place, unreadable tables are messages, and options need one another', { skip }, () => inDirectory(async room => {
     const listed = await madeDisc(room, 1);
     const lines = read(room, 'texts.tsv').toString().split('\n').slice(0, -1);
     const rows = lines.map((line, i) => i === 0 ? line : line + english(line.split('\t')[6], i));

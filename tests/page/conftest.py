@@ -1,5 +1,5 @@
-"""Leaves the tests without the mark `in_check` to the gate, and opens a new window for the rerun of a test, since the first failure may be due
-to the window."""
+"""Leaves the tests without the mark `in_check` to the gate, and opens a new window for the rerun of a test, since the first failure may be
+due to the window."""
 
 import os
 from typing import Any

@@ -77,8 +77,8 @@ const { movedWords } = await page('text/pointers_card.js');
 
 test('of many sentences about texts that moved twenty are listed, and the others are counted', () => {
     const said = count => {
-        const left = Array.from({ length: count }, (_, i) => ({ why: { code: 'pointers/no-room', facts: { path: `/F${i}`, missing: 1 } } }));
-        return movedWords({ left, few: [], sharing: [], longer: 0 });
+        const whys = Array.from({ length: count }, (_, i) => ({ code: 'pointers/no-room', facts: { path: `/F${i}`, missing: 1 } }));
+        return movedWords({ left: whys.map(why => ({ why })), few: [], sharing: [], longer: 0 });
     };
     assert.equal(said(20).length, 20);
     assert.deepEqual(said(21).slice(20), ['1 more']);

@@ -363,7 +363,8 @@ class Second(PageTest):
         # A second Enter does not press `Open it instead`.
         self.assertFalse(self.browser.run('return document.activeElement.matches(".away, body")'))
         self.browser.press(Keys.ENTER)
-        self.sees(['game.bin', 'Second image: other.bin'], lambda: [self.browser.text('#disc-line .name'), self.browser.text('#second-title')])
+        self.sees('game.bin', lambda: self.browser.text('#disc-line .name'))
+        self.sees('Second image: other.bin', lambda: self.browser.text('#second-title'))
         script = self.browser.downloaded('other (changes).txt')
         self.assertEqual([line.split()[:2] for line in script.read_text().splitlines()], [['cdpatch', '1'], ['set', '50']])
         script.unlink()

@@ -54,7 +54,7 @@ def run(words: Sequence[str | Path], place: Path, environment: dict[str, str]) -
 
 
 def left_behind(session: int) -> float:
-    """The processor seconds of the ended processes of a session for which nobody has waited. Most of a browser's are left so, to this process."""
+    """The processor seconds of the ended processes of a session for which nobody has waited, such as most of a browser's."""
     ended = [it for it, (state, parent, own) in all_processes().items() if state == 'Z' and parent == os.getpid() and own == session]
     return sum(seconds(os.wait4(it, 0)[2]) for it in ended)
 

@@ -187,8 +187,8 @@ release_tree() {
 commit() { git -c user.name=a -c user.email=a@localhost commit -aqm changed; }
 release() { make --no-print-directory -s -C "$1" release distdir="$PWD/made" "${@:2}" > log 2>&1; }
 
-# unfit TEXT COMMAND..: makes a mistake in the tree `unfit`, and records a part of the reason that must be given for it. `judge_unfit` judges
-# that nothing is released from this tree, for all these reasons.
+# unfit TEXT COMMAND..: makes a mistake in the tree `unfit`, and records a part of the reason that must be given for it. `judge_unfit`
+# judges that nothing is released from this tree, for all these reasons.
 reasons=()
 unfit() {
     [ -e unfit ] || cp -r release unfit
@@ -229,14 +229,17 @@ test_release() {
     export LOGIC GIT_CONFIG_GLOBAL=/dev/null
     judge 'a tree to be released is made' release_tree
     mkdir -p made
-    judge 'make release makes what make dist makes' eval 'release release SIGN="$PWD/owner" && [ -s made/cdpatch.html ] && (cd made && sha256sum --status -c ./*.sha256)'
-    judge 'systems for which nothing was built are said' test "$(grep '^Nothing was built' log | grep -o '(.*)' | paste -sd ' ')" = '(make windows) (make arm64)'
+    judge 'make release makes what make dist makes' eval 'release release SIGN="$PWD/owner" && [ -s made/cdpatch.html ] &&
+        (cd made && sha256sum --status -c ./*.sha256)'
+    judge 'systems for which nothing was built are said' test \
+        "$(grep '^Nothing was built' log | grep -o '(.*)' | paste -sd ' ')" = '(make windows) (make arm64)'
     judge 'what is fit to be released has no warning' eval '! grep "^warning" log'
     judge 'the address of the owner is in the package of the sources' grep -q '^Maintainer: .* <a@localhost>$' made/cdpatch_*.dsc
     judge 'what make release signs is verified as INSTALL says' signed
     judge 'only what is not signed is said not to be' eval \
         'make -n -C release release | grep -q "Nothing was signed" && ! make -n -C release release SIGN=owner | grep "Nothing was signed"'
-    judge 'nothing is signed with another key than the owner has given' eval '! bash release/tools/sign.sh another owner.pub 2> log && [ ! -e owner.pub.sig ]'
+    judge 'nothing is signed with another key than the owner has given' eval \
+        '! bash release/tools/sign.sh another owner.pub 2> log && [ ! -e owner.pub.sig ]'
     judge "a toolchain's release that was not tried is named, and passes" names_release
     unfit 'tools/owner.txt has no licence' sed -i 's/^licence:.*/licence:/' tools/owner.txt
     unfit 'there is no LICENSE' rm LICENSE
