@@ -20,13 +20,13 @@ const english = (text, i) => `The hero found herb number ${/\d+/.exec(text)[0]}$
 async function madeDisc(room, files) {
     tool('python3', ['-B', `${top}/tests/lib/event_files.py`, `${files}`], { cwd: room });
     const events = Object.fromEntries(Array.from({ length: files }, (_, i) => [`EVENT${i}.DAT`, read(room, `EVENT${i}.DAT`)]));
-    await discOf(room, { ...events, 'MAIN.EXE': Buffer.alloc(1_300_000), 'FILM.STR': Buffer.alloc(3_000_000) }, { options: ['-R', '-J'] });
+    await discOf(room, { ...events, 'MAIN.DAT': Buffer.alloc(1_300_000), 'FILM.STR': Buffer.alloc(3_000_000) }, { options: ['-R', '-J'] });
     return run(['texts', 'disc.bin', '-o', 'texts.tsv', '--pointers', 'pointers.tsv'], { cwd: room });
 }
 
 test('a translation of 300 texts that are too long is on the patched disc, and undo takes it back', { skip }, () => inDirectory(async room => {
     const listed = await madeDisc(room, FILES);
-    const notSearched = 'cdscript: not searched for pointers: /MAIN.EXE (1.3 MB), 1 more\n';
+    const notSearched = 'cdscript: not searched for pointers: /MAIN.DAT (1.3 MB), 1 more\n';
     assert.deepEqual([listed.status, listed.errors], [0, `cdscript: texts ${FILES * TEXTS}\ncdscript: tables of pointers ${FILES}\n${notSearched}`]);
     const lines = read(room, 'texts.tsv').toString().split('\n').slice(0, -1);
     const rows = lines.map((line, i) => i === 0 ? line : line + english(line.split('\t')[6], i));

@@ -26,11 +26,8 @@ test('the version is that of the header', () => {
     assert.equal(calls.version(), header.match(/CDPATCH_VERSION "(.*)"/)[1]);
 });
 
-// Calls on an image in memory and on runs, which will go before the release.
-const OLDER = /^cdpatch_(list|audit|check|apply|run_begin|run_next)$/;
-
 test('each call of cdpatch.h that takes no memory has a method', () => {
-    const names = header.match(/\bcdpatch_\w+(?=\()/g).filter(name => !OLDER.test(name));
+    const names = header.match(/\bcdpatch_\w+(?=\()/g);
     const files = ['out/web/core/module/calls.js', 'tests/core/calls.mjs'];
     const code = files.map(file => readFileSync(join(top, file), 'utf8')).join('');
     for (const name of names) assert.match(code, new RegExp(`\\b${name}\\b`));

@@ -159,6 +159,17 @@ function argued(dice, name) {
     return { ...made, read };
 }
 
+/** Pointers of 16 bits of which a third has a flag in the highest bit. */
+function flagged(dice, name, texts) {
+    const flags = texts.map((_, i) => i % 3 === 0 ? 0x8000 : 0);
+    const made = tabled(dice, name, texts, { width: 2, before: 2, numberOf: (place, { at }) => place | flags[(at - 2) / 2], targetOf: value => value & 0x7FFF });
+    const read = ({ 'TEXT.BIN': now }) => made.pointers.map(({ at, text }) => {
+        const first = now.readUInt16LE(at) - flags[text];
+        return now.subarray(first, now.indexOf(0, first));
+    });
+    return { ...made, read };
+}
+
 /** Banks of texts, each with its table. A game sees one bank at a time. */
 function banked(dice, name) {
     const size = 0x2000;
@@ -256,6 +267,8 @@ export function pointedGames(seed, most = 40) {
         pointless(dice, 'texts and noise', Buffer.concat([others(dice, 3000), rows.body, noise]), rows.places),
         between(dice, 'lengths as differences', lines()), counting(dice, 'numbers of characters beside pointers'),
         argued(dice, 'a code with the argument 00'), banked(dice, 'banks'),
+        tabled(dice, '32 bits from the pointer in records', lines(), { width: 4, isBig: true, distance: 8, before: 40, beside: () => number(4, dice(4096)), ...own }),
+        flagged(dice, 'a flag in the highest bit', codedLines(dice, 40)),
         tabled(dice, 'short words in any order', words(80).map((word, i) => i % 7 === 0 ? word.subarray(0, 2) : word), { width: 2, before: 2, isMixed: true, ...file }),
     ];
 }

@@ -198,6 +198,24 @@ test('a text in place is one patch, and the number of patches is known before th
     assert.deepEqual([short.patches, counts], [inPlace.length, [short.patches, long.patches]]);
 });
 
+test('texts use a range that a person names as free, and nothing else in it changes', async () => {
+    for (const name of ['16 bits from the file', '32 bits in any order']) {
+        const { files, ...game } = gameNamed(name);
+        const filled = { ...game, files: { 'TEXT.BIN': Buffer.concat([files['TEXT.BIN'], Buffer.alloc(4096 - files['TEXT.BIN'].length % 2048, 0x77)]) } };
+        const end = Math.max(...game.texts.map(at => files['TEXT.BIN'].indexOf(0, at))) + 1;
+        const { reader, opened, rows, pointers } = await prepared(filled);
+        const news = rows.map((row, i) => ({ ...row, new: row.new === '' ? '' : `${row.new}${i % 3 === 0 ? 'x'.repeat(40) : ''}` }));
+        const { left } = await moved(opened, news, pointers);
+        assert.ok(left.some(({ why }) => why.code === 'pointers/no-room'), name);
+        const free = `/TEXT.BIN\t${end}\t${filled.files['TEXT.BIN'].length - end - 1}\t\tfree\t\t\t\t\t\n`;
+        const made = await moved(opened, news, pointers + free);
+        const now = await filesAfter(reader, opened, made.script);
+        assert.deepEqual([made.left.filter(({ why }) => why.code === 'pointers/no-room'), now['TEXT.BIN'].at(-1), now['TEXT.BIN'].at(-2)], [[], 0x77, 0x77]);
+        const written = news.filter(row => row.new !== '' && !made.left.some(({ text }) => text.number === row.number));
+        assert.deepEqual(misread(filled, now, written), []);
+    }
+});
+
 test('a text goes to the free end of the last sector, and the directory has the new length', async () => {
     const game = gameNamed('32-bit addresses in records');
     const { reader, opened, rows, pointers } = await prepared(game);
@@ -270,6 +288,9 @@ test('a list of tables is read as it is written, with corrections, or refused', 
         [{ row: 3, path: '/B', texts: '/A', at: 16, count: 2, distance: 4, width: 4, big: true, base: -16, own: false, unit: 1, begins: 0 }]);
     const cell = (column, value) => text.split('\n').map((line, i) => i !== 1 ? line
         : line.split('\t').map((it, k) => text.split('\n')[0].split('\t')[k] === column ? value : it).join('\t')).join('\n');
+    const more = [{ ...tables[0], unit: 2048, mask: 0x7FFF, row: 2 }, { ...tables[0], count: 0, width: 1, distance: 1, begins: 0, free: 4096, row: 3 }];
+    assert.deepEqual(await tablesOfList(readerOf(encoded(pointerList(more)))), more.map((it, i) => i === 0 ? it : { ...it, at: 4 }));
+    await assert.rejects(tablesOfList(readerOf(encoded(pointerList([{ ...more[0], mask: 0x7FF0 }])))), { code: 'pointers/cell' });
     const wrong = [['width', '8'], ['order', 'middle'], ['base', 'x'], ['base', ''], ['base', 'self2'], ['unit', '3'], ['count', '0'], ['count', '99999999'],
         ['offset', '-1'], ['distance', '1'], ['begins', 'x']];
     for (const [column, value] of wrong) {
@@ -379,9 +400,21 @@ test('files that are too large are not searched for pointers, and one of them is
         const { opened } = await discOf({ ...files, ...others });
         return (await listed(opened)).unsearched;
     };
-    assert.equal(await unsearchedOf({ 'MAIN.EXE': new Uint8Array(1 << 20) }), null);
-    const others = { 'FILM.STR': new Uint8Array(5 << 20), 'MAIN.EXE': new Uint8Array((1 << 20) + 1) };
-    assert.deepEqual(await unsearchedOf(others), { code: 'pointers/unsearched', facts: { path: '/MAIN.EXE', size: (1 << 20) + 1, more: 1 } });
+    assert.equal(await unsearchedOf({ 'MAIN.DAT': new Uint8Array(1 << 20), 'MAIN.EXE': new Uint8Array(1 << 22) }), null);
+    const others = { 'FILM.STR': new Uint8Array(5 << 20), 'MAIN.EXE': new Uint8Array((1 << 22) + 1), 'MAIN.DAT': new Uint8Array((1 << 20) + 1) };
+    assert.deepEqual(await unsearchedOf(others), { code: 'pointers/unsearched', facts: { path: '/MAIN.DAT', size: (1 << 20) + 1, more: 2 } });
+});
+
+test('a file that is too large as a whole is searched around its texts', async () => {
+    const { files: { 'TEXT.BIN': bytes } } = gameNamed('16 bits from the texts');
+    const { rows, pointers } = await listed((await discOf({ 'TEXT.BIN': bytes })).opened);
+    const before = (1 << 25) + 6;
+    const { opened } = await discOf({ 'TEXT.BIN': Buffer.concat([Buffer.alloc(before), bytes]) });
+    const spans = new ListedSpans();
+    spans.add(rows.map(row => ({ ...row, file: `/TEXT.BIN+${row.at + before}` })));
+    const { text, unsearched } = await findPointers(opened, spans);
+    const [due, found] = await Promise.all([pointers, text].map(it => tablesOfList(readerOf(encoded(it)))));
+    assert.deepEqual([found, unsearched], [due.map(table => ({ ...table, at: table.at + before, base: table.base + before })), null]);
 });
 
 /** After this many turns the search is cancelled. */

@@ -106,8 +106,9 @@ async function importOptions(job: Job, names: string[]) {
 /** The tables of pointers in a file. Reports if there are none, because then no text can move. */
 async function pointersIn(job: Job, name: string) {
     const tables = await inFile(name, async () => tablesOfList((await job.files.image(name)).reader), 'pointers', 'list');
-    if (tables.length === 0) job.say(`${name} has no table of pointers, so all texts stay in place`);
-    return tables;
+    if (tables.some(({ count }) => count > 0)) return tables;
+    job.say(`${name} has no table of pointers, so all texts stay in place`);
+    return [];
 }
 
 /** Imports lists whose texts may move, and reports those that have moved. */

@@ -65,28 +65,29 @@ class Tables {
     /** The form of the pointers to a place in a file. */
     claims = new Map<string, string>();
     tables: PointerTable[] = [];
-    taken;
+    taken; first;
 
     constructor(readonly file: Searched) {
         this.taken = new Uint8Array(file.bytes.length);
+        this.first = file.first ?? 0;
     }
 
     add({ run }: Candidate) {
         const { form, texts, distance } = run;
-        const isSmall = -form.base < LEAST_ADDRESS;
+        const isSmall = -baseInFile(run) < LEAST_ADDRESS;
         const parts = distance > 0 ? this.freeParts(run)
             : partsOf(run.hits.filter(({ at }) => !this.isTaken(at, form.width)), form.width)
                 .filter(part => !isSmall || part.hits.length >= LEAST_IN_PART);
         const hits = parts.flatMap(part => part.hits);
         if (hits.length < LEAST_FIRSTS) return;
-        const claim = [form.width, form.big, form.base, form.own].join();
-        const keys = [...new Set(hits.map(({ target }) => `${target} ${texts.path}`))];
+        const claim = [form.width, form.big, baseInFile(run), form.own, form.mask].join();
+        const keys = [...new Set(hits.map(({ target }) => `${target + texts.offset} ${texts.path}`))];
         const claimed = keys.filter(key => (this.claims.get(key) ?? claim) !== claim);
         if (claimed.length > MOST_CLAIMED * keys.length) return;
         for (const key of keys) if (!this.claims.has(key)) this.claims.set(key, claim);
         for (const part of parts) {
             const table = this.tableOf(run, part);
-            for (const at of placesOf(table)) this.taken.fill(1, at, at + form.width);
+            for (const at of placesOf(table)) this.taken.fill(1, at - this.first, at - this.first + form.width);
             this.tables.push(table);
         }
     }
@@ -109,13 +110,17 @@ class Tables {
         return this.taken[at] === 1 || this.taken[at + width - 1] === 1;
     }
 
-    tableOf({ form, texts }: Run, { hits, distance }: { hits: Hit[], distance: number }): PointerTable {
+    tableOf(run: Run, { hits, distance }: { hits: Hit[], distance: number }): PointerTable {
         const [first, last] = [hits[0].at, hits[hits.length - 1].at];
-        return {
-            ...form, path: this.file.path, at: first, count: (last - first) / distance + 1, distance, texts: texts.path,
-            begins: hits.filter(({ isFirst }) => isFirst).length,
-        };
+        const begins = hits.filter(({ isFirst }) => isFirst).length;
+        const [at, count] = [this.first + first, (last - first) / distance + 1];
+        return { ...run.form, base: baseInFile(run), path: this.file.path, at, count, distance, texts: run.texts.path, begins };
     }
+}
+
+/** The base of a run that counts from the beginning of the file of its texts. */
+function baseInFile({ form: { base, own }, texts }: Run) {
+    return own ? base : base + texts.offset;
 }
 
 /**
@@ -151,8 +156,9 @@ export async function findPointerTables(texts: TextStarts[], searched: AsyncIter
         await letOthersIn(signal);
         const tables = new Tables(file);
         const candidates = (await runsIn(file, differences, signal)).map(run => new Candidate(run, file)).filter(it => it.isTable(file));
-        candidates.sort((a, b) => b.weight - a.weight || b.firsts - a.firsts || a.run.form.unit - b.run.form.unit
-            || a.run.distance - b.run.distance);
+        const hasMask = ({ run }: Candidate) => Number(run.form.mask !== undefined);
+        candidates.sort((a, b) => b.weight - a.weight || b.firsts - a.firsts || hasMask(a) - hasMask(b)
+            || a.run.form.unit - b.run.form.unit || a.run.distance - b.run.distance);
         for (const candidate of candidates) {
             await letOthersIn(signal);
             tables.add(candidate);

@@ -91,14 +91,15 @@ function sizeOf(spans: Span[]) {
     return spans.reduce((sum, { first, after }) => sum + after - first, 0);
 }
 
-/**
- * Lays out texts: some stay at their places, and the others are placed in the free ranges, the longest first.
- * @param end the free end of the file
- */
-async function laidOut<T extends Movable>(staying: T[], moving: T[], end: Span, signal?: Signal): Promise<Layout<T>> {
+/** The free end of the file, which may be empty, and other free ranges in it. */
+type FreeRoom = { end: Span, ranges: Span[] };
+
+/** Lays out texts: some stay at their places, and the others are placed in the free ranges, the longest first. */
+async function laidOut<T extends Movable>(staying: T[], moving: T[], { end, ranges: free }: FreeRoom, signal?: Signal): Promise<Layout<T>> {
     const places = new Map(staying.map(it => [it, it.first]));
     const shared = new Map(staying.map(it => [layoutKeyOf(it), it.first]));
-    const spans = joinedSpans([...moving, ...staying.map(({ first, bytes, after }) => ({ first: first + bytes.length, after }))]);
+    const beside = staying.map(({ first, bytes, after }) => ({ first: first + bytes.length, after }));
+    const spans = joinedSpans([...moving, ...beside, ...free]);
     const ranges = new FreeRanges(spans);
     let [used, needed, unplaced] = [end.first, 0, 0];
     for (const text of [...moving].sort((a, b) => b.bytes.length - a.bytes.length)) {
@@ -129,12 +130,11 @@ async function laidOut<T extends Movable>(staying: T[], moving: T[], end: Span, 
  * Lays out the texts of a file in their ranges, and then in the free end of the file. Equal texts have one place. As many as possible stay
  * where they are; only if the others do not fit then, all are laid out anew.
  * @param texts in the order of their places, which do not overlap
- * @param end the free end of the file, which may be empty
  */
-export async function layOut<T extends Movable>(texts: T[], end: Span, signal?: Signal) {
+export async function layOut<T extends Movable>(texts: T[], free: FreeRoom, signal?: Signal) {
     const fits = ({ first, after, bytes }: T) => bytes.length <= after - first;
-    const some = await laidOut(texts.filter(fits), texts.filter(it => !fits(it)), end, signal);
+    const some = await laidOut(texts.filter(fits), texts.filter(it => !fits(it)), free, signal);
     if (some.missing === 0) return some;
-    const all = await laidOut([], texts, end, signal);
+    const all = await laidOut([], texts, free, signal);
     return all.missing === 0 || all.missing < some.missing ? all : some;
 }

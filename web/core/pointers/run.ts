@@ -17,8 +17,11 @@ function firstCode(bytes: Uint8Array, first: number, low: number) {
 export class TextStarts {
     size; firsts; afters; codes; near;
 
-    /** @param bytes of the file, which are not kept */
-    constructor(readonly path: string, bytes: Uint8Array, texts: Span[]) {
+    /**
+     * @param bytes of the file, which are not kept, or of a range of it
+     * @param offset where this range begins in the file: all places count from there
+     */
+    constructor(readonly path: string, bytes: Uint8Array, texts: Span[], readonly offset: number = 0) {
         const inOrder = [...texts].sort((a, b) => a.first - b.first);
         const size = bytes.length;
         this.size = size;
@@ -89,8 +92,10 @@ export function mixed(a: number, b: number, c: number) {
 export class Differences {
     /** Whether any entry begins with a distance. */
     known = new Uint8Array(FAR + 1);
-    entries = new Map<number, Neighbours[]>();
-    shift; filter; hashes; used;
+    files: TextStarts[] = [];
+    /** How many entries there are. */
+    size = 0;
+    shift; filter; hashes; heads; entries;
 
     /** @param count how many texts the files have */
     constructor(count: number) {
@@ -98,54 +103,79 @@ export class Differences {
         this.shift = 32 - Math.min(Math.max(bits, LEAST_BITS), MOST_BITS);
         /** Whether any entry has a hash that begins with these bits. */
         this.filter = new Uint8Array(2 ** (32 - this.shift));
-        /** The hashes of the entries, each at the first free place from that of its own bits on; and which places are used. */
+        /**
+         * The hashes of the entries, each at the first free place from that of its own bits on; and the first entry with it, counted from
+         * 1, so that 0 is a free place.
+         */
         const places = 2 ** Math.ceil(Math.log2(2 * UNITS.length * Math.max(count, 1)));
         this.hashes = new Uint32Array(places);
-        this.used = new Uint8Array(places);
+        this.heads = new Uint32Array(places);
+        /** Of each entry: the indexes of its file, its first text, and its unit; and the next entry with its hash, 0 if it is the last. */
+        const each = () => new Uint32Array(UNITS.length * count + 1);
+        this.entries = { file: each(), text: each(), unit: each(), next: each() };
     }
 
     /** The place of a hash, or the free one where it would be. */
     placeOf(hash: number) {
         const mask = this.hashes.length - 1;
         let at = hash & mask;
-        while (this.used[at] === 1 && this.hashes[at] !== hash) at = at + 1 & mask;
+        while (this.heads[at] > 0 && this.hashes[at] !== hash) at = at + 1 & mask;
         return at;
     }
 
     /** Whether any entry has a hash. */
     hasHash(hash: number) {
-        return this.used[this.placeOf(hash)] === 1;
+        return this.heads[this.placeOf(hash)] > 0;
     }
 
     /** Adds the texts of a file. Other tasks get turns in between. */
     async add(texts: TextStarts, signal?: Signal) {
-        for (const unit of UNITS) await this.addByUnit(texts, unit, signal);
+        this.files.push(texts);
+        for (const [unit] of UNITS.entries()) await this.addByUnit(texts, unit, signal);
     }
 
-    async addByUnit(texts: TextStarts, unit: number, signal?: Signal) {
-        const { firsts } = texts;
-        if (firsts.some(it => (it - firsts[0]) % unit !== 0)) return;
+    /** @param unit its index */
+    async addByUnit({ firsts }: TextStarts, unit: number, signal?: Signal) {
+        if (firsts.some(it => (it - firsts[0]) % UNITS[unit] !== 0)) return;
         for (let i = 0; i + 3 < firsts.length; i++) {
             if (isTurnDue()) await letOthersIn(signal);
-            const [a, b, c] = differencesFrom(firsts, i, unit);
+            const [a, b, c] = differencesFrom(firsts, i, UNITS[unit]);
             if (a === b && b === c) continue;
             const hash = mixed(a, b, c);
-            const alike = this.entries.get(hash) || [];
-            if (alike.length >= MOST_ALIKE) continue;
-            this.entries.set(hash, [...alike, { texts, text: i, unit }]);
+            if (!this.addEntry(hash, i, unit)) continue;
             this.known[Math.min(a, FAR)] = 1;
             this.filter[hash >>> this.shift] = 1;
-            const at = this.placeOf(hash);
-            this.hashes[at] = hash;
-            this.used[at] = 1;
         }
     }
 
+    /** Adds an entry behind those with the same hash, unless there are enough of them. Returns whether it was added. */
+    addEntry(hash: number, text: number, unit: number) {
+        const { hashes, heads, entries } = this;
+        const place = this.placeOf(hash);
+        let [last, alike] = [0, 0];
+        for (let at = heads[place]; at > 0; at = entries.next[at]) [last, alike] = [at, alike + 1];
+        if (alike >= MOST_ALIKE) return false;
+        this.size += 1;
+        entries.file[this.size] = this.files.length - 1;
+        entries.text[this.size] = text;
+        entries.unit[this.size] = unit;
+        if (last > 0) entries.next[last] = this.size;
+        else heads[place] = this.size;
+        hashes[place] = hash;
+        return true;
+    }
+
     /** The texts that have three differences. */
-    having(three: number[]) {
-        const [a, b, c] = three;
-        return (this.entries.get(mixed(a, b, c)) || []).filter(({ texts, text, unit }) =>
-            differencesFrom(texts.firsts, text, unit).every((difference, i) => difference === three[i]));
+    having([a, b, c]: number[]) {
+        const { entries, files } = this;
+        const found: Neighbours[] = [];
+        for (let at = this.heads[this.placeOf(mixed(a, b, c))]; at > 0; at = entries.next[at]) {
+            const [{ firsts }, text, unit] = [files[entries.file[at]], entries.text[at], UNITS[entries.unit[at]]];
+            const isAlike = firsts[text + 1] - firsts[text] === a * unit && firsts[text + 2] - firsts[text + 1] === b * unit
+                && firsts[text + 3] - firsts[text + 2] === c * unit;
+            if (isAlike) found.push({ texts: files[entries.file[at]], text, unit });
+        }
+        return found;
     }
 }
 
@@ -154,10 +184,10 @@ function differencesFrom(firsts: number[], i: number, unit: number) {
 }
 
 /**
- * The bytes of a file that may have pointers, and its own texts, if it has any: no pointer begins in one. `note` receives which share of
- * the search is done.
+ * The bytes of a file that may have pointers, or of a range that begins at the place `first` of the file; and its own texts, if it has any:
+ * no pointer begins in one. `note` receives which share of the search is done.
  */
-export type Searched = { path: string, bytes: Uint8Array, own: TextStarts | null, note?: (share: number) => void };
+export type Searched = { path: string, first?: number, bytes: Uint8Array, own: TextStarts | null, note?: (share: number) => void };
 /** A pointer, and the index of the text that it leads to. */
 export type Hit = { at: number, target: number, text: number, isFirst: boolean };
 /**

@@ -2,7 +2,7 @@
 
 import { isTurnDue, letOthersIn, type Signal } from '../turns.js';
 import { FAR, mixed, pointerHitAt, runAround, type Differences, type Run, type Searched, type TextStarts } from './run.js';
-import type { PointerForm, Span } from './tables.js';
+import { greatestOf, storedAt, type PointerForm, type Span } from './tables.js';
 
 // Finds single pointers of 32 bits, for example in code, by votes: the place from which they count is the one for which most numbers of the
 // file lead to texts.
@@ -19,14 +19,15 @@ const MOST_VOTES_TRIED = 3;
 /** The share of all texts that have to have a single pointer. */
 const SHARE_OF_TEXTS = 0.4;
 
-/** Votes are first counted by these many bits of a hash. */
+/** Repeated numbers are found by these many bits of a hash. Votes are first counted by as many, or by more if there are more votes. */
 const COUNTER_BITS = 22;
+const MOST_COUNTER_BITS = 26;
 const VOTED_AT_ONCE = 1 << 12;
 const MOST_COUNTED = 255;
 
 /** @param number of 32 bits */
-function counterOf(number: number) {
-    return Math.imul(number, 0x9E3779B1) >>> 32 - COUNTER_BITS;
+function counterOf(number: number, bits: number) {
+    return Math.imul(number, 0x9E3779B1) >>> 32 - bits;
 }
 
 /** The numbers of a file without repeated ones, and without a few more: numbers with the same hash count once. */
@@ -36,7 +37,7 @@ async function distinctOf(numbers: Uint32Array, signal?: Signal) {
     let count = 0;
     for (let i = 0; i < numbers.length; i++) {
         if (i % VOTED_AT_ONCE === 0 && isTurnDue()) await letOthersIn(signal);
-        const counter = counterOf(numbers[i]);
+        const counter = counterOf(numbers[i], COUNTER_BITS);
         if (known[counter] === 1) continue;
         known[counter] = 1;
         distinct[count++] = numbers[i];
@@ -59,22 +60,22 @@ async function eachPart(numbers: Uint32Array, take: (part: Uint32Array) => void,
 }
 
 /** Counts the votes of texts for the places from which numbers may count, by the hashes of these places. */
-function countVotes(counters: Uint8Array, voters: Int32Array, numbers: Uint32Array) {
+function countVotes(counters: Uint8Array, bits: number, voters: Int32Array, numbers: Uint32Array) {
     for (let i = 0; i < numbers.length; i++) {
         for (let k = 0; k < voters.length; k++) {
-            const counter = counterOf(voters[k] - numbers[i]);
+            const counter = counterOf(voters[k] - numbers[i], bits);
             if (counters[counter] < MOST_COUNTED) counters[counter] += 1;
         }
     }
 }
 
 /** Counts the votes exactly for the places whose hashes have enough. */
-function collectVotes(votes: Map<number, number>, { counters, least }: { counters: Uint8Array, least: number }, voters: Int32Array,
-    numbers: Uint32Array) {
+function collectVotes(votes: Map<number, number>, { counters, bits, least }: { counters: Uint8Array, bits: number, least: number },
+    voters: Int32Array, numbers: Uint32Array) {
     for (let i = 0; i < numbers.length; i++) {
         for (let k = 0; k < voters.length; k++) {
             const base = voters[k] - numbers[i] | 0;
-            if (counters[counterOf(base)] >= least) votes.set(base, (votes.get(base) || 0) + 1);
+            if (counters[counterOf(base, bits)] >= least) votes.set(base, (votes.get(base) || 0) + 1);
         }
     }
 }
@@ -82,10 +83,11 @@ function collectVotes(votes: Map<number, number>, { counters, least }: { counter
 /** The places from which most numbers count, each as a number of 32 bits. `numbers` are each once. */
 async function basesOf(numbers: Uint32Array, voters: Int32Array, signal?: Signal) {
     const least = Math.max(LEAST_VOTES, SHARE * voters.length);
-    const counters = new Uint8Array(2 ** COUNTER_BITS);
+    const bits = Math.min(Math.max(Math.ceil(Math.log2(numbers.length * voters.length + 1)), COUNTER_BITS), MOST_COUNTER_BITS);
+    const counters = new Uint8Array(2 ** bits);
     const votes: Map<number, number> = new Map();
-    await eachPart(numbers, part => countVotes(counters, voters, part), signal);
-    await eachPart(numbers, part => collectVotes(votes, { counters, least }, voters, part), signal);
+    await eachPart(numbers, part => countVotes(counters, bits, voters, part), signal);
+    await eachPart(numbers, part => collectVotes(votes, { counters, bits, least }, voters, part), signal);
     const found = [...votes].filter(([, count]) => count >= least);
     return found.sort((a, b) => b[1] - a[1]).slice(0, MOST_VOTES_TRIED).map(([base]) => base);
 }
@@ -137,6 +139,13 @@ const SEARCHED_AT_ONCE = 1 << 15;
 /** How many places runs may look at for each byte of a file: many runs over the same bytes are no tables. */
 const STEPS_A_BYTE = 4;
 const LEAST_RUN_STEPS = 1 << 16;
+
+/** A run of fewer pointers is not a table. */
+const LEAST_HITS = 4;
+
+/** The highest bit of 16 may be a flag: then at least this share of a table's numbers have it. */
+const WITHOUT_FLAG = 0x7FFF;
+const SHARE_FLAGGED = 0.1;
 
 /** A mixed table: this many pointers in a row, of which some lead to the first byte of a text. */
 const MIXED_POINTERS = 8;
@@ -231,6 +240,10 @@ class Search {
         for (const { texts, text, unit } of this.differences.having(three)) {
             if (own && (unit > 1 || texts !== file.own)) continue;
             const base = texts.firsts[text] - unit * numbers[at] - (own ? at : 0);
+            const isPointer = (place: number) => place >= 0 && place < numbers.length
+                && texts.isNear(unit * numbers[place] + base + (own ? place : 0));
+            // A table has five pointers or more, of which at most one between two others leads to no text.
+            if (![-2, -1, 4, 5].some(i => isPointer(at + i * distance))) continue;
             this.addRun({ ...form, base, own, unit }, texts, at, distance);
         }
     }
@@ -244,12 +257,18 @@ class Search {
         const run = runAround(this.file, form, texts, at, distance);
         this.steps -= run.steps;
         ends.set(key, run.hits.reduce((end, hit) => Math.max(end, hit.at), at));
-        this.runs.push(run);
+        if (run.hits.length >= LEAST_HITS && (form.mask === undefined || this.hasFlags(run))) this.runs.push(run);
+    }
+
+    /** Whether enough numbers of a run have bits beyond the mask. */
+    hasFlags({ form, hits }: Run) {
+        const flagged = hits.filter(({ at }) => storedAt(this.file.bytes, at, form) > greatestOf(form));
+        return flagged.length >= SHARE_FLAGGED * hits.length;
     }
 
     /** Where the last runs of a kind end. Only those of the last kind are kept, because a file is searched for one after the other. */
-    endsOf({ width, big, own }: PointerForm, texts: TextStarts, distance: number) {
-        const kind = 4 * (4 * distance + width) + 2 * Number(big) + Number(own);
+    endsOf({ width, big, own, mask }: PointerForm, texts: TextStarts, distance: number) {
+        const kind = 8 * (4 * distance + width) + 4 * Number(mask !== undefined) + 2 * Number(big) + Number(own);
         if (kind !== this.kind) this.ends.clear();
         this.kind = kind;
         let ends = this.ends.get(texts);
@@ -257,17 +276,26 @@ class Search {
         return ends;
     }
 
-    /** Finds tables of 16-bit pointers in any order, which count from the beginning of the file or of the table. */
+    /**
+     * Finds tables of 16-bit pointers in any order, which count from the beginning of the file or of the table. Their highest bit may be a
+     * flag.
+     */
     async byRows(numbers: Uint32Array, form: { width: number, big: boolean }, texts: TextStarts) {
-        for (const fromTable of [false, true]) {
-            for (const { from, end } of this.parts(numbers.length)) {
-                if (isTurnDue()) await letOthersIn(this.signal);
-                for (let at = from; at < end; at++) {
-                    const base = fromTable ? at : 0;
-                    if (!texts.isNear(numbers[at] + base)) continue;
-                    const wanted = { ...form, base, own: false, unit: 1 };
-                    if (this.areMixed(wanted, texts, at)) this.addRun(wanted, texts, at, form.width);
-                }
+        for (const more of [{}, { mask: WITHOUT_FLAG }]) {
+            for (const fromTable of [false, true]) await this.byRow(numbers, { ...form, ...more, own: false, unit: 1 }, texts, fromTable);
+        }
+    }
+
+    /** @param fromTable whether the pointers count from the table */
+    async byRow(numbers: Uint32Array, form: Omit<PointerForm, 'base'>, texts: TextStarts, fromTable: boolean) {
+        const mask = greatestOf(form);
+        for (const { from, end } of this.parts(numbers.length)) {
+            if (isTurnDue()) await letOthersIn(this.signal);
+            for (let at = from; at < end; at++) {
+                const base = fromTable ? at : -texts.offset;
+                if (!texts.isNear((numbers[at] & mask) + base)) continue;
+                const wanted = { ...form, base };
+                if (this.areMixed(wanted, texts, at)) this.addRun(wanted, texts, at, form.width);
             }
         }
     }
@@ -295,7 +323,8 @@ class Search {
                     note?.(done / PASSES);
                     done += 1;
                     await this.byDifferences(numbers, { width, big }, distance, false);
-                    if (own !== null && distance === width) await this.byDifferences(numbers, { width, big }, distance, true);
+                    const isEven = distance % 2 === 0 && width % 2 === 0;
+                    if (own !== null && isEven) await this.byDifferences(numbers, { width, big }, distance, true);
                 }
                 if (own === null) continue;
                 if (width === 2) await this.byRows(numbers, { width, big }, own);

@@ -8,12 +8,21 @@ import { letOthersIn, type Signal } from '../turns.js';
 
 // Reads and writes a table of pointer tables, which a person may correct.
 
-/** A table with the number of its row. */
-export type ListedTable = PointerTable & { row: number };
+/**
+ * A table with the number of its row. A range that a person names as free has no pointers: `free` is how many bytes it has from `at` on.
+ */
+export type ListedTable = PointerTable & { row: number, free?: number };
 
 const TABLE_COLUMNS = ['file', 'offset', 'count', 'distance', 'width', 'order', 'base', 'unit', 'texts', 'begins'];
+/** A column that only a person adds. */
+const MASK = 'mask';
 /** Columns that need not be there. */
-const OPTIONAL = ['begins'];
+const OPTIONAL = ['begins', MASK];
+
+/** The word in place of a width for a free range: its `count` is a number of bytes. */
+const FREE = 'free';
+
+const LISTED_UNITS = [1, 2, 4, 8, 16, 2048];
 
 const ORDERS = ['little', 'big'];
 
@@ -33,13 +42,21 @@ export function baseText({ base, own }: Pick<PointerTable, 'base' | 'own'>) {
     return base === 0 ? SELF : `${SELF}${base < 0 ? '-' : '+'}${number}`;
 }
 
+/** A mask in the notation of the list. */
+function maskText({ mask }: Pick<PointerTable, 'mask'>) {
+    return mask === undefined ? '' : `0x${mask.toString(16).toUpperCase()}`;
+}
+
 /** The list of tables as a text. */
-export function pointerList(tables: PointerTable[]) {
+export function pointerList(tables: (PointerTable & Pick<ListedTable, 'free'>)[]) {
+    const masks = tables.some(({ mask }) => mask !== undefined) ? [MASK] : [];
     const rows = tables.map(it => {
+        const more = masks.map(() => maskText(it));
+        if (it.free !== undefined) return [visible(it.path), it.at, it.free, '', FREE, '', '', '', '', '', ...more];
         const form = [8 * it.width, ORDERS[Number(it.big)], baseText(it), it.unit];
-        return [visible(it.path), it.at, it.count, it.distance, ...form, visible(it.texts), it.begins];
+        return [visible(it.path), it.at, it.count, it.distance, ...form, visible(it.texts), it.begins, ...more];
     });
-    return [TABLE_COLUMNS, ...rows].map(cells => rowText(cells, '\t')).join('');
+    return [[...TABLE_COLUMNS, ...masks], ...rows].map(cells => rowText(cells, '\t')).join('');
 }
 
 /** The first row of a list, the mark between its cells, and the columns that it does not name. */
@@ -94,13 +111,30 @@ class Cells {
         return { own: self !== '', base: (sign === '-' ? -1 : 1) * Number(digits) };
     }
 
+    /** The bits of a number that are a pointer, from its lowest one on. */
+    mask(width: number) {
+        if (this.cell(MASK) === '') return {};
+        const mask = this.whole(MASK, 1, 256 ** width - 1);
+        if (!Number.isInteger(Math.log2(mask + 1))) throw this.fault(MASK);
+        return { mask };
+    }
+
+    /** A range that is free, as a table without pointers. */
+    freeRange(): ListedTable {
+        const most = Number.MAX_SAFE_INTEGER;
+        const [at, free, path] = [this.whole('offset', 0, most), this.whole('count', 1, most), this.cell('file')];
+        const form = { width: 1, big: false, base: 0, own: false, unit: 1 };
+        return { ...form, row: this.row, path, texts: path, at, count: 0, distance: 1, begins: 0, free };
+    }
+
     table(): ListedTable {
+        if (this.cell('width').toLowerCase() === FREE) return this.freeRange();
         const most = Number.MAX_SAFE_INTEGER;
         const width = this.oneOf('width', [8 * 2, 8 * 3, 8 * 4]) / 8;
         return {
             row: this.row, path: this.cell('file'), texts: this.cell('texts'), at: this.whole('offset', 0, most),
             count: this.whole('count', 1, MOST_POINTERS), distance: this.whole('distance', width, MOST_LIST_BYTES), width,
-            big: this.oneOf('order', ORDERS) === ORDERS[1], ...this.base(), unit: this.oneOf('unit', [1, 2, 4]),
+            big: this.oneOf('order', ORDERS) === ORDERS[1], ...this.base(), unit: this.oneOf('unit', LISTED_UNITS), ...this.mask(width),
             begins: this.cell('begins') === '' ? 0 : this.whole('begins', 0, MOST_POINTERS),
         };
     }
@@ -130,9 +164,9 @@ export async function tablesOfList(reader: Reader, signal?: Signal): Promise<Lis
 /**
  * How a pointer is written, and what it means. It has `width` bytes, the most significant one first if it is `big`. It leads to the byte
  * `unit` times its number after `base`, in a file of texts; `base` counts from the beginning of that file, or, if the form is `own`, from
- * the place of the pointer.
+ * the place of the pointer. With a `mask`, such as 0x7FFF, only these lowest bits of the number count, and the others stay as they are.
  */
-export type PointerForm = { width: number, big: boolean, base: number, own: boolean, unit: number };
+export type PointerForm = { width: number, big: boolean, base: number, own: boolean, unit: number, mask?: number };
 /**
  * A table of pointers: its file (`path`), the place of its first pointer (`at`), how many it has (`count`), the distance in bytes from one
  * to the next, the file of the texts, and how many of its pointers lead to the beginning of a text.
@@ -159,15 +193,25 @@ export function storedAt(bytes: Uint8Array, at: number, { width, big }: Pick<Poi
     return number;
 }
 
-/** Where a pointer with a number leads. `at` is the place of the pointer. */
-export function targetOf({ base, own, unit }: PointerForm, at: number, number: number) {
-    return unit * number + base + (own ? at : 0);
+/** The greatest number of a pointer. */
+export function greatestOf({ width, mask }: Pick<PointerForm, 'width' | 'mask'>) {
+    return mask ?? 256 ** width - 1;
 }
 
-/** The number of a pointer that leads to a place, or -1 if none does. `at` is the place of the pointer. */
-export function numberFor({ width, base, own, unit }: PointerForm, at: number, target: number) {
-    const number = (target - base - (own ? at : 0)) / unit;
-    return Number.isInteger(number) && number >= 0 && number < 256 ** width ? number : -1;
+/** Where a pointer with a number leads. `at` is the place of the pointer. */
+export function targetOf(form: PointerForm, at: number, number: number) {
+    return form.unit * (number % (greatestOf(form) + 1)) + form.base + (form.own ? at : 0);
+}
+
+/**
+ * The number of a pointer that leads to a place, or -1 if none does.
+ * @param at the place of the pointer
+ * @param old its number before, whose bits outside the mask stay
+ */
+export function numberFor(form: PointerForm, at: number, target: number, old: number = 0) {
+    const number = (target - form.base - (form.own ? at : 0)) / form.unit;
+    const greatest = greatestOf(form);
+    return Number.isInteger(number) && number >= 0 && number <= greatest ? number + old - old % (greatest + 1) : -1;
 }
 
 /** Writes a number at a place. */

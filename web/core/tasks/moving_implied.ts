@@ -123,9 +123,9 @@ export function pointerAt(table: ListedTable, file: PointedFile, at: number): Po
 export async function impliedPointers(tables: ListedTable[], fileOf: FileOf, signal?: Signal) {
     const rows: Map<string, ListedTable[]> = new Map();
     for (const table of tables) {
-        const { path, texts, width, big, base, own, unit, distance, at, count } = table;
-        if (count === 1) continue;
-        const key = [path, texts, width, big, base, own, unit, distance, at % distance].join();
+        const { path, texts, width, big, base, own, unit, mask, distance, at, count } = table;
+        if (count <= 1) continue;
+        const key = [path, texts, width, big, base, own, unit, mask, distance, at % distance].join();
         const known = rows.get(key);
         if (known === undefined) rows.set(key, [table]);
         else known.push(table);
@@ -242,7 +242,7 @@ async function* strayTargets(table: ListedTable, file: PointedFile, texts: Point
 /** The places to which the numbers before and after a table lead that are not pointers themselves. Zeros are too frequent. */
 function targetsBeside(table: ListedTable, file: PointedFile) {
     const { at, count, distance, width } = table;
-    if (count === 1) return [];
+    if (count <= 1) return [];
     const before = Array.from({ length: NEARBY }, (_, i) => at - (i + 1) * distance);
     const after = Array.from({ length: NEARBY }, (_, i) => at + (count + i) * distance);
     const places = [...before, ...after].filter(it => it >= 0 && it + width <= file.size && !file.hasPointer(it, it + width));

@@ -176,7 +176,7 @@ class MovingRows {
     async layOutMixed(place: ListPlace, file: PointedFile, { movable, end }: MovedTexts, free: Span) {
         const laidWithout = async (omitted: Set<Movable & MovedText>) => {
             const some = movable.filter(it => !omitted.has(it));
-            return { some, layout: await layOut(some, free, this.watch.signal) };
+            return { some, layout: await layOut(some, { end: free, ranges: file.free }, this.watch.signal) };
         };
         const { layout: { missing } } = await laidWithout(new Set());
         const omitted = missing === 0 ? new Set<Movable & MovedText>() : await longestTexts(movable,

@@ -3,7 +3,7 @@
 
 import { firstAfter, joinedBytes } from '../bytes.js';
 import { FULL, endOf, fillerOf, isSpaceIn, withEnd, type Filler } from '../encodings/index.js';
-import { MOST_CODES, areAddresses, numberFor } from '../pointers/index.js';
+import { MOST_CODES, areAddresses, greatestOf, numberFor } from '../pointers/index.js';
 import { closingCodesIn, isCodeByte } from '../texts/index.js';
 import { isTurnDue, letOthersIn, type Signal } from '../turns.js';
 import { areNeighbours, blocksOf, groupedBy, hasOrder, pointersAgainstOrder } from './moving_implied.js';
@@ -18,7 +18,7 @@ function beyondReach({ pointers, first }: Piece, place: number) {
     return pointers.reduce((most, { table, at, target }) => {
         const now = target + place - first;
         if (numberFor(table, at, now) >= 0) return most;
-        const last = table.base + (table.own ? at : 0) + table.unit * (256 ** table.width - 1);
+        const last = table.base + (table.own ? at : 0) + table.unit * greatestOf(table);
         return Math.max(most, now - last, 1);
     }, 0);
 }
@@ -371,12 +371,15 @@ export class OrderedTexts {
     }
 
     /**
-     * The end of the free room after the last text of a block: that of its filling, if it certainly is one, or the end of the text.
+     * The end of the free room after the last text of a block: that of a range that a person names as free, or of its filling, if it
+     * certainly is one, or the end of the text.
      * @param next where the next block begins
      */
     filledTo(from: number, next: number) {
         const { bytes, size, ownPlaces } = this.file;
         const known = Math.min(next, size, ownPlaces[firstAfter(ownPlaces, from - 1)] ?? Infinity);
+        const free = this.file.free.find(it => it.first <= this.filledFrom(from, known) && it.after > from);
+        if (free !== undefined) return Math.min(free.after, known);
         const value = bytes[from];
         let at = from;
         while (at < known && bytes[at] === value) at += 1;

@@ -1,11 +1,13 @@
 // Finds the pointers to the listed texts, file by file.
 
-import { firstAfter, wholeOf } from '../bytes.js';
+import { firstAfter, readBytes, wholeOf } from '../bytes.js';
 import type { OrderedImage } from '../disc/index.js';
 import { Fault, failedBy, remark } from '../faults.js';
 import { readerOfFile, wholeFile, type FileEntry, type WholeFile } from '../iso/index.js';
 import { USER_SIZE } from '../module/index.js';
-import { TextStarts, findPointerTables, placesOf, pointerList, type ListedTable, type Searched, type Span } from '../pointers/index.js';
+import {
+    TextStarts, findPointerTables, joinedSpans, placesOf, pointerList, type ListedTable, type Searched, type Span,
+} from '../pointers/index.js';
 import type { Place } from '../sectors/index.js';
 import { visible, type ListedText } from '../texts/index.js';
 import { letOthersIn, type Signal } from '../turns.js';
@@ -18,9 +20,17 @@ import { extentRoom } from './replace.js';
 /** The fewest texts of a file to which pointers are searched. */
 const LEAST_POINTED_TEXTS = 4;
 
-/** The largest file with texts, and the largest other file, in which pointers are searched: larger ones are mostly sound and pictures. */
+/**
+ * The most bytes that are searched in a file with texts; of a larger one, what is around its texts is. And the largest program and the
+ * largest other file without texts that are searched: larger ones are mostly sound and pictures.
+ */
 const MOST_SEARCHED = 1 << 25;
+const AROUND_TEXTS = 1 << 16;
+const MOST_PROGRAM = 1 << 22;
 const MOST_SEARCHED_WITHOUT_TEXTS = 1 << 20;
+
+/** Matches the paths of programs, as computers and consoles name them. */
+const PROGRAM = /(?:\.(?:exe|dll|com|prg|elf|ovl|bin)|\/s[a-z]{3}_\d{3}\.\d\d)$/i;
 
 /** Collects the ranges of listed texts by their files. */
 export class ListedSpans {
@@ -62,9 +72,21 @@ function filesByPath(entries: FileEntry[]) {
     return files;
 }
 
-/** Whether pointers are searched in a file. */
-function isSearched({ size }: WholeFile, hasTexts: boolean) {
-    return size <= (hasTexts ? MOST_SEARCHED : MOST_SEARCHED_WITHOUT_TEXTS);
+/** The ranges of a file in which pointers are searched. `spans` has its texts, none if there are few. */
+function searchedRanges({ path, size }: WholeFile, spans: Span[]): Span[] {
+    const most = PROGRAM.test(path) ? MOST_PROGRAM : MOST_SEARCHED_WITHOUT_TEXTS;
+    if (size <= (spans.length > 0 ? MOST_SEARCHED : most)) return [{ first: 0, after: size }];
+    const around = joinedSpans(spans.map(({ first, after }) =>
+        ({ first: Math.max(first - AROUND_TEXTS, 0), after: Math.min(after + AROUND_TEXTS, size) })));
+    return around.reduce((sum, { first, after }) => sum + after - first, 0) <= MOST_SEARCHED ? around : [];
+}
+
+/** The texts of a range of a file, as places in the range. */
+async function startsIn(part: OrderedImage, file: WholeFile, { first, after }: Span, spans: Span[]) {
+    const bytes = await readBytes(readerOfFile(part, file).reader, first, after - first);
+    const own = spans.filter(it => it.first >= first && it.after <= after);
+    const inRange = own.map(it => ({ first: it.first - first, after: it.after - first }));
+    return new TextStarts(visible(file.path), bytes, inRange, first);
 }
 
 /**
@@ -93,20 +115,19 @@ function unsearchedAmong(files: WholeFile[], hasTexts: (path: string) => boolean
     return remark('pointers/unsearched', { path: visible(named.path), size: named.size, more: files.length - 1 });
 }
 
-/** Yields the files in which pointers are searched. */
-async function* searchedFiles(part: OrderedImage, searched: WholeFile[], starts: Map<string, TextStarts>,
+/** Yields the ranges of files in which pointers are searched. */
+async function* searchedFiles(part: OrderedImage, searched: { file: WholeFile, range: Span, own: TextStarts | null }[],
     { signal, progress }: Watch): AsyncGenerator<Searched> {
     const sectors = (bytes: number) => Math.ceil(bytes / USER_SIZE);
-    const all = searched.reduce((sum, { size }) => sum + size, 0);
+    const all = searched.reduce((sum, { range }) => sum + range.after - range.first, 0);
     let before = 0;
-    for (const file of searched) {
+    for (const { file, range: { first, after }, own } of searched) {
         await letOthersIn(signal);
-        const path = visible(file.path);
-        const from = before;
-        const note = (share: number) => progress?.(sectors(from + share * file.size), sectors(all));
+        const [from, size] = [before, after - first];
+        const note = (share: number) => progress?.(sectors(from + share * size), sectors(all));
         note(0);
-        yield { path, bytes: await wholeOf(readerOfFile(part, file).reader), own: starts.get(path) || null, note };
-        before += file.size;
+        yield { path: visible(file.path), first, bytes: await readBytes(readerOfFile(part, file).reader, first, size), own, note };
+        before += size;
     }
 }
 
@@ -119,19 +140,24 @@ export async function findPointers(opened: Pick<OpenedTrack, 'contents'>, { span
     const { part, files: entries } = await opened.contents();
     await letOthersIn(watch.signal);
     const files = filesByPath(entries);
-    const hasTexts = (path: string) => (spans.get(path) || []).length >= LEAST_POINTED_TEXTS;
-    const starts: Map<string, TextStarts> = new Map();
-    for (const [path, texts] of spans) {
-        await letOthersIn(watch.signal);
-        const file = files.get(path);
-        if (file === undefined || !hasTexts(path) || !isSearched(file, true)) continue;
-        starts.set(path, new TextStarts(path, await wholeOf(readerOfFile(part, file).reader), texts));
-    }
+    const textsOf = (path: string) => {
+        const texts = spans.get(path) || [];
+        return texts.length >= LEAST_POINTED_TEXTS ? texts : [];
+    };
+    const hasTexts = (path: string) => textsOf(path).length > 0;
     const all = [...spans.keys()].some(hasTexts) ? filesByExtents(files, hasTexts) : [];
-    const isOf = (file: WholeFile) => isSearched(file, hasTexts(visible(file.path)));
-    const searched = searchedFiles(part, all.filter(isOf), starts, watch);
-    const tables = await findPointerTables([...starts.values()], searched, watch.signal);
-    return { text: pointerList(tables), count: tables.length, unsearched: unsearchedAmong(all.filter(file => !isOf(file)), hasTexts) };
+    const searched: { file: WholeFile, range: Span, own: TextStarts | null }[] = [];
+    const unsearched: WholeFile[] = [];
+    for (const file of all) {
+        await letOthersIn(watch.signal);
+        const own = textsOf(visible(file.path));
+        const ranges = searchedRanges(file, own);
+        if (ranges.length === 0) unsearched.push(file);
+        for (const range of ranges) searched.push({ file, range, own: own.length === 0 ? null : await startsIn(part, file, range, own) });
+    }
+    const starts = searched.flatMap(({ own }) => own ?? []);
+    const tables = await findPointerTables(starts, searchedFiles(part, searched, watch), watch.signal);
+    return { text: pointerList(tables), count: tables.length, unsearched: unsearchedAmong(unsearched, hasTexts) };
 }
 
 // The files that a list of pointer tables names, with their pointers.
@@ -154,6 +180,8 @@ export class PointedFile {
     doubtful: number[] = [];
     /** The places to which addresses anywhere in files lead that are not pointers of a table, in order. */
     stray: number[] = [];
+    /** The ranges that a person names as free. */
+    free: Span[] = [];
     path; size;
 
     /** @param bytes of its sectors, also those after its end */
@@ -261,6 +289,7 @@ export async function openPointedFiles(opened: Pick<OpenedTrack, 'contents'>, ta
         }
         for (const file of files.values()) file.sortPointers();
     };
+    for (const { path, at, free = 0 } of tables) if (free > 0) fileOf(path).free.push({ first: at, after: at + free });
     add(tables.flatMap(table => pointersIn(table, fileOf(table.path))));
     add(await impliedPointers(tables, fileOf, signal));
     await addUncertain(tables, fileOf, signal);
@@ -269,8 +298,8 @@ export async function openPointedFiles(opened: Pick<OpenedTrack, 'contents'>, ta
 
 /** The pointers of a table. Throws a Fault if its file does not have them all. */
 function pointersIn(table: ListedTable, file: PointedFile): Pointer[] {
-    const { row, at, count, distance, width } = table;
-    const after = at + (count - 1) * distance + width;
+    const { row, at, count, distance, width, free = 0 } = table;
+    const after = free > 0 ? at + free : at + (count - 1) * distance + width;
     if (after > file.size) throw new Fault('pointers/after-file', { row, path: file.path, size: file.size, after });
     return placesOf(table).map(place => pointerAt(table, file, place));
 }

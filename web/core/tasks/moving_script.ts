@@ -64,7 +64,7 @@ function expectedOf({ files: { files }, layouts, inPlace }: Planned) {
     for (const { file, texts: { movable }, layout: { places, left } } of layouts) {
         const own = of(file);
         own.free.fill(1, file.size);
-        for (const { first, after } of left) own.free.fill(1, first, after);
+        for (const { first, after } of [...left, ...file.free]) own.free.fill(1, first, after);
         for (const text of movable) {
             own.free.fill(1, text.first, text.after);
             const place = places.get(text) ?? -1;
@@ -173,19 +173,27 @@ export class FreshFiles {
     }
 
     /**
-     * Writes texts at their new places, and these places into their pointers. What is left free is filled.
+     * Writes texts at their new places, and these places into their pointers. What is left free is filled, but not what a person names as
+     * free.
      * @param end the byte that ends the texts of the file
      */
     async write(file: PointedFile, { places, left, end: size }: TextLayout, end: number, signal?: Signal) {
         const own = this.of(file);
         own.size = Math.max(own.size, size);
         own.runs.push(...runsOf(places));
-        for (const { first, after } of left) own.bytes.fill(end || FILLER, first, after);
+        for (const { first, after } of left) {
+            own.bytes.fill(end || FILLER, first, after);
+            for (const free of file.free) {
+                const [from, to] = [Math.max(first, free.first), Math.min(after, free.after)];
+                if (from < to) own.bytes.set(file.bytes.subarray(from, to), from);
+            }
+        }
         for (const [text, place] of places) {
             if (isTurnDue()) await letOthersIn(signal);
             own.bytes.set(text.bytes, place);
             for (const { table, file: holder, at, target } of text.pointers) {
-                putNumber(this.of(holder).bytes, at, table, numberFor(table, at, target + place - text.first));
+                const { bytes } = this.of(holder);
+                putNumber(bytes, at, table, numberFor(table, at, target + place - text.first, storedAt(bytes, at, table)));
             }
             for (const { file: holder, at, number, ...form } of text.lengths) putNumber(this.of(holder).bytes, at, form, number);
         }

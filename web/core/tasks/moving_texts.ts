@@ -3,7 +3,7 @@
 import { firstAfter, sameBytes } from '../bytes.js';
 import { FULL, endOf, fillingAfter, withEnd, type Encoding } from '../encodings/index.js';
 import type { StayReason } from '../faults.js';
-import { MOST_CODES, storedAt, type ListedTable, type Movable, type Span } from '../pointers/index.js';
+import { MOST_CODES, greatestOf, storedAt, type ListedTable, type Movable, type Span } from '../pointers/index.js';
 import { isCodeByte } from '../texts/index.js';
 import { isTurnDue, letOthersIn, type Signal } from '../turns.js';
 import type { ListRow } from './list_rows.js';
@@ -178,11 +178,12 @@ export class MovedTexts {
 /** The step, and the first and the last place, that pointers can express for a text. `first` is where the text begins now. */
 function limitsOf(pointers: Pointer[], first: number) {
     let [align, least, most] = [1, 0, Infinity];
-    for (const { table: { width, base, own, unit }, at, target } of pointers) {
+    for (const { table, at, target } of pointers) {
+        const { base, own, unit } = table;
         const from = base + (own ? at : 0) - (target - first);
         align = Math.max(align, unit);
         least = Math.max(least, from);
-        most = Math.min(most, from + unit * (256 ** width - 1));
+        most = Math.min(most, from + unit * greatestOf(table));
     }
     return { align, least, most };
 }

@@ -65,6 +65,7 @@ function tableHead() {
 
 /** How the pointers of a table are written. */
 function formWords(table: ListedTable) {
+    if (table.free !== undefined) return format('{n} free byte|{n} free bytes', { n: table.free });
     const order = table.big ? 'big-endian' : 'little-endian';
     const facts = { bits: String(8 * table.width), order, distance: String(table.distance), base: baseText(table) };
     const words = format('{bits} bits, {order}, every {distance} bytes, from {base}', facts);
