@@ -49,15 +49,15 @@ export class RunningHashes {
     }
 }
 
-/** The verdict of a DAT on a file, such as 'verified NAME'. */
-export function dumpText(found: Found) {
-    return sentenceOf({ code: 'dat/dump', facts: found });
+/** The verdict of DATs on a file, such as 'verified NAME'. `found` is its dump in them, or null. */
+export function datText(known: KnownDumps, found: Found | null, size: number) {
+    return sentenceOf(found ? { code: 'dat/dump', facts: found } : known.remarkOfOther(size));
 }
 
 /** Prints the verdict of DATs on a new file. Returns its dump, null if the DATs do not have it. */
 export function sayKnown(job: Job, known: KnownDumps, name: string, size: number, hashes: Hashes) {
     const found = known.find(size, hashes, basename(name));
-    job.say(`${name}: ${found ? dumpText(found) : `${sentenceOf(known.remarkOfOther(size))}; its SHA-1 is ${hashes.sha1}`}`);
+    job.say(`${name}: ${datText(known, found, size)}${found ? '' : `; its SHA-1 is ${hashes.sha1}`}`);
     return found;
 }
 

@@ -9,7 +9,7 @@ import {
     endsEarlyByGaps, examineDisc, otherSummary, summaryByDat, summaryOf, unsurveyedTracks, verdictOf, type FileFound, type FileSummary,
 } from '../core/tasks/index.js';
 import { sentenceOf, verdictText } from '../sentences/index.js';
-import { Verdicts, dumpText, needsOf, readingOnce } from './hashes.js';
+import { Verdicts, datText, needsOf, readingOnce } from './hashes.js';
 import { fileObject, infoObject, jsonLine, linesOfRuns, missingObject, untestedTexts, visible } from './printed.js';
 import { namingSheet, siblingsOf, surveyedIn } from './opening.js';
 import type { FileKind } from '../core/faults.js';
@@ -124,7 +124,7 @@ function fileLines({ name, reader: { size } }: DiscFile, hashes: Hashes, verdict
     if (verdicts === null) return [line];
     const found = verdicts.known.find(size, hashes, basename(name));
     verdicts.add(found, isImage || verdicts.known.hasSize(size));
-    return [line, found ? dumpText(found) : sentenceOf(verdicts.known.remarkOfOther(size))];
+    return [line, datText(verdicts.known, found, size)];
 }
 
 /** The lines of a disc, and whether something is wrong with it. */

@@ -79,9 +79,7 @@ function endOnSignals(files: Files) {
 
 /** Runs the command or, in one of its threads, serves the main thread. */
 export function start() {
-    if (!isMainThread) {
-        return (workerData as ThreadData).scans ? serveScan() : serveThread();
-    }
+    if (!isMainThread) return (workerData as ThreadData).scans ? serveScan() : serveThread();
     const failed = (error: unknown) => {
         new Messages(STANDARD.errors).say(messageOf(error));
         return STATUS.FAILED;

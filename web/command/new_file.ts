@@ -119,11 +119,9 @@ export function replaceFile(name: string, bytes: Uint8Array, warn: Warn, isKnown
         }
         const isReplaced = isKnown();
         if (isReplaced) renameSync(place, real);
-        else forget(place, warn);
         return isReplaced;
-    } catch (error) {
+    } finally {
         forget(place, warn);
-        throw error;
     }
 }
 

@@ -230,9 +230,8 @@ class Scan {
 
 /** The files to examine, and those that sheets among them name, by their names in a list, with their states, as far as they are known. */
 function statesOf(units: Unit[]) {
-    const states: Map<string, FileState | null> = new Map(units.flatMap(it => it.named).map(name => [listedName(name), null]));
-    units.forEach(({ wanted: { name, state } }) => states.set(listedName(name), state));
-    return states;
+    const named = units.flatMap(it => it.named).map((name): [string, FileState | null] => [listedName(name), null]);
+    return new Map([...named, ...units.map(({ wanted: { name, state } }): [string, FileState | null] => [listedName(name), state])]);
 }
 
 /** A thread examines at least so many bytes, since its start takes as long as some of them. To open a file takes as long as FOR_OPENING. */

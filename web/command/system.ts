@@ -91,9 +91,7 @@ export async function tryFile<T>(attempt: Attempt, name: string, tried: () => T 
     }
 }
 
-/**
- * Waits for what is read from a file. A failure with one of the subjects is about its contents, and its message then names the file.
- */
+/** Waits for what is read from a file. A failure with one of the subjects is about its contents, and its message then names the file. */
 export async function inFile<T>(name: string, reading: () => Promise<T>, ...subjects: Subject[]) {
     try {
         return await reading();
