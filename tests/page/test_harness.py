@@ -1,12 +1,10 @@
-"""Tests the harness itself, with a page of its own."""
+"""Tests the harness in Chromium, with a page of its own. The tests of the page need all that the harness does in other browsers."""
 
 import unittest
 from pathlib import Path
 
 import chromium
 import common
-import marionette
-import webkit
 
 HTML = '''<!doctype html><meta charset="utf-8"><meta name="viewport" content="width=device-width, initial-scale=1"><title>harness</title>
 <input type="file" id="choose" multiple aria-label="Files"><button id="save">Save</button><input id="nameless">
@@ -39,21 +37,15 @@ def files() -> tuple[Path, list[Path]]:
     return page, chosen
 
 
-Browser = chromium.Chromium | marionette.Firefox | webkit.WebKit
-
-
 class Harness(unittest.TestCase):
-    def choose_and_save(self, browser: Browser, page: Path, chosen: list[Path]) -> None:
+    def test_chromium_takes_files_and_saves(self) -> None:
+        browser = chromium.shared()
+        page, chosen = files()
         browser.open(page)
         browser.give('#choose', chosen)
         browser.wait('#got', 'one.txt:ONE two.txt:TWO')
         browser.click('#save')
         self.assertEqual(browser.downloaded('saved.bin').read_bytes(), b'saved bytes')
-
-    def test_chromium_takes_chosen_files_and_saves(self) -> None:
-        browser = chromium.shared()
-        page, chosen = files()
-        self.choose_and_save(browser, page, chosen)
         browser.open(page)
         browser.drop('#field', chosen)
         browser.wait('#got', 'one.txt:ONE two.txt:TWO')
@@ -103,25 +95,3 @@ class Harness(unittest.TestCase):
                 browser.open(page)
                 browser.run(script)
                 common.waited(lambda: any(name in it for it in browser.attempts()), f'{name} was not seen')
-
-    def test_a_server_knows_what_it_was_asked_for(self) -> None:
-        browser = chromium.shared()
-        page, _ = files()
-        server = common.Server(page.parent)
-        self.addCleanup(server.close)
-        browser.open(f'{server.url}/harness.html')
-        browser.wait('#got', 'nothing')
-        self.assertEqual(browser.run('return isSecureContext'), True)
-        self.assertIn('GET /harness.html HTTP/1.1', server.requests)
-
-    @common.needs('firefox-esr', 'firefox-esr')
-    def test_firefox_takes_chosen_files_and_saves(self) -> None:
-        browser = marionette.Firefox()
-        self.addCleanup(browser.quit)
-        self.choose_and_save(browser, *files())
-
-    @webkit.needs_webkit
-    def test_webkit_takes_chosen_files_and_saves(self) -> None:
-        browser = webkit.WebKit()
-        self.addCleanup(browser.quit)
-        self.choose_and_save(browser, *files())
