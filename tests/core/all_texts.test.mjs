@@ -44,6 +44,22 @@ test('a row says where a text is and how much room it has, and the progress ends
     assert.ok(told.every(([done, all], i) => all === SECTORS && (i === 0 || done >= told[i - 1][0])), `${told}`);
 });
 
+test('texts that end with the sign $ are rows of their own, but a price is not an end', async () => {
+    const lines = ['はじめからつづけますか', 'つづきからはじめる', '勇者は古い剣を手に入れた', '村人が城の地下について話した', '薬は100$です、いかがですか'];
+    const rowsOf = async end => {
+        const user = Buffer.alloc(2048 * SECTORS);
+        Buffer.from(encodeText(encodingOf('CP932'), Array.from({ length: 40 }, (_, i) => lines[i % 5] + end).join(''))).copy(user, 100);
+        const track = { ...someTrack(), reader: readerOf(rawOf(user)) };
+        const [texts, ends] = [[], []];
+        const how = { options: {}, ended: (_, byte) => ends.push(byte) };
+        for await (const some of allTexts(localPool(), track, stretchesOf(track, []), how)) texts.push(...some.map(({ text }) => text));
+        return { texts, ends };
+    };
+    const { texts, ends } = await rowsOf('$');
+    assert.deepEqual([ends, texts.slice(0, 4)], [[0x24], lines.slice(0, 4)]);
+    assert.deepEqual([(await rowsOf('\0')).ends, (await rowsOf('\0')).texts[4]], [[], lines[4]]);
+});
+
 /** Sentences in each encoding that is recognised, mixed with English. */
 const SENTENCES = {
     Japanese: ['勇者は古い剣を手に入れた。', '村人が城の地下について話した！', 'HP 20の薬を買っていく…', 'はい', '「宝があるらしい」', 'This line is in English, and it is longer than forty characters.', 'ー'],

@@ -405,6 +405,26 @@ test('files that are too large are not searched for pointers, and one of them is
     assert.deepEqual(await unsearchedOf(others), { code: 'pointers/unsearched', facts: { path: '/MAIN.DAT', size: (1 << 20) + 1, more: 2 } });
 });
 
+test('a program has pointers to only some of the texts of a file', async () => {
+    const { files: { 'TEXT.BIN': bytes }, texts } = gameNamed('16 bits from the file');
+    const some = texts.filter((_, i) => i % 4 < 2);
+    const program = Buffer.concat([Buffer.alloc(1 << 20, 0x4E), ...some.map(at => number(4, at)), Buffer.alloc(3000, 0x4E)]);
+    const { pointers } = await listed((await discOf({ 'TEXT.BIN': bytes, 'MAIN.EXE': program })).opened);
+    const [{ path, at, count, begins }] = (await tablesOfList(readerOf(encoded(pointers)))).filter(table => table.path === '/MAIN.EXE');
+    assert.deepEqual([path, at, count, begins > count / 2], ['/MAIN.EXE', 1 << 20, some.length, true]);
+});
+
+test('a text into which a number leads like the pointers of its table is named', async () => {
+    const game = gameNamed('32-bit addresses, the greatest byte first');
+    const bytes = Buffer.from(game.files['TEXT.BIN']);
+    bytes.writeUInt32BE(0x06004000 + game.texts[5] + 6, 8);
+    const { opened, rows, pointers } = await prepared({ ...game, files: { 'TEXT.BIN': bytes } });
+    const [row] = rows.filter(({ at, bytes: size }) => at <= game.texts[5] + 6 && at + size > game.texts[5] + 6);
+    const news = rows.map(it => ({ ...it, new: it.new === '' ? '' : it.new.slice(0, 4) }));
+    const { few } = await moved(opened, news, pointers);
+    assert.deepEqual(few.map(({ code, facts: { text } }) => [code, text.number]), [['pointers/inside', row.number]]);
+});
+
 test('a file that is too large as a whole is searched around its texts', async () => {
     const { files: { 'TEXT.BIN': bytes } } = gameNamed('16 bits from the texts');
     const { rows, pointers } = await listed((await discOf({ 'TEXT.BIN': bytes })).opened);

@@ -205,6 +205,7 @@ export interface Facts {
     'pointers/stays': { reason: StayReason; why: Remark };
     'pointers/no-room': { path: string; missing: number };
     'pointers/moved': { text: RowName; path: string; from: number; to: number; pointers: number };
+    'pointers/inside': { text: RowName };
     'pointers/few': { text: RowName; pointers: number; beside: number };
     'pointers/unproved': { path: string; at: number };
     /** A file in which no pointers are searched, and how many more there are. */

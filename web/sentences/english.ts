@@ -336,6 +336,8 @@ export const ENGLISH: Sentences = {
         `${rowName(text)}: moved in ${path} from ${from} to ${to}; pointers ${pointers}`,
     'pointers/few': ({ text, pointers, beside }) =>
         `${rowName(text)}: moved with fewer pointers (${pointers}) than the texts beside it (${beside}); check it in the game`,
+    'pointers/inside': ({ text }) =>
+        `${rowName(text)}: a number that may be a pointer leads into the old text, so the game may show a part of the new one; check it`,
     'pointers/unsearched': ({ path, size, more }) =>
         `not searched for pointers: ${path} (${(size / MEGABYTE).toFixed(1)} MB)${more === 0 ? '' : `, ${more} more`}`,
     'pointers/unproved': ({ path, at }) => `the script would be wrong at byte ${at} of ${path}, so it was not written; please report this`,

@@ -300,9 +300,26 @@ class Search {
         }
     }
 
+    /** Finds tables of offsets of 32 bits in a file without texts. They may lead to only some of the texts of a file, in any order. */
+    async byOffsets(numbers: Uint32Array, form: { width: number, big: boolean }) {
+        const { files } = this.differences;
+        const most = Math.max(0, ...files.map(({ offset, size }) => offset + size));
+        for (const { from, end } of this.parts(numbers.length)) {
+            if (isTurnDue()) await letOthersIn(this.signal);
+            for (let at = from; at < end; at++) {
+                if (numbers[at] > most || numbers[at] === 0) continue;
+                for (const texts of files) {
+                    const wanted = { ...form, base: -texts.offset, own: false, unit: 1 };
+                    const isNear = texts.isNear(numbers[at] - texts.offset);
+                    if (isNear && this.areMixed(wanted, texts, at)) this.addRun(wanted, texts, at, form.width);
+                }
+            }
+        }
+    }
+
     /** Whether the numbers from a place on are a mixed table. */
     areMixed(form: PointerForm, texts: TextStarts, from: number) {
-        if (texts.firstAround(from) >= 0) return false;
+        if (texts === this.file.own && texts.firstAround(from) >= 0) return false;
         let firsts = 0;
         for (let i = 0; i < MIXED_POINTERS; i++) {
             const hit = pointerHitAt(this.file, form, texts, from + i * form.width);
@@ -326,6 +343,7 @@ class Search {
                     const isEven = distance % 2 === 0 && width % 2 === 0;
                     if (own !== null && isEven) await this.byDifferences(numbers, { width, big }, distance, true);
                 }
+                if (own === null && width === 4) await this.byOffsets(numbers, { width, big });
                 if (own === null) continue;
                 if (width === 2) await this.byRows(numbers, { width, big }, own);
                 if (width === 4) this.runs.push(...await runsByVotes(this.file, numbers, big, own, this.signal));

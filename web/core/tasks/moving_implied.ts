@@ -212,7 +212,10 @@ export async function addUncertain(tables: ListedTable[], fileOf: FileOf, signal
     for (const table of tables) {
         await letOthersIn(signal);
         const [file, texts] = [fileOf(table.path), fileOf(table.texts)];
-        texts.doubtful.push(...targetsBeside(table, file));
+        const beside = targetsBeside(table, file);
+        texts.doubtful.push(...beside);
+        // Numbers of 16 bits lead to some text by chance.
+        if (table.width > 2) texts.inner.push(...beside);
         if (!areAddresses(table)) continue;
         const known = bases.get(table.path) || new Set();
         bases.set(table.path, known);
@@ -224,6 +227,7 @@ export async function addUncertain(tables: ListedTable[], fileOf: FileOf, signal
     for (const path of new Set(tables.map(({ texts }) => texts))) {
         const file = fileOf(path);
         file.doubtful.sort((a, b) => a - b);
+        file.inner.sort((a, b) => a - b);
         file.stray.sort((a, b) => a - b);
     }
 }

@@ -19,12 +19,13 @@ import type { Engine, OpenedTrack, Watch } from './opened.js';
 import { assertHasRoom, replaceBytes, sharingWith, type VolumeNames } from './replace.js';
 import { fittingScript } from './scripts.js';
 
-type MovedRemark = Remark<'pointers/moved' | 'pointers/few' | 'replace/shared-blocks'>;
+type MovedRemark = Remark<'pointers/moved' | 'pointers/few' | 'pointers/inside' | 'replace/shared-blocks'>;
 /** An import with tables of pointers; `isKept` selects rows that stay in place. */
 type MovingOptions = Omit<ImportOptions, 'isAlso'> & { tables: ListedTable[], isKept: (row: ListRow) => boolean };
 /**
  * The rows as in other imports, the finished script, and remarks: on each text that has moved, on those with fewer pointers than the texts
- * beside them, and on other files that change too. `longer` is how many texts fit only because texts have moved.
+ * beside them or with pointers into their old texts, and on other files that change too. `longer` is how many texts fit only because texts
+ * have moved.
  */
 export type MovingImport = FittedLists & { script: Script | null, moved: MovedRemark[], few: MovedRemark[], sharing: MovedRemark[],
     longer: number };
@@ -277,11 +278,21 @@ class MovingRows {
             await this.fresh.write(file, layout, texts.end, signal);
             this.report(file, texts.movable, layout.places);
         }
+        this.reportInside();
         if (volume === null) return;
         this.reportSharing(volume);
         const { earlier, counted } = this.options;
         const isKept = earlier && ((range: UserRange) => earlier.lines.hasStaying(range));
         await pushFreshFiles(this.engine.calls, part, { names: volume, isKept, counted }, this.fresh, this.parts, signal);
+    }
+
+    /** Reports the rows with new texts into whose old texts pointers lead, as compilers make them for words that end alike. */
+    reportInside() {
+        const left = new Set(this.left.map(({ text }) => text));
+        for (const [file, rows] of this.rows) {
+            const inside = rows.filter(({ row, at, known }) => !left.has(row) && file.isPointed(at + 1, at + known));
+            this.remarks.few.push(...inside.map(({ row }) => remark('pointers/inside', { text: row })));
+        }
     }
 
     reportSharing(names: VolumeNames) {

@@ -180,6 +180,8 @@ export class PointedFile {
     doubtful: number[] = [];
     /** The places to which addresses anywhere in files lead that are not pointers of a table, in order. */
     stray: number[] = [];
+    /** The places to which wide numbers beside tables lead, in order. */
+    inner: number[] = [];
     /** The ranges that a person names as free. */
     free: Span[] = [];
     path; size;
@@ -193,6 +195,12 @@ export class PointedFile {
     /** Whether an address that is in no table leads to a place of a range. */
     isStray(first: number, after: number) {
         return this.stray[firstAfter(this.stray, first - 1)] < after;
+    }
+
+    /** Whether a pointer, or a number that is probably one, leads to a place of a range. */
+    isPointed(first: number, after: number) {
+        const isInner = this.inner[firstAfter(this.inner, first - 1)] < after;
+        return isInner || this.isStray(first, after) || this.leadingTo(first, after).length > 0;
     }
 
     /** Whether a number beside a table leads to a place of a range. */

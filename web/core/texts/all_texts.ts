@@ -186,6 +186,10 @@ const LEAST_OF_LINES = 1;
  */
 const ENDED = 6;
 
+/** The sign that ends texts of DOS, before a text in Japanese or a code. */
+const DOLLAR = 0x24;
+const ENDED_BY_DOLLAR = /\$(?=[\u0080-\uFFFF]|\{)/g;
+
 /** A given byte does not end the texts of a file if 00 follows more than this many times as many. */
 const MORE_ZEROS = 5;
 
@@ -241,11 +245,18 @@ function countJoined(texts: FoundText[], { encoding: name, table }: TextOptions)
     return texts.reduce((count, { text }) => count + text.split(joint).length - 1, 0);
 }
 
+/** How many texts in a row end with $, as in programs for DOS. A sign of money has a number after it, and not a letter of two bytes. */
+function countDollars(texts: FoundText[]) {
+    const count = texts.reduce((sum, { text }) => sum + (text.match(ENDED_BY_DOLLAR) || []).length, 0);
+    return count > texts.length ? count : 0;
+}
+
 /** The byte that ends most texts of a file, if it is not 00; or undefined. */
 function usualEnd(texts: FoundText[], options: TextOptions) {
     const counts = countsAfter(texts);
     const joined = countJoined(texts, options);
     counts[FULL] += joined;
+    counts[DOLLAR] += countDollars(texts);
     const end = counts.indexOf(Math.max(...counts));
     if (end === 0 || 2 * counts[end] <= texts.length + joined) return undefined;
     const code = `{${hexText(Uint8Array.of(end))}}`;
