@@ -211,8 +211,16 @@ ends_a_line() { [ "$(tail -c 1 log | od -An -tx1)" = ' 0a' ]; }
 run --help
 judge 'help has status 0' test "$status" = 0
 judge 'help has a text, only on standard output' eval 'grep -q Usage log && ends_a_line && [ ! -s errors ]'
-run apply --help
-judge 'help of a command' eval '[ "$status" = 0 ] && grep -q "Usage: cdpatch" log && ends_a_line && [ ! -s errors ]'
+# helps PART WORD..: judges the help of a command, which contains this part.
+helps() {
+    run "${@:2}"
+    judge "help: ${*:2}" eval '[ "$status" = 0 ] && grep -q "Usage: cdpatch" log && ends_a_line && [ ! -s errors ]'
+    judge "and prints $1" grep -q -- "$1" log
+}
+helps 'at most 449849' list --help
+helps 'at most 449849' audit image -h
+helps 'With --carry, patches on damaged sectors' check --help
+helps 'With --carry, patches on damaged sectors' apply image --help script out
 "$program" --help > /dev/full 2> errors
 judge 'help to a full device has status 2' test $? = 2
 
@@ -267,6 +275,14 @@ run list $'\xff'
 judge 'a word that is no text' ended 2 "$no_text\n"
 run list image --base 449849
 judge 'the largest base' ended 0 '449849-449851 mode1\nsectors 3 tail 0\n'
+cp image ./--base
+run list -- --base
+judge 'a file whose name begins with hyphens' ended 0 '0-2 mode1\nsectors 3 tail 0\n'
+rm ./--base
+run audit --base 1 image
+judge 'an option before the image' ended 1 '1 address\n2 address\n3 address\nsectors 3 mode1 3 damaged 0 tail 0\n'
+run check image --base=2 --carry script
+judge 'options between other arguments' ended_without_output 1 'line 2: refused: no block 1\napplied 0 refused 1\n'
 
 # With a closed standard stream, no message is written to a file.
 for closed in 0 1 2 01 02 12 012; do

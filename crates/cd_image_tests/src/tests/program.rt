@@ -1,9 +1,8 @@
-//! Tests of the program with concrete sources and sinks: its arguments (`command_line`), the statuses and the lines of the commands
-//! (`commands`, `streams`), scripts and their files (`script`), and the requests to a host (`hosts`).
+//! Tests of the program with concrete sources and sinks: the statuses and the lines of the commands (`commands`, `streams`), scripts and
+//! their files (`script`), and the requests to a host (`hosts`).
 
 use std::process::Abort;
 
-mod command_line;
 mod commands;
 mod hosts;
 mod messages;

@@ -2,7 +2,6 @@
 
 ghost use Rattle.cd_host.specs.Hosting.{any_answers};
 
-use super::command_line::args_of;
 use super::commands::{ALL, expect_ended};
 use super::holds;
 use super::messages::{APPLIED, COUNTED_WRITE_FAILED, NO_IMAGE, NO_MEMORY, NO_OUTPUT, NO_SCRIPT};
@@ -13,6 +12,15 @@ use cd_image::{SliceSink, SliceSource, ToWrite};
 use cd_program::{Host, OpenFault, run_args};
 use std::alloc::{AllocError, Global};
 use std::process::Abort;
+
+/// The arguments of a line.
+fn args_of(alloc: Global, line: &str) -> Result<Vec<String>, AllocError> {
+    let mut args = Vec::new(alloc);
+    for word in line.split_whitespace() {
+        args.push(String::from_str(alloc, word)?)?;
+    }
+    Ok(args)
+}
 
 /// A host that has an image and a script, creates a file that cannot pass its bytes on, and records the requests. The request with the
 /// number `failing` finds no memory.

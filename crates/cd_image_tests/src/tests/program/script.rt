@@ -8,7 +8,7 @@ use cd_image::{FailAfter, FromRead, Short, Sink, SliceSink, SliceSource, Source,
 use cd_line::Line;
 use cd_program::{load_script, read_script};
 use cd_run::{long_script_line, script_fault_line};
-use cd_script::ScriptFault::{Address, Head, Hex, Length, Number, Offset, TooMany, Verb, Words};
+use cd_script::ScriptFault::{Head, Hex, Length, TooMany, Words};
 use cd_script::{MAX_BYTES, MAX_PATCHES, MAX_TEXT, ScriptFault};
 use std::alloc::{AllocError, Global};
 use std::process::Abort;
@@ -31,34 +31,6 @@ fn expect_line(rt: &impl Abort, alloc: Global, text: &[u8], fault: Option<Script
     let is_due = status == due && log.finished() == due.is_some();
     let is_line = log.written() == line_of(fault).as_slice();
     assert!(rt; is_due && is_line, "{fault:?}");
-}
-
-/// A text, and its fault.
-const TEXTS: &[(&str, Option<ScriptFault>)] = &[
-    ("cdpatch 1\nset 0 2048 41", Some(Offset(2))),
-    ("cdpatch 1\nset 0 0 4", Some(Hex(2))),
-    ("cdpatch 1\nset 0 0 41 was 4142", Some(Length(2))),
-    ("cdpatch 1\nset 0 0 41 were 41", Some(Words(2))),
-    ("cdpatch 1\nfill 0 0 0 FF", Some(Length(2))),
-    ("set 0 0 41", Some(Head(1))),
-    ("", Some(Head(1))),
-    ("cdpatch 1\nset 0 0 41\r", Some(Hex(2))),
-    ("cdpatch 1\nset 0 0 41\r\r\n", Some(Hex(2))),
-    ("cdpatch 1\nrebuild 999999999", None),
-    ("cdpatch 2\naddress 0 00:60:00", Some(Address(2))),
-    ("cdpatch 2\naddress 0 00:02:75", Some(Address(2))),
-    ("cdpatch 2\naddress 0 0:02:00", Some(Address(2))),
-    ("cdpatch 2\naddress x 00:60:00", Some(Number(2))),
-    ("cdpatch 2\naddress 0", Some(Words(2))),
-    ("cdpatch 1\naddress 0 00:02:00", Some(Verb(2))),
-    ("cdpatch 9", Some(Head(1))),
-];
-
-#[test]
-fn texts_have_their_lines(rt: HostRuntime) {
-    for (text, fault) in TEXTS {
-        expect_line(&rt, rt.alloc(), text.as_bytes(), *fault);
-    }
 }
 
 /// The largest number of digits of bytes, and the largest number of patches.
