@@ -4,7 +4,7 @@ import assert from 'node:assert/strict';
 import { test } from 'node:test';
 import { calls, core, decoded, diceOf, newCalls } from './common.mjs';
 
-const { ScriptModel, lastBlockOf, writersIn, firstLinesOf, linesUnder, mergedInTurns } = await core('script/model.js');
+const { ScriptModel, lastBlockOf, writersIn, firstLinesOf, linesUnder } = await core('script/model.js');
 const { faultyWord, lacksDigit, wordsOf, isMeantAsScript, isScript } = await core('script/language.js');
 const { CONTENT, VERB } = await core('module/records.js');
 
@@ -175,42 +175,15 @@ function placeOf(text) {
     return { at, end: at + bytes.length / 2 };
 }
 
-/** The indices of the lines that a new line replaces. Those of which `isMade` is true are replaced in any case if they overlap it. */
-function replacedBy(texts, line, isMade) {
-    const { at, end } = placeOf(line);
-    return [...texts.keys()].filter(i => {
-        const old = placeOf(texts[i]);
-        return old.at < end && old.end > at && (old.at === at || (old.at > at && old.end <= end) || isMade(i));
-    });
-}
-
-test('merged lines replace those that write the same bytes, and a signal ends it', async () => {
+test('the lines that write bytes of new lines are found, in their order', () => {
     const dice = diceOf(6);
     const set = (bytes, size) => `set ${dice(40)} ${8 * dice(200)} ${bytes.repeat(size)} was ${'00'.repeat(size)}`;
     for (let i = 0; i < 20; i++) {
         const texts = Array.from({ length: 300 }, () => set('41', 1 + dice(12)));
         const script = new ScriptModel(calls, ['cdpatch 1', ...texts, ''].join('\n'));
         const incoming = Array.from({ length: 100 }, () => set('42', 1 + dice(8)));
-        const isMade = ({ number }) => number % 3 === 0;
-        const [put, end, all] = [texts.map(() => null), [], new Set()];
-        for (const line of incoming) {
-            const old = replacedBy(texts, line, k => isMade({ number: k + 2 }));
-            const first = old.find(k => put[k] === null);
-            old.forEach(k => { put[k] ??= ''; });
-            if (first === undefined) end.push(line);
-            else put[first] = line;
-            replacedBy(texts, line, () => true).forEach(k => all.add(k + 2));
-        }
-        const lines = ['cdpatch 1', ...texts.flatMap((text, k) => put[k] === '' ? [] : [put[k] ?? text]), ...end, ''];
-        assert.deepEqual((await mergedInTurns(script, incoming, isMade)).lines, lines);
-        const found = linesUnder(script, incoming);
-        assert.deepEqual(found.map(({ number }) => number), [...all].sort((a, b) => a - b));
+        const isUnder = text => incoming.map(placeOf).some(({ at, end }) => placeOf(text).at < end && placeOf(text).end > at);
+        const due = texts.flatMap((text, k) => isUnder(text) ? [k + 2] : []);
+        assert.deepEqual(linesUnder(script, incoming).map(({ number }) => number), due);
     }
-    const script = new ScriptModel(calls, 'cdpatch 1\nset 1 0 4141 was 0000\n');
-    const signal = { aborted: false };
-    const endLater = () => {
-        for (const began = Date.now(); Date.now() < began + 60;);
-        signal.aborted = true;
-    };
-    await assert.rejects(mergedInTurns(script, ['set 1 1 4242 was 4100', 'set 2 0 42 was 00'], endLater, signal), { code: 'cancelled' });
 });

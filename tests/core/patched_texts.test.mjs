@@ -7,8 +7,9 @@ import { localPool } from './pools.mjs';
 import { openedDisc } from './opened.mjs';
 import { recordOf } from './strangers.mjs';
 
-const { applyInMemory, exportRecords, exportTable, importTable, patchedTexts, textLines, validScript } = await core('tasks/index.js');
-const { ScriptModel, linesMade } = await core('script/views.js');
+const { Translation, applyInMemory, changesOfLists, exportRecords, exportTable, generate, importTable, patchedTexts, textLines, validScript } =
+    await core('tasks/index.js');
+const { PatchedReader, ScriptModel } = await core('script/views.js');
 const { pieceReader } = await core('readers/index.js');
 const { encodeText, withEnd } = await core('encodings/encoding.js');
 const { SEARCHED, encodingOf } = await core('encodings/encodings.js');
@@ -91,20 +92,23 @@ test('an exported table of records has the new texts of the script without their
     }
 });
 
-/** Imports a row for the text `text` at 36, 104, whose room is 8 bytes, into a script. Returns the new lines, and what happens to the old ones. */
+/** Imports a row for the text `text` at 36, 104, whose room is 8 bytes, into a script. Returns its new lines, and those that are gone. */
 async function importedBeside(text, fresh, sets) {
     const { opened } = await openedDisc([recordOf('NAMES', 36, 2048, { flags: 0 })], Buffer.from('\x01\x02\x03SLong sw\0\0\0\0', 'latin1'));
-    const pieces = [encoded(`cdpatch 1\n${sets.join('\n')}\n`)];
-    const { reader, base } = opened.image;
-    const patched = pieceReader(reader, (await applyInMemory(engine, { reader, base }, await validScript(calls, pieces))).pieces);
-    const lines = await linesOf(opened, pieces);
-    const textOf = await patchedTexts(opened, patched, { lines });
-    const shown = await textOf({ block: 36, offset: 104, bytes: text.length, room: 8, encoding: 'CP932', text });
+    const script = new ScriptModel(calls, `cdpatch 1\n${sets.join('\n')}\n`);
+    const lines = await textLines(opened, script, { pointed: [], listed: [], own: encodingOf('CP932') });
+    const how = { encodings: SEARCHED, isAsked: false };
+    const translation = new Translation((await opened.contents()).part, how);
     const lists = [{ name: 'list', reader: readerOf(encoded(`block\toffset\troom\ttext\tnew\n36\t104\t8\t${text}\t${fresh}\n`)) }];
-    const how = { lists, encodings: SEARCHED, isAsked: false, partial: true, earlier: { lines, textOf } };
-    const { script, left } = await importTable(engine, opened, how);
-    const replaced = lines.script.lines.filter(line => lines.isReplaced(line)).map(({ text: it }) => it);
-    return { shown, lines: script === null ? [] : linesMade(script), why: left.map(({ why }) => why.code), replaced, same: [...lines.unchanged] };
+    const { changes, left } = await changesOfLists(opened, translation, lists, how);
+    assert.deepEqual(left, []);
+    await translation.read(script, await patchedTexts(opened, new PatchedReader(calls, opened.image, script), { lines }), {});
+    const [[place, row]] = changes;
+    const shown = place.fresh;
+    translation.change([{ place, fresh: row.fresh }]);
+    const { removed, instead, end, made } = await generate(engine, opened, translation, script);
+    const why = [...made.values()].flatMap(it => it.why === null ? [] : [it.why.code]);
+    return { shown, lines: [...[...instead.values()].flat(), ...end], why, replaced: [...removed].map(number => script.lines[number - 1].text) };
 }
 
 for (const [name, text, fresh, sets, due] of [
@@ -112,13 +116,14 @@ for (const [name, text, fresh, sets, due] of [
     ['ends after the room of a text', 'Long', 'Une epee', ['set 36 104 556E6520657065652121 was 4C6F6E67207377000000'], { why: ['list/line-across'] }],
     ['fills the place of a text', 'Long', 'Lame', ['fill 36 104 2 65'], { why: ['list/line-across'] }],
     ['has the new text with a different filler', 'Long sw', 'Lame', ['set 36 104 4C616D65000000 was 4C6F6E67207377'],
-        { shown: 'Lame', same: ['set 36 104 4C616D65000000 was 4C6F6E67207377'] }],
+        { shown: 'Lame' }],
     ['has an earlier new text', 'Long sw', 'Epee', ['set 36 104 4C616D65000000 was 4C6F6E67207377', 'set 36 110 21 was 00'],
-        { shown: 'Lame{00}{00}!', lines: ['set 36 104 45706565202020 was 4C6F6E67207377'] }],
+        { shown: 'Lame{00}{00}!', lines: ['set 36 104 45706565202020 was 4C6F6E67207377'],
+            replaced: ['set 36 104 4C616D65000000 was 4C6F6E67207377', 'set 36 110 21 was 00'] }],
     ['writes in the room after the new text', 'Long', 'Lame', ['set 36 109 2121 was 7377'],
         { shown: 'Long !!', lines: ['set 36 104 4C616D65 was 4C6F6E67'], replaced: ['set 36 109 2121 was 7377'] }],
 ]) {
     test(`a list is imported into a script with a line that ${name}`, async () => {
-        assert.deepEqual(await importedBeside(text, fresh, sets), { shown: '', lines: [], why: [], replaced: [], same: [], ...due });
+        assert.deepEqual(await importedBeside(text, fresh, sets), { shown: '', lines: [], why: [], replaced: [], ...due });
     });
 }

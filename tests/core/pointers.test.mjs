@@ -528,7 +528,7 @@ test('a list of the texts has those that moved: each is read where its pointer l
         const tables = await tablesOfList(readerOf(encoded(pointers)));
         const pointed = new PointedTexts(await openPointedFiles(opened, tables));
         const listed = rows.map(row => ({ ...row, block: Number(row.block), offset: Number(row.offset), bytes: Number(row.bytes), room: Number(row.room) }));
-        const lines = await textLines(opened, model, { pointed: [pointed], listed, own: SEARCHED[0], isRemade: true });
+        const lines = await textLines(opened, model, { pointed: [pointed], listed, own: SEARCHED[0] });
         const freshOf = await patchedTexts(opened, patched, { lines, pointed });
         const isLeft = new Set(left.map(({ text }) => text.number));
         for (const [i, row] of rows.entries()) {
@@ -536,7 +536,7 @@ test('a list of the texts has those that moved: each is read where its pointer l
             assert.equal((await freshOf(listed[i])).trimEnd(), due.trimEnd(), `${name}, row ${row.number}`);
         }
         // All lines of the script belong to texts, and no other bytes do.
-        for (const line of model.lines) if (line.patch !== null) assert.ok(lines.isReplaced(line), `${name}: ${line.text}`);
+        for (const line of model.lines) if (line.patch !== null) assert.ok(lines.isOfMoved(line), `${name}: ${line.text}`);
         assert.equal(lines.isMoved(20 * 2048 + game.files[game.file].length - 1), game.table !== game.file, name);
         assert.equal(lines.isMoved(16 * 2048), false, name);
     }

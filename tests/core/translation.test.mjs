@@ -35,13 +35,19 @@ const inner = found.filter((_, i) => i % 7 === 3).map(it => {
 });
 const listed = [...found, ...inner];
 
+function documentOf(some) {
+    const document = new Translation(part, options);
+    document.list(some, options);
+    return document;
+}
+
 test('a script takes no more patches than the module accepts: the texts beyond say so, and a text that has a line can be changed', async () => {
-    const document = new Translation(part, found);
+    const document = documentOf(found);
     const places = [...document.places.values()];
     const script = new ScriptModel(calls, `cdpatch 1\n${'rebuild 7\n'.repeat(65530)}`);
     const put = async (some, fresh) => {
         document.change(some.map(place => ({ place, fresh })));
-        const made = await generate(engine, opened, document, script, options);
+        const made = await generate(engine, opened, document, script);
         script.readText(withGenerated(made).join('\n'));
         noteGenerated(document, made, script);
     };
@@ -52,11 +58,11 @@ test('a script takes no more patches than the module accepts: the texts beyond s
     assert.deepEqual([script.patches, places.slice(0, 6).map(isFull)], [65535, [false, false, false, false, false, true]]);
     await put([places[0]], '');
     await put([places[5]], 'Newest');
-    assert.deepEqual([script.patches, isFull(places[5]), places[5].lines.length], [65535, false, 1]);
+    assert.deepEqual([script.patches, isFull(places[5]), document.linesAt(script, places[5]).own.length], [65535, false, 1]);
 });
 
 test('a step that is withdrawn leaves the texts that were changed after it, and cannot be redone', () => {
-    const document = new Translation(part, found);
+    const document = documentOf(found);
     const [one, other] = document.places.values();
     document.change([{ place: one, fresh: 'Old' }]);
     document.change([{ place: one, fresh: 'New' }, { place: other, fresh: 'New' }]);
@@ -67,6 +73,42 @@ test('a step that is withdrawn leaves the texts that were changed after it, and 
     assert.deepEqual(document.withdraw(step), []);
 });
 
+test('texts that are listed again keep their new texts, and those that the script lacks also if they are not listed', async () => {
+    const document = documentOf(found);
+    const script = new ScriptModel(calls, 'cdpatch 1\n');
+    const [one, other] = document.all;
+    document.change([{ place: one, fresh: 'New' }, { place: other, fresh: 'Far too long a text for the room that there is' }]);
+    const made = await generate(engine, opened, document, script);
+    script.readText(withGenerated(made).join('\n'));
+    noteGenerated(document, made, script);
+    assert.deepEqual(document.left, [other]);
+    document.list(found.slice(5).map(it => ({ ...it })), options);
+    assert.deepEqual([document.others, document.left, document.all.length], [[other], [other], COUNT - 4]);
+    document.list(found.map(it => ({ ...it })), options);
+    assert.deepEqual([document.all[0].fresh, document.all[1], document.left], ['', other, [other]], 'what is in the script is read again');
+    const texts = await patchedTexts(opened, new PatchedReader(calls, opened.image, script), { own: encoding,
+        lines: await textLines(opened, script, { pointed: [], listed: [], own: encoding }) });
+    await document.read(script, texts, {});
+    assert.equal(document.all[0].fresh, 'New');
+});
+
+test('with another base all texts are at other blocks, and keep their new texts', () => {
+    const document = documentOf(found.map(it => ({ ...it })));
+    const [{ listed: { block } }] = document.all;
+    document.change([{ place: document.all[0], fresh: 'New' }]);
+    document.rebase({ ...part, base: part.base + 150 });
+    const [{ listed, ranges, fresh }] = document.all;
+    assert.deepEqual([listed.block, ranges[0].block, fresh], [block + 150, block + 150, 'New']);
+    assert.equal(document.at({ ...listed, isInFile: false }), document.all[0]);
+});
+
+test('empty texts that are equal to others are found with the new texts of these, if they are the same', () => {
+    const document = documentOf(found.slice(0, 6).map((it, i) => ({ ...it, text: i % 2 ? 'Yes' : 'No' })));
+    const [no, yes, , other] = document.all;
+    document.change([{ place: no, fresh: 'Non' }, { place: yes, fresh: 'Oui' }, { place: other, fresh: 'Si' }]);
+    assert.deepEqual([...document.emptyLike([no, yes, other])], [[document.all[2], 'Non'], [document.all[4], 'Non']]);
+});
+
 /** A line that no text may take over. */
 const isForeign = ({ text }) => /^fill|58595A585958$/.test(text);
 
@@ -74,7 +116,7 @@ const isForeign = ({ text }) => /^fill|58595A585958$/.test(text);
 class Storm {
     constructor(seed) {
         this.dice = diceOf(seed);
-        this.document = new Translation(part, listed);
+        this.document = documentOf(listed);
         this.script = new ScriptModel(calls, 'cdpatch 1\n');
         this.places = [...this.document.places.values()];
         /** A few that overlap, so that both of a pair are often changed. */
@@ -102,7 +144,7 @@ class Storm {
         const { document, script } = this;
         while (document.due.size > 0) {
             if (script.lines !== document.seen) await document.read(script, await this.textOf(), {});
-            const made = await generate(engine, opened, document, script, options);
+            const made = await generate(engine, opened, document, script);
             if (made.removed.size + made.instead.size + made.end.length > 0) this.edit(withGenerated(made).join('\n'));
             noteGenerated(document, made, script);
         }

@@ -26,7 +26,7 @@ const { readScript } = await core('script/script.js');
 const { codesLeftOut } = await core('texts/codes.js');
 const { encodingOf } = await core('encodings/encodings.js');
 const { rowsOfLists } = await core('tasks/list_rows.js');
-const { ScriptModel, mergedInTurns } = await core('script/model.js');
+const { ScriptModel, linesUnder } = await core('script/model.js');
 const { openDisc } = await core('disc/disc.js');
 const { FilesAlong } = await core('texts/all_texts.js');
 const { applyScript } = await core('tasks/scripts.js');
@@ -302,9 +302,9 @@ export const GROWTH = {
     'a directory of extents': size => listedVolume(size, () => recordOf('F', 19, USER, { flags: 128 })),
     'a file of extents': size => replacedParts(size / 4),
     'a script': size => () => readScript(calls, (async function* () { yield encoded(`cdpatch 1\n${times(size, i => `set ${i} 0 41\n`)}`); })()),
-    'lines that are merged': size => () => {
+    'lines over others': size => () => {
         const lines = Array.from({ length: size - 1 }, (_, i) => `set ${i} 0 41 was 00`);
-        return mergedInTurns(new ScriptModel(calls, `cdpatch 1\n${lines.join('\n')}\n`), lines, () => true);
+        return linesUnder(new ScriptModel(calls, `cdpatch 1\n${lines.join('\n')}\n`), lines);
     },
     'a patcher of white space': size => () => readPatcherText(calls, `\ncdpatch-data 1 ${' '.repeat(size)}\n`),
 };
@@ -333,7 +333,7 @@ const PAIRS = [
     [['patches', 'sectors'], (patches, sectors) => applied(patches, sectors / 16)],
     [['lines of a script', 'lines that are added'], (lines, added) => {
         const script = new ScriptModel(calls, `cdpatch 1\n${times(lines / 2, i => `set ${i % 1000} 0 41 was 00\n`)}`);
-        return () => mergedInTurns(script, Array.from({ length: added / 2 }, (_, i) => `set ${i % 1000} 0 42 was 00`), () => true);
+        return () => linesUnder(script, Array.from({ length: added / 2 }, (_, i) => `set ${i % 1000} 0 42 was 00`));
     }],
     [['numbers of a file', 'texts to which they lead'], (numbers, texts) => searched(numbers, texts / 8, i => 16 * i + i % 3)],
     [['numbers of a pattern', 'texts of the same one'], (numbers, texts) => searched(numbers, texts / 8, i => 16 * (i % 7) + i % 3)],

@@ -6,7 +6,7 @@ import { MESSAGES } from '../lib/messages.mjs';
 import { calls, core, page } from './page.mjs';
 
 const { linesUnder, modelInParts } = await core('script/model.js');
-const { mergeOf, ScriptLines } = await page('app/script_lines.js');
+const { ScriptLines } = await page('app/script_lines.js');
 const { ReplacedFiles } = await page('app/replaced_files.js');
 
 function linesOf(text) {
@@ -190,30 +190,6 @@ test('line ends of Windows are line ends, and a text ends as it did', () => {
     assert.equal(lines.text(), 'cdpatch 1\nrebuild 2\n');
 });
 
-const merged = async (lines, incoming) => (await mergeOf(lines, incoming))();
-
-test('lines that come a second time take the place of those that set the same bytes, and nothing else gives way', async () => {
-    const lines = linesOf('cdpatch 1\n# mine\nset 9 4 41 was 20\n');
-    const incoming = ['set 5 0 414141 was 202020', 'set 5 10 4242 was 2020', 'set 7 2047 4343 was 2020'];
-    assert.deepEqual(await merged(lines, incoming), { added: 3, replaced: 0, same: 0 });
-    lines.add(['set 5 11 5A was 42'], 'bytes');
-    lines.add(['fill 7 2040 20 00', 'set 5 2 5A5A was 4120'], 'bytes');
-    const before = lines.text();
-    assert.deepEqual(await merged(lines, ['set 5 0 4445 was 2020', 'set 5 10 4646 was 2020', incoming[2], 'set 8 5 47 was 20']), { added: 1, replaced: 2, same: 1 });
-    assert.equal(lines.text(), ['cdpatch 1', '# mine', 'set 9 4 41 was 20', 'set 5 0 4445 was 2020', 'set 5 10 4646 was 2020', incoming[2],
-        'fill 7 2040 20 00', 'set 5 2 5A5A was 4120', 'set 8 5 47 was 20', ''].join('\n'));
-    lines.undo();
-    assert.equal(lines.text(), before);
-});
-
-test('what is typed while lines come in stays', async () => {
-    const lines = linesOf('cdpatch 1\nset 5 0 41 was 20\n');
-    const coming = mergeOf(lines, ['set 5 0 42 was 20']);
-    lines.add(['rebuild 7'], 'bytes');
-    assert.deepEqual((await coming)(), { added: 0, replaced: 1, same: 0 });
-    assert.equal(lines.text(), 'cdpatch 1\nset 5 0 42 was 20\nrebuild 7\n');
-});
-
 test('a file that is replaced once more leaves no line of its earlier replacement', () => {
     const [lines, files, disc] = [linesOf('cdpatch 1\n# mine\n'), new ReplacedFiles(), {}];
     assert.equal(files.replace(lines, disc, '/A', ['set 5 0 4141 was 2020', 'set 6 0 41 was 20']), 0);
@@ -240,17 +216,6 @@ test('a file of another disc leaves the lines for a file of the same path', () =
     assert.equal(lines.text(), 'cdpatch 1\nset 7 0 42 was 20\nset 5 0 43 was 20\n');
 });
 
-test('what an import or a replacement made gives way where it is met in part, and what was typed does not', async () => {
-    const lines = linesOf('cdpatch 1\n');
-    lines.add(['set 5 0 414141 was 202020'], '');
-    lines.add(['set 6 0 414141 was 202020'], 'bytes');
-    assert.deepEqual(await merged(lines, ['set 5 2 4242 was 2020', 'set 6 2 4242 was 2020']), { added: 1, replaced: 1, same: 0 });
-    assert.equal(lines.text(), 'cdpatch 1\nset 5 2 4242 was 2020\nset 6 0 414141 was 202020\nset 6 2 4242 was 2020\n');
-    lines.noteSaved();
-    assert.deepEqual(await merged(lines, ['set 5 2 4242 was 2020']), { added: 0, replaced: 0, same: 1 });
-    assert.ok(lines.isSaved());
-});
-
 test('lines that write the bytes of others are found in their order, and taken out by one edit', async () => {
     const lines = linesOf('cdpatch 1\n# mine\nfill 5 0 3 00\n');
     lines.add(['set 6 1 4141 was 2020'], '');
@@ -258,7 +223,6 @@ test('lines that write the bytes of others are found in their order, and taken o
     const incoming = ['set 6 2 2020 was 2020', 'set 5 0 202020 was 202020'];
     const found = linesUnder(lines, incoming).filter(({ patch }) => patch.verb === 0);
     assert.deepEqual(found.map(({ number }) => number), [4, 5, 6]);
-    assert.deepEqual(linesUnder(lines, incoming, true).map(({ number }) => number), [4, 6]);
     const before = lines.text();
     assert.equal(lines.remove(new Set(found.map(({ text }) => text))), 3);
     assert.equal(lines.text(), 'cdpatch 1\n# mine\nfill 5 0 3 00\nset 7 0 43 was 20\n');
@@ -267,16 +231,26 @@ test('lines that write the bytes of others are found in their order, and taken o
     assert.equal(lines.text(), before);
 });
 
-test('lines that come into a new script follow the comment that says the base of the image', async () => {
+test('lines that were made here are counted from another base, and others are not', () => {
+    const lines = linesOf('cdpatch 1\nset 5 0 41 was 20\n');
+    lines.add(['set 5 2 42 was 20', 'set 6 0 44 was 20'], '');
+    lines.add(['set 7 0 43 was 20'], 'bytes');
+    lines.shift(150);
+    const due = 'cdpatch 1\nset 5 0 41 was 20\nset 155 2 42 was 20\nset 156 0 44 was 20\nset 7 0 43 was 20\n';
+    assert.equal(lines.text(), due);
+    assert.ok(lines.made.has('set 155 2 42 was 20'));
+    lines.undo();
+    assert.equal(lines.text(), due.replaceAll('set 15', 'set '));
+});
+
+test('lines that come into a new script follow the comment that says the base of the image', () => {
     const due = 'cdpatch 1\n# base 150\nset 5 0 41 was 20\n';
     for (const text of ['cdpatch 1\n', '', 'cdpatch 1\nset 4 0 42 was 20\n']) {
-        const [added, tabled] = [linesOf(text), linesOf(text)];
-        added.base = tabled.base = 150;
+        const added = linesOf(text);
+        added.base = 150;
         added.add(['set 5 0 41 was 20'], '');
-        await merged(tabled, ['set 5 0 41 was 20']);
         const isNew = !text.includes('set');
         assert.equal(added.text(), isNew ? due : `${text}set 5 0 41 was 20\n`);
-        assert.equal(tabled.text(), isNew ? due : `${text}set 5 0 41 was 20\n`);
         added.add(['rebuild 7'], '');
         assert.equal(added.text().split('# base').length, isNew ? 2 : 1);
     }

@@ -9,10 +9,9 @@ const { ScriptLines, hasTooMany, isLong } = await page('app/script_lines.js');
 const { ReplacedFiles } = await page('app/replaced_files.js');
 const { MOST_HELPED, chosenHelps } = await page('script/editor.js');
 const { putIntoScript } = await page('text/generated_script.js');
-const { KnownTexts } = await page('text/known_texts.js');
 const { openDisc } = await page('../core/disc/disc.js');
 const { encodingOf } = await page('../core/encodings/encodings.js');
-const { openTrack } = await page('../core/tasks/index.js');
+const { Translation, openTrack } = await page('../core/tasks/index.js');
 
 test('a script is too long above 64 MB, or 150,000 lines', () => {
     assert.equal(isLong('#'.repeat(1 << 26)), false);
@@ -73,19 +72,18 @@ test('the lines of many texts do not take the place of a script that is too long
     const user = Uint8Array.from(Buffer.from(text.padEnd(32, '\0').repeat(320), 'latin1'));
     const { reader } = imageOfBytes(calls.encodeBlocks(0, user));
     const opened = openTrack(await openDisc(calls, [{ name: 'game.bin', reader }]));
-    const known = new KnownTexts();
     const listed = Array.from({ length: 320 }, (_, i) => ({ block: Math.floor(i / 64), offset: i % 64 * 32, bytes: 16, room: 16, encoding: 'CP932', text }));
-    await known.add(listed, { aborted: false });
-    known.begin((await opened.contents()).part);
+    const how = { encodings: [encodingOf('CP932')], isAsked: false };
+    const translation = new Translation((await opened.contents()).part, how);
+    translation.list(listed, how);
     const script = new ScriptLines(calls);
     const long = `cdpatch 1\n${'#\n'.repeat(150000)}`;
     script.take(long, 'long.txt');
     const image = { opened };
     const app = { calls, script, image, closing: new AbortController(), changeScript: change => change(script) };
-    const list = { image, texts: known, options: { encodings: [encodingOf('CP932')], isAsked: false }, read: async () => true };
-    known.translation.seen = script.lines;
-    known.translation.change([...known.translation.places.values()].map(place => ({ place, fresh: 'New' })));
-    await assert.rejects(putIntoScript(app, list), /more than cdpatch accepts/);
+    translation.seen = script.lines;
+    translation.change(translation.all.map(place => ({ place, fresh: 'New' })));
+    await assert.rejects(putIntoScript(app, image, translation, async () => true, () => {}), /more than cdpatch accepts/);
     assert.equal(script.text(), long);
 });
 

@@ -204,7 +204,8 @@ class Pointers(PointersPage):
         self.browser.click('#tab-text')
         self.browser.wait('#panel-text .meter', '2 of 60 done')
         self.browser.give('#panel-text input[accept^=".tsv"]', [self.list_of(image, {2: f'{LONG} again'})])
-        self.browser.wait('#panel-text .say', '25 translations of the table that the list lacks are kept.')
+        self.browser.wait('#panel-text h2', '1 row does not fit')
+        self.assertEqual(self.script_now(), self.moved_by_cdscript(image, fresh))
 
     def make_held(self) -> Path:
         """Presses Make the script for two texts, and holds the first read of their list."""

@@ -252,8 +252,27 @@ class TypedTexts(PageTest):
         self.assertEqual(sum('much too long' in row for row in table.splitlines()), 6)
         self.browser.click('#tab-publish')
         self.browser.wait('#panel-publish', '1 translation in the table of texts is not in the script.')
+        self.browser.click('#tab-text')
+        self.browser.click(self.field(2))
+        self.browser.press('Save?', Keys.ENTER)
+        self.browser.wait('#count-script', '6')
+        self.browser.click('#tab-script')
+        self.browser.wait('#panel-script .say.warn', '1 translation in the table of texts is not in the script.')
+        self.press('Show the first one')
+        common.waited(lambda: self.browser.run('return document.activeElement === document.querySelector(arguments[0])', self.field(1)),
+                      'the text has no focus')
 
-    def test_typed_texts_that_do_not_fit_stay_if_the_texts_are_listed_again_and_are_not_lost_without_a_question(self) -> None:
+    def test_an_import_offers_its_translations_for_equal_texts_that_are_empty(self) -> None:
+        image = self.open_table(spoken_texts())
+        table = image.with_name('mine.tsv')
+        table.write_text(with_new(common.cdscript_prints('texts', image), {2: 'The game starts.'}))
+        self.browser.give('#panel-text input[accept^=".tsv"]', [table])
+        self.browser.wait('#panel-text .say.good', '1 line added to the script.')
+        self.press('Use them for 5 equal texts that are empty')
+        self.browser.wait('#panel-text .say.good', '5 lines added to the script.')
+        self.same_lines(self.written(image, {SENTENCES[0]: 'The game starts.'}))
+
+    def test_typed_texts_that_do_not_fit_stay_if_the_texts_or_others_are_listed_again(self) -> None:
         text = b'\0'.join(it.encode('cp932') for it in SENTENCES) + b'\0'
         self.open_table(common.image_of(common.iso_of({'A.DAT': text, 'B.DAT': text.replace(SENTENCES[1].encode('cp932'), SENTENCES[3].encode('cp932'))})))
         long = 'much too long ' * 4
@@ -269,16 +288,11 @@ class TypedTexts(PageTest):
         self.browser.click('.what-to-list summary')
         self.browser.type('#list-file', 'B.DAT')
         self.press('Show all texts')
-        self.browser.wait('#sheet', '1 typed text is not in the script, and the other list has no row for it.')
-        self.browser.answer('Cancel')
-        self.becomes(2, 2, long)
-        self.press('Show all texts')
-        self.browser.wait('#sheet')
-        self.browser.answer('Save a list, then show')
-        saved = common.waited(self.browser.downloaded('game (texts).csv').read_text, 'the list is empty')
-        self.assertIn(long, saved)
         self.browser.wait('#panel-text .meter', '0 of 3 done')
-        self.assertFalse(self.browser.asks_before_leaving())
+        self.assertTrue(self.browser.asks_before_leaving())
+        self.browser.type('#list-file', '')
+        self.press('Show all texts')
+        self.becomes(2, 2, long)
 
     def test_a_removed_text_is_removed_from_the_script(self) -> None:
         image = self.open_table(spoken_texts())

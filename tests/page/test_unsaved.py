@@ -116,6 +116,14 @@ class Unsaved(PageTest):
         self.assertEqual(self.browser.run('return document.querySelector(arguments[0]).value', self.field(1)), self.LONG, door)
         self.browser.click(f'#{tab}')
 
+    def keeps_texts(self, door: str) -> None:
+        """Checks that nothing is asked, and that the texts are still there."""
+        self.browser.click('#tab-text')
+        self.browser.wait('#panel-text [aria-pressed]:nth-child(3)', 'Do not fit 1')
+        self.assertEqual(self.browser.run('return document.querySelector(arguments[0]).value', self.field(1)), self.LONG, door)
+        self.assertEqual(self.browser.run('return document.querySelector(arguments[0]).value', self.field(2)), 'Save?', door)
+        self.assertFalse(self.browser.run('return document.querySelector("#sheet")?.open === true'), door)
+
     @common.in_check
     def test_no_other_image_takes_the_place_of_typed_texts_without_a_question(self) -> None:
         image = spoken_texts()
@@ -141,7 +149,7 @@ class Unsaved(PageTest):
         self.press_in('image', 'Set the base')
         self.browser.type('#base', '100')
         self.browser.press(Keys.ENTER)
-        self.is_asked('first.bin', 'Set the base')
+        self.keeps_texts('Set the base')
         self.browser.click('#tab-script')
         self.press_save()
         self.press('Open the new image')
@@ -154,7 +162,7 @@ class Unsaved(PageTest):
         self.assertIn(self.LONG, saved)
         self.browser.wait('#disc-line .name', 'first (patched).bin')
 
-    def test_typed_texts_are_asked_about_before_an_image_is_read_again(self) -> None:
+    def test_typed_texts_stay_when_an_image_is_read_again(self) -> None:
         self.browser.run(HELD)
         self.open_files(discs.written(game=spoken_texts())['game'])
         self.browser.wait('#disc-line .lead', 'Reading the disc')
@@ -164,12 +172,8 @@ class Unsaved(PageTest):
         self.type_texts()
         self.browser.click('#tab-disc')
         self.press('Read it again')
-        self.is_asked('game.bin', 'Read it again')
-        self.press('Read it again')
-        self.browser.answer('Discard them')
         self.wait_for_hash()
-        self.browser.click('#tab-text')
-        self.is_gone('.all-texts')
+        self.keeps_texts('Read it again')
 
     def test_a_cancelled_import_leaves_the_table_as_it_was(self) -> None:
         image = self.open_table(spoken_texts())

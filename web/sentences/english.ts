@@ -2,7 +2,7 @@
 
 import { hexText } from '../core/bytes.js';
 import type { Facts, FileKind, RowName, StayReason } from '../core/faults.js';
-import { LAST_BASE, MOST_SECTORS, kindName } from '../core/module/index.js';
+import { LAST_BASE, kindName } from '../core/module/index.js';
 import type { Sentences } from './sentences.js';
 import { blocksText } from './verdict.js';
 

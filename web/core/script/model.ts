@@ -2,7 +2,6 @@
 
 import { hexText } from '../bytes.js';
 import { CONTENT, PATCH_SIZE, USER_SIZE, VERB, isFault, type Calls, type PatchRange } from '../module/index.js';
-import { isTurnDue, letOthersIn, type Signal } from '../turns.js';
 import { VERSIONS, contentOf, headLine, lineParts, linesOfText, partOfWord, wordsOf } from './language.js';
 
 /** A line: its number, from 1, its text, its CONTENT, and its patch, null if it has none. */
@@ -241,88 +240,13 @@ export async function modelInParts(calls: Calls, text: string, turn: () => Promi
     return model;
 }
 
-// Merges new lines into a script. Each one replaces the lines that write the same bytes.
-
 /** How many lines are new, how many replaced others, and how many were there already. */
 export type Merged = { added: number, replaced: number, same: number };
 
-/**
- * Whether a line is replaced by a new line that sets an overlapping range: if it sets bytes from the same place on, or only bytes of the
- * range, or if it was generated like the new line, and not typed.
- */
-function isReplacedBy(line: ScriptLine, range: UserRange, isMade: (line: ScriptLine) => boolean) {
-    const { patch } = line;
-    if (patch === null || patch.verb !== VERB.SET) return false;
-    const from = userPlace(patch) - userPlace(range);
-    return from === 0 || (from > 0 && from + patch.size <= range.size) || isMade(line);
-}
-
-/** @param texts of lines that set bytes */
-const scriptOf = (texts: string[]) => [headLine(), ...texts].join('\n');
-
-/** The lines that set bytes, read from the text that scriptOf returns. */
-function linesRead({ lines }: ScriptModel) {
-    return lines.slice(1) as { text: string, patch: UserRange }[];
-}
-
-/** The lines of a script that are replaced by a new line which sets a range. */
-function linesFor(script: ScriptModel, range: UserRange, isMade: (line: ScriptLine) => boolean) {
-    return script.linesWriting(range).filter(line => isReplacedBy(line, range, isMade)).sort(byNumber);
-}
-
-/** Merges lines, one after the other, with a script that itself does not change. */
-class Merging {
-    /** The new texts by the numbers of the replaced lines, '' for a removed line. */
-    put = new Map<number, string>();
-    end: string[] = [];
-    counts = { added: 0, replaced: 0, same: 0 };
-
-    constructor(readonly script: ScriptModel, readonly isMade: (line: ScriptLine) => boolean) {}
-
-    add({ text, patch }: { text: string, patch: UserRange }) {
-        const { put, counts } = this;
-        const removed = linesFor(this.script, patch, this.isMade);
-        const first = removed.find(({ number }) => !put.has(number));
-        if (removed.length === 0) counts.added += 1;
-        else if (removed.length === 1 && removed[0].text === text) counts.same += 1;
-        else counts.replaced += 1;
-        for (const { number } of removed) if (!put.has(number)) put.set(number, '');
-        if (first) put.set(first.number, text);
-        else this.end.push(text);
-    }
-
-    merged() {
-        const { put, end, counts } = this;
-        const lines = this.script.lines.flatMap(({ number, text }) => put.get(number) === '' ? [] : [put.get(number) || text]);
-        const last = lines.length - Number(lines[lines.length - 1] === '');
-        return { lines: end.length === 0 ? lines : [...lines.slice(0, last), ...end, ''], counts };
-    }
-}
-
-/**
- * The lines of a script, in order, that write some of the bytes of new lines which set bytes.
- * @param beside whether only those are returned that begin at none of their places
- */
-export function linesUnder(script: ScriptModel, incoming: string[], beside: boolean = false) {
-    const read = linesRead(new ScriptModel(script.calls, scriptOf(incoming)));
-    const places = new Set(read.map(({ patch }) => userPlace(patch)));
-    const there = [...new Set(read.flatMap(({ patch }) => script.linesWriting(patch)))].sort(byNumber);
-    return there.filter(({ patch }) => !beside || patch === null || !places.has(userPlace(patch)));
-}
-
-/**
- * Merges lines that set bytes, and do not overlap, with a script, and returns the texts of all lines. Each new line is put in the place of
- * the first line that it replaces, or at the end. Other tasks get turns in between, in which the script must not change. Build the new
- * script from the lines with `modelInParts`, which gives turns too.
- * @param isMade whether a line was generated like the new ones, and not typed
- */
-export async function mergedInTurns(script: ScriptModel, incoming: string[], isMade: (line: ScriptLine) => boolean, signal?: Signal) {
-    const merging = new Merging(script, isMade);
-    for (const line of linesRead(await modelInParts(script.calls, scriptOf(incoming), () => letOthersIn(signal)))) {
-        if (isTurnDue()) await letOthersIn(signal);
-        merging.add(line);
-    }
-    return merging.merged();
+/** The lines of a script, in order, that write some of the bytes of new lines. */
+export function linesUnder(script: ScriptModel, incoming: string[]) {
+    const read = new ScriptModel(script.calls, [headLine(), ...incoming].join('\n')).lines.flatMap(({ patch }) => patch || []);
+    return [...new Set(read.flatMap(patch => script.linesWriting(patch)))].sort(byNumber);
 }
 
 // Finds the lines of a script that rebuild a block or write in it. A rebuild repairs a damaged sector for the changes after it.

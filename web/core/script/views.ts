@@ -5,7 +5,7 @@ export {
     linesOfText, partOfWord, wordsOf, wordsOn, isMeantAsScript, isScript,
 } from './language.js';
 export {
-    firstLinesOf, linesUnder, mergedInTurns, ScriptModel, lastBlockOf, modelInParts, userPlace, type Merged, type ScriptLine,
+    firstLinesOf, linesUnder, ScriptModel, lastBlockOf, modelInParts, userPlace, type Merged, type ScriptLine,
     type ScriptState, type UserRange,
 } from './model.js';
 export { LineList, lineText, ScriptParts, linesMade, type Left, type Lines, type Script } from './script_writer.js';

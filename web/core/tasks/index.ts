@@ -25,17 +25,17 @@ export { importMoving, type MovingImport } from './moving_import.js';
 export { mergeRange, type MergeArgs, type Merged } from './merge.js';
 export { OpenedTrack, openTrack, trackBeside, type Engine, type TrackContents, type Watch } from './opened.js';
 export {
-    entriesNamed, pathFromRoot, importIntoFile, importRowsIntoFile, openPlainFile, NewTexts, exportTable, exportedPieces, importRows,
+    entriesNamed, pathFromRoot, importIntoFile, importRowsIntoFile, openPlainFile, NewTexts, exportTable, exportedPieces,
     importTable, leftTable, listTexts, newTextsOf, roomInTrack, type ExportOptions, type FreshOf, type ImportedTable, type ListOptions,
     type RowOptions,
 } from './list_tables.js';
-export { PointedTexts, noteOtherLines, patchedTexts, textLines, type EarlierTexts, type TextLines } from './list_patched.js';
+export { PointedTexts, patchedTexts, textLines, type TextLines } from './list_patched.js';
 export { LAYOUT_LIMITS, exportRecords, listRecords, recordsOverlap, type RecordOptions } from './list_records.js';
 export {
     assertHasRoom, replaceHits, filledUp, replaceBytes, replaceRange, sectorsOfRange, untriedLines, patchedExtents, placeOfLength,
     placesOfFile, replaceFile,
 } from './replace.js';
-export {
-    generate, noteGenerated, rowOfListed, withGenerated, Translation, changesOfLists, type Generated, type Placed,
-} from './translation.js';
+export { generate, noteGenerated, rowOfListed, withGenerated, type Generated } from './translation_lines.js';
+export { Translation, type Placed } from './translation.js';
+export { changesOfLists, changesOfRows } from './list_changes.js';
 export type { ListRow } from './list_rows.js';

@@ -3,14 +3,13 @@
 import { firstAfter, sameBytes, type Reader } from '../bytes.js';
 import type { OrderedImage } from '../disc/index.js';
 import { encodingOf, sizeBeforeFilling, withEnd, type Encoding } from '../encodings/index.js';
-import { Fault } from '../faults.js';
 import { fileOrder } from '../iso/index.js';
 import { VERB } from '../module/index.js';
 import { MOST_CODES, joinedSpans, storedAt, targetOf, type Span } from '../pointers/index.js';
 import { byNumber, userPlace, type ScriptLine, type ScriptModel, type UserRange } from '../script/index.js';
 import { LONGEST_TEXT, bytesAround, cellOf, charactersFrom, partsWithCodes, type ListedText } from '../texts/index.js';
 import { isTurnDue, letOthersIn, sortedInTurns, type Signal } from '../turns.js';
-import type { ClaimRow, FoundRow, LeftRow } from './list_fitting.js';
+import type { FoundRow } from './list_fitting.js';
 import type { ListRow } from './list_rows.js';
 import type { PointedFile, PointedFiles, Pointer } from './moving_pointers.js';
 import { endWithMark, firstPointed, usualEndOf } from './moving_texts.js';
@@ -113,20 +112,13 @@ function rangeOf({ block, offset, bytes, room }: ListedText & { block: number },
 export class TextLines {
     /** What isOfMoved has found. */
     ofMoved = new Map<ScriptLine, boolean>();
-    /** Whether lines, by what they say, stay in the script although others are added or generated again. */
-    staying = new Map<string, boolean>();
-    /** The lines of texts that do not change. */
-    unchanged = new Set<string>();
     firsts;
 
     /**
      * @param script which may change later
-     * @param pointed the texts that may move
      * @param moved the ranges of texts and pointers, in order, in their files
-     * @param isRemade whether the lines of these files are generated again
      */
-    constructor(readonly script: ScriptModel, readonly image: Pick<OrderedImage, 'order'>, readonly pointed: PointedTexts[],
-        readonly moved: Span[], readonly isRemade: boolean) {
+    constructor(readonly script: ScriptModel, readonly image: Pick<OrderedImage, 'order'>, readonly moved: Span[]) {
         this.firsts = moved.map(({ first }) => first);
     }
 
@@ -165,48 +157,19 @@ export class TextLines {
         return isOf;
     }
 
-    /** Whether a pointer leads to a text. */
-    isPointed(text: Parameters<PointedTexts['of']>[0], encoding: Encoding) {
-        return this.pointed.some(texts => texts.of(text, encoding) !== null);
-    }
-
     /** @param place of a user byte */
     isMoved(place: number) {
         const i = firstAfter(this.firsts, place) - 1;
         return i >= 0 && this.moved[i].after > place;
     }
-
-    /** Notes whether lines stay in the script. */
-    note(lines: ScriptLine[], stay: boolean) {
-        for (const { text } of lines) this.staying.set(text, stay);
-    }
-
-    /** Notes that the lines of a text stay, because it does not change. */
-    keep(lines: ScriptLine[]) {
-        this.note(lines, true);
-        for (const { text } of lines) this.unchanged.add(text);
-    }
-
-    /** Whether a line is removed when the lines of new texts are added. */
-    isReplaced(line: ScriptLine) {
-        const stays = this.staying.get(line.text);
-        return stays === undefined ? this.isRemade && this.isOfMoved(line) : !stays;
-    }
-
-    /** Whether a line that stays writes in a range. */
-    hasStaying(range: UserRange) {
-        return this.script.linesWriting(range).some(line => !this.isReplaced(line));
-    }
 }
 
 /**
  * The lines of a script by the texts of a disc that they write.
- * @param options the texts that may move by some tables; all texts; the encoding of those whose encoding has no name; and whether the lines
- *     in the files of these tables are generated again
+ * @param options the texts that may move by some tables; all texts; and the encoding of those whose encoding has no name
  */
 export async function textLines(opened: OpenedTrack, script: ScriptModel,
-    { pointed, listed, own, isRemade = false }: { pointed: PointedTexts[], listed: ListedText[], own: Encoding, isRemade?: boolean },
-    signal?: Signal) {
+    { pointed, listed, own }: { pointed: PointedTexts[], listed: ListedText[], own: Encoding }, signal?: Signal) {
     const { volume, part } = await opened.contents();
     const spans: Span[] = [];
     const add = (range: UserRange) => spans.push({ first: userPlace(range), after: userPlace(range) + range.size });
@@ -218,13 +181,10 @@ export async function textLines(opened: OpenedTrack, script: ScriptModel,
         add(rangeOf({ ...it, block }, pointed.some(texts => texts.of(it, encodingOf(it.encoding) || own) !== null)));
     }
     const some = spans.filter(({ first, after }) => after > first);
-    return new TextLines(script, part, pointed, joinedSpans(await sortedInTurns(some, ({ first }) => first, signal)), isRemade);
+    return new TextLines(script, part, joinedSpans(await sortedInTurns(some, ({ first }) => first, signal)));
 }
 
 // The new texts that a script writes: what a patched image has at the places of the old texts, or where their pointers lead.
-
-/** The lines of the open script, and the new texts that it writes in place, null if they cannot be read. */
-export type EarlierTexts = { lines: TextLines, textOf: Awaited<ReturnType<typeof patchedTexts>> | null };
 
 /** Characters that fill up a text at its end. */
 const FILLER_CHARACTER = /^[ \u3000\0]$/;
@@ -295,64 +255,4 @@ export async function patchedTexts(opened: Pick<OpenedTrack, 'contents'>, reader
 /** The bytes of a row's old text with the room after it. A row without a room, and one of a PO file, has that of its place. */
 export function rangeOfRow({ block, offset, room, unit }: ListRow, { known, filled, at }: FoundRow) {
     return { block, offset, size: Math.max(known, unit === 'line' || room < 0 ? filled - at : room) };
-}
-
-/**
- * Returns a function that decides on the rows of a list by the lines of an earlier script. A row whose text the script has already keeps
- * its lines, unless they are generated again because a pointer leads to it. A row does not fit if a line that is not its own writes at its
- * place: then the function throws a Fault.
- */
-export function claimByScript({ lines, textOf }: EarlierTexts): ClaimRow {
-    const { isRemade } = lines;
-    return async (row, found, bytes) => {
-        const { known, encoding } = found;
-        const range = rangeOfRow(row, found);
-        const { own, others } = lines.at(range);
-        const fill = row.fill === '' ? undefined : row.fill;
-        const listed = { ...row, bytes: known, room: range.size, encoding: encoding.name, fill };
-        const isNew = own.length + others.length === 0 || (isRemade && (others.length > 0 || lines.isPointed(listed, encoding)));
-        const now = isNew || textOf === null ? '' : await textOf(listed);
-        if (now !== '' && now === filledCell(encoding, bytes, fill === undefined ? null : encoding)) {
-            lines.keep([...own, ...others]);
-            return Math.max(known, bytes.length);
-        }
-        const other = others.find(line => !isRemade || !lines.isOfMoved(line));
-        if (other !== undefined) throw new Fault('list/line-across', { line: other.number });
-        lines.note(isRemade ? own : own.filter(line => isBeyond(line, range, Math.max(found.size, bytes.length))), false);
-        return 0;
-    };
-}
-
-/**
- * Whether a line of a text is not replaced by the line of its new text, because it begins later and ends later.
- * @param size of the new line
- */
-function isBeyond({ patch }: ScriptLine, range: UserRange, size: number) {
-    const from = patch === null ? 0 : userPlace(patch) - userPlace(range);
-    return patch !== null && from > 0 && from < range.size && from + patch.size > size;
-}
-
-/** Notes that the lines of texts stay for which a list has new ones that do not fit, unless all lines of texts are generated again. */
-export function noteLeft(left: LeftRow[], { lines }: EarlierTexts) {
-    for (const { text: { block, offset, room } } of lines.isRemade ? [] : left) {
-        if (block >= 0 && offset >= 0) lines.note(lines.at({ block, offset, size: Math.max(room, 1) }).own, true);
-    }
-}
-
-/**
- * Notes of the listed texts that no list has which lines stay if the script is generated again: those that do not change the text. Those of
- * a new text that was removed do not stay.
- * @param newTextOf the new text that the script is to have, or ''
- */
-export async function noteOtherLines(listed: ListedText[], newTextOf: (listed: ListedText) => string, { lines, textOf }: EarlierTexts,
-    signal?: Signal) {
-    for (const it of listed) {
-        if (isTurnDue()) await letOthersIn(signal);
-        const { block, offset, bytes, room } = it;
-        if (block === '-' || newTextOf(it) !== '') continue;
-        const { own, others } = lines.at({ block, offset, size: Math.max(bytes, room) });
-        if (own.length === 0 || others.length > 0) continue;
-        if (textOf !== null && await textOf(it) !== '') lines.note(own, false);
-        else lines.note(own.filter(line => !lines.isOfMoved(line)), true);
-    }
 }

@@ -13,7 +13,7 @@ import {
 } from '../texts/index.js';
 import { letOthersIn } from '../turns.js';
 import { fittedLists, fittedRows, placeInImage, roomOfRow, type FittedLists, type LeftRow, type RowEncodings } from './list_fitting.js';
-import { claimByScript, noteLeft, rangeOfRow, type EarlierTexts } from './list_patched.js';
+import { rangeOfRow } from './list_patched.js';
 import { rowsOfLists, type ListRow } from './list_rows.js';
 import type { Engine, OpenedTrack, TrackContents, Watch } from './opened.js';
 import { replaceBytes } from './replace.js';
@@ -113,8 +113,8 @@ export type ListOptions = TextOptions & { paths?: string[], least?: number, ende
  */
 export type ExportOptions = ListOptions & { form?: 'tsv' | 'csv' | 'po', freshOf?: FreshOf, seen?: (texts: ListedText[]) => void };
 export type FreshOf = (listed: ListedText) => string | Promise<string>;
-/** How rows are fitted; with an `earlier` script, rows keep to its lines. */
-export type RowOptions = RowEncodings & { fill?: Filler, earlier?: EarlierTexts };
+/** How rows are fitted. */
+export type RowOptions = RowEncodings & { fill?: Filler };
 /**
  * The files with the lists, which rows without a new text are read too, and whether a script is created from the rows that fit if others do
  * not. `counted` receives the number of patches before the script is made: of texts in place before they are fitted.
@@ -245,12 +245,11 @@ async function* poPieces(texts: AsyncIterable<ListedText[]>, freshOf: FreshOf, s
 }
 
 /** A track as the place of rows, and the lines that write those that fit. */
-async function linesInTrack({ calls }: Pick<Engine, 'calls'>, opened: OpenedTrack, { fill, earlier }: Pick<RowOptions, 'fill'
-    | 'earlier'>) {
+async function linesInTrack({ calls }: Pick<Engine, 'calls'>, opened: OpenedTrack, fill?: Filler) {
     const { image, part } = await opened.contents();
     const parts = new ScriptParts();
     const place = placeInImage(part, fill, async (row, window, old, fresh) =>
-        parts.push(await replaceBytes(calls, window, row, old, fresh, true)), earlier && claimByScript(earlier));
+        parts.push(await replaceBytes(calls, window, row, old, fresh, true)));
     return { place, script: () => fittingScript(calls, image, parts) };
 }
 
@@ -272,20 +271,11 @@ async function rangesOfOthers(opened: OpenedTrack, rows: ListRow[], options: Row
  * @param watch receives the number of rows
  */
 export async function importTable(engine: Pick<Engine, 'calls'>, opened: OpenedTrack,
-    { lists, fill, earlier, partial, ...options }: ImportOptions, watch: Watch = {}): Promise<ImportedTable> {
-    const made = await linesInTrack(engine, opened, { fill, earlier });
+    { lists, fill, partial, ...options }: ImportOptions, watch: Watch = {}): Promise<ImportedTable> {
+    const made = await linesInTrack(engine, opened, fill);
     const fitted = await fittedLists(lists, made.place, options, watch);
-    if (earlier) noteLeft(fitted.left, earlier);
     const script = partial || fitted.left.length === 0 ? await made.script() : null;
     return { ...fitted, script, empty: await rangesOfOthers(opened, fitted.others, options, watch.signal) };
-}
-
-/** Creates the script of rows with new texts that fits the image, null if no row fits; and the rows that do not fit. */
-export async function importRows(engine: Pick<Engine, 'calls'>, opened: OpenedTrack, rows: ListRow[],
-    { fill, earlier, ...options }: RowOptions) {
-    const { place, script } = await linesInTrack(engine, opened, { fill, earlier });
-    const { left } = await fittedRows(rows, place, options);
-    return { script: await script(), left };
 }
 
 /** The room for the new text of a row in a track, as roomOfRow returns it. */

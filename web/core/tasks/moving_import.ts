@@ -6,9 +6,8 @@ import { layOut, type ListedTable, type Movable, type Span } from '../pointers/i
 import { ScriptParts, type Script, type UserRange } from '../script/index.js';
 import { sortedInTurns } from '../turns.js';
 import {
-    encodingsOfRows, fittedLists, placeInImage, type ClaimRow, type FittedLists, type LeftRow, type ListPlace,
+    encodingsOfRows, fittedLists, placeInImage, type FittedLists, type LeftRow, type ListPlace,
 } from './list_fitting.js';
-import { claimByScript, rangeOfRow } from './list_patched.js';
 import type { ListRow } from './list_rows.js';
 import type { ImportOptions } from './list_tables.js';
 import { OrderedTexts, laidInOrder, placesInOrder, type Piece, type Segment } from './moving_order.js';
@@ -20,8 +19,9 @@ import { assertHasRoom, replaceBytes, sharingWith, type VolumeNames } from './re
 import { fittingScript } from './scripts.js';
 
 type MovedRemark = Remark<'pointers/moved' | 'pointers/few' | 'pointers/inside' | 'replace/shared-blocks'>;
-/** An import with tables of pointers; `isKept` selects rows that stay in place. */
-type MovingOptions = Omit<ImportOptions, 'isAlso'> & { tables: ListedTable[], isKept: (row: ListRow) => boolean };
+/** An import with tables of pointers; `isKept` selects rows that stay in place; `isTaken` says whether other lines write in a range. */
+type MovingOptions = Omit<ImportOptions, 'isAlso'> & { tables: ListedTable[], isKept: (row: ListRow) => boolean,
+    isTaken?: (range: UserRange) => boolean };
 /**
  * The rows as in other imports, the finished script, and remarks: on each text that has moved, on those with fewer pointers than the texts
  * beside them or with pointers into their old texts, and on other files that change too. `longer` is how many texts fit only because texts
@@ -76,8 +76,6 @@ class MovingRows {
     inPlace: { file: PointedFile, first: number, after: number }[] = [];
     layouts: (FileLayout & { texts: { end: number } })[] = [];
     left: LeftRow[] = [];
-    /** Rows in these files whose texts are those of an earlier script, and stay in place. */
-    kept: ListRow[] = [];
     remarks: Pick<MovingImport, 'moved' | 'few' | 'sharing'> = { moved: [], few: [], sharing: [] };
 
     constructor(readonly engine: Engine, readonly opened: OpenedTrack, readonly files: PointedFiles, readonly options: MovingOptions,
@@ -89,7 +87,6 @@ class MovingRows {
     async place(mayMove: boolean) {
         const { part } = await this.opened.contents();
         const { engine: { calls }, options: { fill } } = this;
-        const claim = mayMove ? this.claimByScript() : () => 0;
         return placeInImage(part, fill, async (row, window, old, bytes) => {
             this.parts.push(await replaceBytes(calls, window, row, old, bytes, true));
             const spot = this.files.spotOf(row);
@@ -97,11 +94,9 @@ class MovingRows {
             const { file, at } = spot;
             this.fresh.note(file, at, bytes);
             this.inPlace.push({ file, first: at, after: at + old.length });
-        }, async (row, found, bytes) => {
-            const { known, room, size, encoding } = found;
-            const claimed = await claim(row, found, bytes);
+        }, (row, { known, room, size, encoding }, bytes) => {
             const spot = this.files.spotOf(row);
-            if (spot === null || claimed > 0) return claimed;
+            if (spot === null) return 0;
             const { file, at } = spot;
             const used = Math.max(known, Math.min(bytes.length, room), size);
             if (file.hasPointer(at, at + used)) throw new Fault('pointers/overlap', {});
@@ -114,20 +109,6 @@ class MovingRows {
             if (next !== undefined) assertHasRoom(encoding, bytes, Math.max(known, next.target - at - 1));
             return 0;
         });
-    }
-
-    /** The function that decides on rows by the lines of an earlier script, except for rows that are partly pointers. */
-    claimByScript(): ClaimRow {
-        const { earlier } = this.options;
-        if (earlier === undefined) return () => 0;
-        const claim = claimByScript(earlier);
-        return async (row, found, bytes) => {
-            const spot = this.files.spotOf(row);
-            if (spot?.file.hasPointer(spot.at, spot.at + rangeOfRow(row, found).size)) return 0;
-            const claimed = await claim(row, found, bytes);
-            if (claimed > 0 && spot !== null) this.kept.push(row);
-            return claimed;
-        };
     }
 
     /**
@@ -226,9 +207,7 @@ class MovingRows {
      */
     async layOutInOrder(place: ListPlace, file: PointedFile, rows: PointedRow[], firsts: number[], free: Span) {
         const { isKept, fill } = this.options;
-        const spots = this.kept.flatMap(row => this.files.spotOf(row) ?? []);
-        const kept = new Set(spots.filter(spot => spot.file === file).map(({ at }) => at));
-        const texts = new OrderedTexts(file, rows, { firsts, kept, isKept, fill });
+        const texts = new OrderedTexts(file, rows, { firsts, isKept, fill });
         const { end, inBlocks, segments, staying } = texts;
         await texts.read(this.watch.signal);
         let hasGrown = false;
@@ -281,8 +260,7 @@ class MovingRows {
         this.reportInside();
         if (volume === null) return;
         this.reportSharing(volume);
-        const { earlier, counted } = this.options;
-        const isKept = earlier && ((range: UserRange) => earlier.lines.hasStaying(range));
+        const { isTaken: isKept, counted } = this.options;
         await pushFreshFiles(this.engine.calls, part, { names: volume, isKept, counted }, this.fresh, this.parts, signal);
     }
 
@@ -332,7 +310,7 @@ export async function importMoving(engine: Engine, opened: OpenedTrack, options:
     const moving = new MovingRows(engine, opened, files, options, watch);
     const fitted = await fittedLists(lists, await moving.place(true), { encodings, isAsked, isAlso: () => true }, watch);
     if (fitted.count === 0 && fitted.fuzzy === 0) throw new Fault('list/no-new-text', {});
-    for (const [file, firsts] of moving.placesOfOthers([...fitted.others, ...moving.kept])) await moving.layOutFile(file, firsts);
+    for (const [file, firsts] of moving.placesOfOthers(fitted.others)) await moving.layOutFile(file, firsts);
     await moving.write();
     const left = [...fitted.left, ...moving.left];
     const { image } = await opened.contents();

@@ -120,18 +120,16 @@ export class OrderedTexts {
     strange = new Set<Pointer>();
     /** The places of rows with new texts that are in blocks with an order. */
     inBlocks = new Set<number>();
-    rows; firsts; kept; isKept; fill; usual; encoding; end; mark; lengths;
+    rows; firsts; isKept; fill; usual; encoding; end; mark; lengths;
 
     /**
      * @param rows with new texts, in the order of their places
-     * @param others the places of rows without a new text, and of those that an earlier script has; and whether a row is to stay
+     * @param others the places of rows without a new text; and whether a row is to stay
      */
     constructor(readonly file: PointedFile, rows: PointedRow[],
-        { firsts, kept, isKept, fill }: { firsts: number[], kept: Set<number>, isKept: (row: PointedRow['row']) => boolean, fill: Filler
-        | undefined }) {
+        { firsts, isKept, fill }: { firsts: number[], isKept: (row: PointedRow['row']) => boolean, fill: Filler | undefined }) {
         this.rows = new Map(rows.map(row => [row.at, row]));
         this.firsts = [...new Set([...firsts, ...rows.map(({ at }) => at)])].sort((a, b) => a - b);
-        this.kept = kept;
         this.isKept = isKept;
         this.fill = fill ?? null;
         this.usual = usualEndOf(file, rows);
@@ -219,7 +217,7 @@ export class OrderedTexts {
         if (found === null) return { ...fixed, isOpen: true };
         const { starts, changes, end, after } = found;
         const [start = first] = starts;
-        const isKept = starts.some(it => this.kept.has(it)) || changes.some(({ text }) => this.isKept(text.row));
+        const isKept = changes.some(({ text }) => this.isKept(text.row));
         const isDoubtful = found.isFixed || pointers.some(it => this.strange.has(it)) || this.isInRow(first)
             || file.isDoubtful(first, Math.max(start, first) + 1) || file.isStray(first, end) || file.hasPointer(first, after);
         const piece = { ...fixed, after, rows: this.rowsIn(first, after) };

@@ -2,52 +2,15 @@
 // nothing else. Its lines are generated from it, soon after the last change. Lines that others have changed are read into it once.
 
 import { firstAfter } from '../bytes.js';
-import type { DiscFile, OrderedImage } from '../disc/index.js';
-import { Fault, type Remark } from '../faults.js';
-import { MOST_PATCHES, VERB } from '../module/index.js';
-import { ScriptParts, byNumber, userPlace, type ScriptLine, type ScriptModel, type UserRange } from '../script/index.js';
-import { codesLeftOut, controlsTyped, type ListedText } from '../texts/index.js';
+import type { OrderedImage } from '../disc/index.js';
+import type { Remark } from '../faults.js';
+import { VERB } from '../module/index.js';
+import { byNumber, userPlace, type ScriptLine, type ScriptModel, type UserRange } from '../script/index.js';
+import type { ListedText } from '../texts/index.js';
 import { isTurnDue, letOthersIn, type Signal } from '../turns.js';
-import { encodingsOfRows, fittedRows, placeInImage, type RowEncodings } from './list_fitting.js';
-import { rowsOfLists, type ListRow } from './list_rows.js';
-import type { RowOptions } from './list_tables.js';
-import type { Engine, OpenedTrack, Watch } from './opened.js';
-import { rangesInOrder, replaceBytes } from './replace.js';
-import { fittingScript } from './scripts.js';
-
-// The rows of translators' lists as changes of a translation.
-
-/**
- * The places of lists with their rows, those whose text a list leaves `empty`, and the remarks on the lists; null if a row belongs to no
- * place, or differs from it: such lists are imported as those of an image without a table. Throws a Fault if no row has a new text.
- */
-export async function changesOfLists(placeAt: (row: ListRow) => Placed | undefined, lists: DiscFile[], options: RowEncodings,
-    signal?: Signal) {
-    const { rows, fuzzy, glyphs } = await rowsOfLists(lists, () => true, signal);
-    const changes: Map<Placed, ListRow> = new Map();
-    const empty = new Set<Placed>();
-    for (const row of rows) {
-        const place = placeAt(row);
-        if (row.fresh === '' && row.fault === null) {
-            if (place !== undefined && place.fresh !== '') empty.add(place);
-            continue;
-        }
-        if (place === undefined || row.fault !== null || row.fill !== '') return null;
-        const { listed } = place;
-        const isOther = (row.encoding !== '' && row.encoding !== listed.encoding) || (row.unit === 'row' && row.room !== listed.room);
-        const known = changes.get(place);
-        if (isOther || (known !== undefined && known.fresh !== row.fresh)) return null;
-        if (known === undefined) changes.set(place, row);
-    }
-    if (changes.size + empty.size === 0 && fuzzy === 0) throw new Fault('list/no-new-text', {});
-    const each = [...changes.values()];
-    const encodingsFor = encodingsOfRows(options);
-    for (const place of changes.keys()) empty.delete(place);
-    return {
-        changes, empty, fuzzy, codes: await codesLeftOut(each, encodingsFor, signal),
-        glyphs: [...glyphs, ...await controlsTyped(each, encodingsFor, signal)],
-    };
-}
+import type { RowEncodings } from './list_fitting.js';
+import type { ListRow } from './list_rows.js';
+import { rangesInOrder } from './replace.js';
 
 /** A place with a different new text. */
 type PlaceChange = { place: Placed, fresh: string };
@@ -63,19 +26,44 @@ export class Placed {
     fresh = '';
     /** The new text that the script writes. It differs from `fresh` if this place is due, or if `why` says why it stays so. */
     written = '';
-    /** The lines of the script that write it. */
-    lines: string[] = [];
     /** Why the script does not write `fresh`, null if it does or will. */
     why: Remark | null = null;
 
-    /** @param ranges its bytes with its room */
-    constructor(readonly listed: ListedText, readonly ranges: UserRange[]) {}
+    /**
+     * @param listed the text as it is listed
+     * @param as the text as it is fitted: a list may give it another room or encoding
+     * @param ranges its bytes with its room
+     */
+    constructor(public listed: ListedText, public as: ListedText, public ranges: UserRange[], public how: RowEncodings) {}
+
+    /** Equal for equal texts in the same encoding. */
+    get key() {
+        return `${this.listed.encoding} ${this.listed.text}`;
+    }
+
+    /** Whether the script lacks the new text. */
+    get isLeft() {
+        return this.why !== null || this.fresh !== this.written;
+    }
+}
+
+/** What a text is known by if it is listed again. */
+function listingOf({ block, offset, encoding, fill = '', text }: ListedText) {
+    return `${block}+${offset} ${encoding} ${fill} ${text}`;
 }
 
 /** The new texts of all places. */
 export class Translation {
+    /** The texts that are listed. */
     places = new Map<ListedText, Placed>();
+    /** Other texts: those of lists, and those listed before whose new texts the script lacks. */
+    others: Placed[] = [];
+    /** All of them by their places. */
+    byPlace = new Map<string, Placed[]>();
     spans: { first: number, after: number, place: Placed }[] = [];
+    firsts: number[] = [];
+    /** The size of the largest range: how far before a place those begin that may reach it. */
+    longest = 0;
     /** The places whose lines are to be generated. */
     due = new Set<Placed>();
     /** The earlier new texts of those that were changed together. */
@@ -84,20 +72,105 @@ export class Translation {
     undone: PlaceChange[][] = [];
     /** The lines of the script when they were last generated or read. */
     seen: ScriptLine[] = [];
-    firsts; longest;
+    /** Places of which the script may have lines that were not read. */
+    unread = new Set<Placed>();
 
-    constructor(image: Pick<OrderedImage, 'order'>, listed: ListedText[]) {
-        for (const it of listed) {
-            const { block, offset, bytes, room } = it;
-            const ranges = block === '-' ? [] : rangesInOrder(image, { block, offset }, Math.max(bytes, room));
-            const place = new Placed(it, ranges);
-            this.places.set(it, place);
-            for (const range of ranges) this.spans.push({ first: userPlace(range), after: userPlace(range) + range.size, place });
+    /**
+     * @param image whose first block is `base`
+     * @param how the texts that were listed last are fitted
+     */
+    constructor(public image: Pick<OrderedImage, 'order' | 'base'>, public how: RowEncodings) {}
+
+    get all() {
+        return [...this.places.values(), ...this.others];
+    }
+
+    /** The places whose new texts the script lacks, one for each text. */
+    get left() {
+        return [...new Map(this.all.filter(place => place.isLeft).map(place => [place.key, place])).values()];
+    }
+
+    /**
+     * Lists other texts. A text that was listed before keeps its new text, and so does one whose new text the script lacks. New texts of
+     * others are in the script, from which the texts in their places are read.
+     */
+    list(listed: ListedText[], how: RowEncodings) {
+        this.how = how;
+        const before = new Map(this.all.map(place => [listingOf(place.listed), place]));
+        this.places = new Map(listed.map(it => {
+            const place = before.get(listingOf(it)) || this.placed(it, how);
+            before.delete(listingOf(it));
+            return [it, Object.assign(place, { listed: it })];
+        }));
+        // New texts of an ordinary file are nowhere else.
+        this.others = [...before.values()].filter(place => place.isLeft || (place.listed.block === '-' && place.fresh !== ''));
+        for (const place of before.values()) if (!place.isLeft) this.due.delete(place);
+        this.done = [];
+        this.undone = [];
+        this.seen = [];
+        this.index();
+    }
+
+    /** Gives texts of lists a place, or says of the place of a listed text what a list says of it. */
+    define(found: ListedText[], how: RowEncodings) {
+        for (const it of found) {
+            const place = this.byPlace.get(`${it.block}+${it.offset}`)?.find(({ listed }) => listed.text === it.text);
+            const own = place || this.placed(it, how);
+            if (place === undefined) this.others.push(own);
+            else Object.assign(own, { as: it, how, ranges: this.rangesOf(it) });
+            this.unread.add(own);
+        }
+        this.index();
+    }
+
+    /** The empty texts that are equal to some, with the new texts of these, unless equal ones have different new texts. */
+    emptyLike(some: Iterable<Placed>) {
+        const fresh: Map<string, string> = new Map();
+        for (const place of some) {
+            const known = fresh.get(place.key) ?? place.fresh;
+            fresh.set(place.key, known === place.fresh ? known : '');
+        }
+        return new Map(this.all.flatMap(place => {
+            const found = place.fresh === '' ? fresh.get(place.key) || '' : '';
+            return found === '' ? [] : [[place, found] as const];
+        }));
+    }
+
+    /** Counts the blocks of all texts from another base. */
+    rebase(image: Pick<OrderedImage, 'order' | 'base'>) {
+        const by = image.base - this.image.base;
+        this.image = image;
+        for (const place of this.all) {
+            for (const it of new Set([place.listed, place.as])) if (it.block !== '-') it.block += by;
+            place.ranges = this.rangesOf(place.as);
+        }
+        this.index();
+    }
+
+    placed(listed: ListedText, how: RowEncodings) {
+        return new Placed(listed, listed, this.rangesOf(listed), how);
+    }
+
+    rangesOf({ block, offset, bytes, room }: ListedText): UserRange[] {
+        return block === '-' ? [] : rangesInOrder(this.image, { block, offset }, Math.max(bytes, room));
+    }
+
+    index() {
+        this.byPlace = new Map();
+        this.spans = [];
+        for (const place of this.all) {
+            const key = `${place.listed.block}+${place.listed.offset}`;
+            this.byPlace.set(key, [...this.byPlace.get(key) || [], place]);
+            for (const range of place.ranges) this.spans.push({ first: userPlace(range), after: userPlace(range) + range.size, place });
         }
         this.spans.sort((a, b) => a.first - b.first);
         this.firsts = this.spans.map(({ first }) => first);
-        /** The size of the largest range: how far before a place those begin that may reach it. */
         this.longest = this.spans.reduce((most, { first, after }) => Math.max(most, after - first), 0);
+    }
+
+    /** The place of a row of a list, if its old text is the same. */
+    at({ block, offset, isInFile, text }: Pick<ListRow, 'block' | 'offset' | 'isInFile' | 'text'>) {
+        return this.byPlace.get(`${isInFile ? '-' : block}+${offset}`)?.find(({ listed }) => listed.text === text);
     }
 
     /** Gives places texts of which it is known that they do not fit, as one step that can be undone. */
@@ -122,7 +195,7 @@ export class Translation {
 
     /** Tries the texts that do not fit again, because others may. */
     tryAgain() {
-        for (const place of this.places.values()) {
+        for (const place of this.all) {
             if (place.why !== null) this.due.add(place);
             place.why = null;
         }
@@ -167,8 +240,17 @@ export class Translation {
         return this.set(step.filter(({ place }) => !later.has(place))).map(({ place }) => place);
     }
 
-    placeOf(listed: ListedText) {
-        return this.places.get(listed) as Placed;
+    /** The place of a text that is listed, or was before others were. */
+    placeOf(listed: ListedText): Placed {
+        const there = this.byPlace.get(`${listed.block}+${listed.offset}`);
+        const known = this.places.get(listed) || there?.find(it => listingOf(it.as) === listingOf(listed));
+        if (known === undefined) this.define([listed], this.how);
+        return known || this.placeOf(listed);
+    }
+
+    /** Whether the lines of the script are read. */
+    hasRead(script: ScriptModel) {
+        return script.lines === this.seen && this.unread.size === 0;
     }
 
     /** The places that a range meets. */
@@ -200,6 +282,12 @@ export class Translation {
         return owner;
     }
 
+    /** Notes that the lines of the script are read. */
+    noteRead(script: ScriptModel) {
+        this.seen = script.lines;
+        this.unread.clear();
+    }
+
     /** The lines at a place: its own, and others. */
     linesAt(script: ScriptModel, place: Placed) {
         const lines = [...new Set(place.ranges.flatMap(range => script.linesWriting(range)))].sort(byNumber);
@@ -209,7 +297,7 @@ export class Translation {
 
     /** The places at which lines were added, changed, or removed since the lines were generated or read. */
     touchedBy(script: ScriptModel) {
-        const touched: Set<Placed> = new Set();
+        const touched = new Set(this.unread);
         if (script.lines === this.seen) return touched;
         const before = new Set(this.seen.map(({ text }) => text));
         const now = new Set(script.lines.map(({ text }) => text));
@@ -230,19 +318,19 @@ export class Translation {
     async read(script: ScriptModel, textOf: TextOf, { signal, all = false, areKept = false }: { signal?: Signal, all?: boolean,
         areKept?: boolean }): Promise<Placed[] | null> {
         const { lines } = script;
-        const touched = all ? new Set(this.places.values()) : this.touchedBy(script);
-        const found: { place: Placed, own: ScriptLine[], others: ScriptLine[], fresh: string }[] = [];
+        const touched = all ? new Set(this.all) : this.touchedBy(script);
+        const found: { place: Placed, others: ScriptLine[], fresh: string }[] = [];
         for (const place of touched) {
             if (isTurnDue()) await letOthersIn(signal);
-            found.push({ place, ...this.linesAt(script, place), fresh: await textOf(place.listed) });
+            found.push({ place, others: this.linesAt(script, place).others, fresh: await textOf(place.as) });
         }
         if (script.lines !== lines) return null;
         this.seen = lines;
+        for (const place of touched) this.unread.delete(place);
         const earlier: PlaceChange[] = [];
-        for (const { place, own, others, fresh } of found) {
+        for (const { place, others, fresh } of found) {
             const isSame = place.written === fresh;
             if (isSame && others.length === 0) this.retry(place);
-            place.lines = own.map(({ text }) => text);
             place.written = fresh;
             if (place.fresh === fresh) this.due.delete(place);
             if (isSame || this.due.has(place) || (areKept && place.why !== null)) continue;
@@ -255,116 +343,5 @@ export class Translation {
             this.undone = [];
         }
         return [...touched];
-    }
-}
-
-function lineAcross({ number }: ScriptLine): Remark {
-    return { code: 'list/line-across', facts: { line: number } };
-}
-
-// Generates the lines of the script from the new texts of a translation, in place.
-
-/** The lines of a place, in order of the disc: the new text for which they were generated, and why there are none. */
-type MadeLines = { fresh: string, lines: string[], why: Remark | null };
-
-/** The lines of the script that are each place's own. */
-type EarlierLines = Map<Placed, ScriptLine[]>;
-
-/** The row of a list that gives a listed text a new text. */
-export function rowOfListed({ block, offset, room, encoding, text, fill = '' }: ListedText, fresh: string): ListRow {
-    const isInFile = block === '-';
-    return {
-        list: '', unit: 'row', number: 0, place: '', block: isInFile ? 0 : block, isInFile, offset, room, encoding, fill, text, fresh,
-        fault: null, isFuzzy: false,
-    };
-}
-
-/** The lines of places with new texts. Places that others' lines write, or whose texts do not fit, have none. */
-async function linesOfPlaces({ calls }: Pick<Engine, 'calls'>, opened: OpenedTrack, wanted: Map<Placed, string>,
-    { fill, encodings, isAsked }: RowOptions, watch: Watch): Promise<Map<Placed, MadeLines>> {
-    const { image, part } = await opened.contents();
-    const rows: Map<ListRow, Placed> = new Map();
-    for (const [place, fresh] of wanted) rows.set(rowOfListed(place.listed, fresh), place);
-    const made: Map<Placed, MadeLines> = new Map();
-    const parts = new ScriptParts();
-    const decoder = new TextDecoder();
-    const into = placeInImage(part, fill, async (row, window, old, fresh) => {
-        const lines = await replaceBytes(calls, window, row, old, fresh, true);
-        parts.push(lines);
-        const place = rows.get(row) as Placed;
-        made.set(place, { fresh: row.fresh, lines: decoder.decode(lines.text).trimEnd().split('\n'), why: null });
-    });
-    const { left } = await fittedRows([...rows.keys()], into, { encodings, isAsked }, watch);
-    for (const { text: row, why } of left) {
-        const place = rows.get(row);
-        if (place !== undefined) made.set(place, { fresh: row.fresh, lines: [], why });
-    }
-    await fittingScript(calls, image, parts);
-    return made;
-}
-
-/** The lines of all places that are due, from a script whose lines were all read. Nothing changes until `noteGenerated` is called. */
-export async function generate(engine: Pick<Engine, 'calls'>, opened: OpenedTrack, translation: Translation, script: ScriptModel,
-    options: RowOptions, watch: Watch = {}) {
-    const { lines } = script;
-    const made: Map<Placed, MadeLines> = new Map();
-    const wanted: Map<Placed, string> = new Map();
-    const earlier: EarlierLines = new Map();
-    for (const place of translation.due) {
-        if (isTurnDue()) await letOthersIn(watch.signal);
-        const { own, others } = translation.linesAt(script, place);
-        earlier.set(place, own);
-        if (others.length > 0) made.set(place, { fresh: place.fresh, lines: [], why: lineAcross(others[0]) });
-        else if (place.fresh === '') made.set(place, { fresh: '', lines: [], why: null });
-        else wanted.set(place, place.fresh);
-    }
-    for (const [place, it] of wanted.size === 0 ? [] : await linesOfPlaces(engine, opened, wanted, options, watch)) made.set(place, it);
-    return { lines, made, ...editOfMade(script, made, earlier) };
-}
-
-/**
- * The edit of the script that gives places their lines: the numbers of the lines that are `removed`, the lines that take the place of some
- * of them (`instead`), and those at the `end`. Notes the places whose lines would be more than a script has: they keep their earlier ones.
- */
-function editOfMade(script: ScriptModel, made: Map<Placed, MadeLines>, earlier: EarlierLines) {
-    const each = [...made].map(([place, it]) => ({ it, own: (earlier.get(place) || []).map(({ number }) => number) }));
-    const removed = new Set(each.flatMap(({ it, own }) => it.why === null ? own : []));
-    let room = MOST_PATCHES - script.patches;
-    for (const { it, own } of each) if (it.why === null && it.lines.length === 0) room += own.length;
-    const instead: Map<number, string[]> = new Map();
-    const end: string[] = [];
-    for (const { it, own } of each) {
-        if (it.lines.length === 0) continue;
-        const more = it.lines.length - own.length;
-        if (more > room) Object.assign(it, { lines: [], why: { code: 'script/full', facts: { most: MOST_PATCHES } } });
-        else {
-            room -= more;
-            if (own.length === 0) end.push(...it.lines);
-            else instead.set(own[0], it.lines);
-        }
-    }
-    for (const { it, own } of each) if (it.why !== null) own.forEach(number => removed.delete(number));
-    return { removed, instead, end };
-}
-
-export type Generated = Awaited<ReturnType<typeof generate>>;
-
-/** The texts of all lines of the script with the generated ones. */
-export function withGenerated({ lines, removed, instead, end }: Generated) {
-    const texts = lines.flatMap(({ number, text }) => instead.get(number) || (removed.has(number) ? [] : [text]));
-    const last = texts.length - Number(texts[texts.length - 1] === '');
-    return end.length === 0 ? texts : [...texts.slice(0, last), ...end, ''];
-}
-
-/** Notes what was generated, when the script has these lines. A text that was changed meanwhile stays due. */
-export function noteGenerated(translation: Translation, { lines: before, removed, made }: Generated, script: ScriptModel) {
-    translation.seen = script.lines;
-    for (const [place, { fresh, lines, why }] of made) {
-        if (why === null) Object.assign(place, { lines, written: fresh });
-        if (place.fresh === fresh) translation.settle(place, place.written, why);
-    }
-    for (const number of removed) {
-        const { patch } = before[number - 1];
-        if (patch !== null) translation.meeting(patch).forEach(place => translation.retry(place));
     }
 }

@@ -10,6 +10,6 @@ export {
     jobAt, mountJobs, App, PANELS, type Aim, type Bar, type Image, type PairJob, type PanelName, type Parts, type PlainFile, type Surveyed,
     type Taken, type Taker,
 } from './state.js';
-export { mergeOf, LONG, MOST_DRAWN, assertTaken, isLong, type Edit, type ScriptLines } from './script_lines.js';
+export { LONG, MOST_DRAWN, assertTaken, isLong, type Edit, type ScriptLines } from './script_lines.js';
 export { ReplacedFiles, linesIn, linesReplacing, scriptOfLines, writesOf } from './replaced_files.js';
 export type { RunningJob } from './store.js';

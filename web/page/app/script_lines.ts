@@ -2,12 +2,11 @@
 
 import { MOST_PATCHES, MOST_SCRIPT_BYTES, RESULT, isFault, type Calls } from '../../core/module/index.js';
 import {
-    ScriptModel, afterColon, baseComment, countOld, headLine, linesOfText, mergedInTurns, modelInParts, oldBytesOf, wordsOn, type Merged,
-    type Outcome, type ScriptLine, type ScriptState,
+    ScriptModel, afterColon, baseComment, countOld, headLine, linesOfText, oldBytesOf, wordsOf, wordsOn, type Outcome,
+    type ScriptState,
 } from '../../core/script/views.js';
-import { letOthersIn, type Signal } from '../../core/turns.js';
 import { ownFault } from '../../sentences/index.js';
-import { format, lineDoesNotFit, lineFits, lineNotCompared, scriptWouldBeTooLong, textScriptLongerThanTaken } from '../texts/index.js';
+import { format, lineDoesNotFit, lineFits, lineNotCompared, scriptWouldBeTooLong } from '../texts/index.js';
 
 export { scriptIsLong as LONG } from '../texts/index.js';
 
@@ -43,49 +42,6 @@ export function isLong(text: string) {
 /** Throws an error if a script that would be written has more than the module takes. */
 export function assertTaken(text: string) {
     if (isLong(text) || hasTooMany(text)) throw ownFault(scriptWouldBeTooLong);
-}
-
-// Merges lines from a table into the script, while the page stays responsive.
-
-/** The counts of a merge with a script from which lines were removed before, as if the new lines had replaced them. */
-function countsWith({ added, replaced, same }: Merged, removed: string[], incoming: string[]): Merged {
-    const before = new Set(removed);
-    const kept = Math.min(incoming.filter(text => before.has(text)).length, added);
-    const changed = Math.min(removed.length - kept, added - kept);
-    return { added: added - kept - changed, replaced: replaced + changed, same: same + kept };
-}
-
-/**
- * Returns a function that merges lines into a script. They set bytes, and replace the lines that set the same bytes, and those that
- * `isRemoved` selects. If the script has no head line, all lines are added at its end. Throws an error if it has or would have more than
- * the module takes.
- */
-export async function mergeOf(script: ScriptLines, texts: string[], signal?: Signal, isRemoved: (line: ScriptLine) => boolean = () =>
-    false): Promise<() => Merged> {
-    if (script.long) throw ownFault(textScriptLongerThanTaken);
-    if (script.head < 0) {
-        return () => {
-            script.add(texts, '');
-            return { added: texts.length, replaced: 0, same: 0 };
-        };
-    }
-    const before = script.text();
-    const turn = () => letOthersIn(signal);
-    const removed = script.lines.filter(isRemoved).map(({ text }) => text);
-    const others = () => script.lines.filter(line => !isRemoved(line)).map(({ text }) => text).join('\n');
-    const own = removed.length === 0 ? script : await modelInParts(script.calls, others(), turn);
-    const { lines, counts } = await mergedInTurns(own, texts, ({ text }) => script.made.has(text), signal);
-    lines.splice(1, 0, ...script.comments());
-    const text = lines.join('\n');
-    if (isLong(text) || hasTooMany(text)) throw ownFault(textScriptLongerThanTaken);
-    const known = await modelInParts(script.calls, text, turn);
-    // The script was edited meanwhile.
-    if (script.text() !== before) return mergeOf(script, texts, signal, isRemoved);
-    return () => {
-        for (const it of texts) script.made.add(it);
-        script.take(text, script.name, known);
-        return countsWith(counts, removed, texts);
-    };
 }
 
 // The lines of a script with the outcomes of Check.
@@ -313,6 +269,18 @@ export class ScriptLines extends CheckedLines {
         const more = sizeOf(inserted) - sizeOf(this.lines.slice(at, at + count).map(({ text }) => text));
         const lines = this.lines.length - count + inserted.length;
         return (more <= 0 || this.size + more <= MOST_SCRIPT_BYTES + 1) && (inserted.length <= count || lines <= MOST_LINES);
+    }
+
+    /** Counts the blocks of the lines that were made here from another base, as one edit. */
+    shift(by: number) {
+        const others = this.lines.map(({ text, patch }) => {
+            if (patch === null || !this.made.has(text)) return text;
+            const [verb, , ...words] = wordsOf(text);
+            const shifted = [verb, String(patch.block + by), ...words].join(' ');
+            this.made.add(shifted);
+            return shifted;
+        });
+        this.replace(others.join('\n').replace(baseComment(this.base - by), baseComment(this.base)), this.name);
     }
 
     /** Removes lines, as one edit, and returns how many were removed. */

@@ -109,11 +109,11 @@ export type Aim = '' | 'play' | 'translate' | 'repair' | 'look' | 'compare';
  * returns the text on what happens to files that are dropped; `turnBytes` undoes the last edit of the script, or redoes the one that was
  * undone last, if bytes of a sector were typed by it, and returns it; `saveScript` saves the script in a file; `list` lists what is found
  * in files with different names; `convert` offers to convert a file to a raw image; `close` closes what is open, after a question if work
- * would be lost.
+ * would be lost; `showLeft` shows the first new text that the script lacks.
  */
 export type Services = { open: (files: File[], aim: Aim) => Promise<void>, choose: (aim: Aim) => void, dropSays: () => Child[],
     turnBytes: (way: 'undo' | 'redo') => Edit | null, saveScript: () => void, list: (files: File[]) => void,
-    convert: (file: DiscFile, kind: ConvertibleKind) => void, close: () => Promise<unknown> };
+    convert: (file: DiscFile, kind: ConvertibleKind) => void, close: () => Promise<unknown>, showLeft: () => void };
 
 /** An accepted file: `use` is called when the images opened with it are open, or, if it needs an image, as soon as there is one. */
 export type Taken = { needsImage: boolean, use: () => unknown };

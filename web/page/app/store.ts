@@ -8,7 +8,7 @@ import { RECORD_SIZE, type Calls } from '../../core/module/index.js';
 import type { Pool } from '../../core/pool/index.js';
 import type { ScriptModel } from '../../core/script/views.js';
 import { addToRuns, type RangeSurvey, type Survey } from '../../core/sectors/views.js';
-import type { Repair, SurveyedTrack } from '../../core/tasks/index.js';
+import type { Repair, SurveyedTrack, Translation } from '../../core/tasks/index.js';
 import { SurveyMarks } from './marks.js';
 import { ScriptLines } from './script_lines.js';
 import type { Happening, Image, PairJob, PanelName, Parts, PlainFile, Services, Surveyed, Taker } from './state.js';
@@ -29,7 +29,7 @@ class Hub {
     jobs = new Set<RunningJob>();
     services: Services = { open: async () => {}, choose: () => {}, dropSays: () => [], turnBytes: () => null, saveScript: () =>
         {},
-            list: () => {}, convert: () => {}, close: async () => {} };
+            list: () => {}, convert: () => {}, close: async () => {}, showLeft: () => {} };
     takers: Taker[] = [];
 
     on(name: Happening, listener: (detail: any) => void) {
@@ -96,7 +96,7 @@ export class Store extends Hub {
     tables: Map<string, Encoding>;
     /** The lists of known dumps that were opened. */
     dumps: KnownDumps[];
-    calls; pool; parts; image; second; plain; repair; survey; files; place; script; textsLeft; encoding; panel; reading; closing; pairing;
+    calls; pool; parts; image; second; plain; repair; survey; files; place; script; translation; encoding; panel; reading; closing; pairing;
     told;
 
     /**
@@ -119,8 +119,8 @@ export class Store extends Hub {
         /** The block and the offset of the user byte that the sector view shows; -1 for none. */
         this.place = { block: -1, offset: -1 };
         this.script = new ScriptLines(calls);
-        /** How many translations in the table of texts are not in the script. */
-        this.textsLeft = 0;
+        /** The new texts of the open image or file, null before its texts were listed or imported. */
+        this.translation = null as Translation | null;
         this.encoding = USUAL_ENCODING.name;
         this.tables = new Map();
         this.dumps = [];
@@ -135,8 +135,17 @@ export class Store extends Hub {
         this.told = 0;
     }
 
-    /** Opens an image, or with null closes the open one. Returns the signal that ends its reading. */
+    /** Whether an image is the open one, perhaps with another base. */
+    isOpen(image: Image | null) {
+        return image !== null && this.image !== null && image.disc === this.image.disc && image.number === this.image.number;
+    }
+
+    /**
+     * Opens an image, or with null closes the open one. The translations of an image that is opened again are kept. Returns the signal that
+     * ends its reading.
+     */
     setImage(image: Image | null) {
+        if (!this.isOpen(image)) this.translation = null;
         this.reading.abort();
         this.closing.abort();
         this.reading = new AbortController();
@@ -237,9 +246,10 @@ export class Store extends Hub {
         image.renamed.set(image.name, name);
     }
 
-    /** @param count of the translations in the table of texts that are not in the script */
-    noteTextsLeft(count: number) {
-        this.textsLeft = count;
+    /** @param translation the document with the new texts of what is open */
+    setTranslation(translation: Translation) {
+        this.translation = translation;
+        return translation;
     }
 
     /** @param name of an encoding or of a table */

@@ -181,7 +181,7 @@ type ReadTrack = (track: SurveyedTrack, how: { base: number, shift: number }, ta
  */
 export async function readImage(app: App, image: Image | null, then: () => void = () => {}) {
     if (refuseWhileSaving(app)) return;
-    const lost = lostWithImage();
+    const lost = app.isOpen(image) ? [] : lostWithImage();
     if (lost.length > 0 && !await mayLeave(app, lost)) return;
     const signal = app.setImage(image);
     then();

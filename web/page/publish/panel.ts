@@ -9,6 +9,7 @@ import {
 } from '../player/index.js';
 import { download, patchedName, patchedWork, sheetNaming } from '../save/index.js';
 import { fitOf, fitWords, namingOld, type Fit } from '../script/index.js';
+import { leftWordsOf } from '../text/index.js';
 import { LANGUAGES, format, say } from '../texts/index.js';
 import {
     askBeforeLeaving, button, counted, element, failureNotice, fill, hashParts, isDisabled, messageArea, nameOf, notice, sentence,
@@ -233,6 +234,7 @@ export class PublishPanel {
         if (tried === null) return [['quiet', 'Testing the script on your image…']];
         const title = button('slim bare tiny', () => this.title.focus(), 'Add a title');
         const was = element('span', { class: 'mono small' }, 'was');
+        const left = leftWordsOf(app);
         return [this.fitRow(image, tried),
             tried.without === 0 ? ['good', 'Each patch names the bytes that it replaces.']
                 : ['warn', ...say('{n} patch without old bytes ({was}): with another dump cdpatch cannot tell whether it matches. The \
@@ -241,7 +243,7 @@ patcher says so to players.|\
                 { n: tried.without, was })],
             ...imageRows(image, survey),
             ...isSeen(this.title.value) ? [] : [['bad', 'The title is missing.', ' ', title] as Row],
-            ...this.warnings(image, tried),
+            ...this.warnings(image, tried), ...left.length > 0 ? [['warn', ...left] as Row] : [],
         ];
     }
 
@@ -267,8 +269,6 @@ invisible, and none of {signs}.', { signs: SIGNS_OF_PATHS })],
             [image.sheet !== '' && this.cueOf(image) === '', 'warn',
                 'The cue sheet is not offered because it names files in other folders.'],
             [this.carry.checked, 'warn', 'Damaged sectors are patched too, and the patcher says so to players.'],
-            [this.app.textsLeft > 0, 'warn', format('{n} translation in the table of texts is not in the script.|\
-{n} translations in the table of texts are not in the script.', { n: this.app.textsLeft })],
             [tried.old > 0, 'warn', format('The old bytes come from the game ({n} byte). Check whether you may publish them.|\
 The old bytes come from the game ({n} bytes). Check whether you may publish them.', { n: tried.old })],
         ];

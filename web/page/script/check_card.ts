@@ -5,6 +5,7 @@ import { patchesOf, type Outcome, type Patched } from '../../core/script/views.j
 import { jobAt, type App, type Image, type ScriptLines } from '../app/index.js';
 import { reasonsOf } from '../player/index.js';
 import { SaveCard, adviceOf, canStream, checkWork, isPatched } from '../save/index.js';
+import { leftWordsOf } from '../text/index.js';
 import { format, playerTexts, say } from '../texts/index.js';
 import {
     announce, button, element, fill, isCancelled, messageOf, nameOf, nextTurn, notice, setDisabled, term, verdictLine, type Child,
@@ -186,7 +187,8 @@ export class CheckCard {
         for (const it of [check, apply]) setDisabled(it, !ready);
         const parts = lines.faults > 0 ? [this.faults()] : this.outcomes(apply);
         const row = element('div', { class: 'row' }, check, !this.patched && apply);
-        return fill(this.body, this.failure, ...parts, this.isCarryAsked() && this.carryRow, row,
+        const left = leftWordsOf(this.app);
+        return fill(this.body, this.failure, ...parts, left.length > 0 && notice('warn', left), this.isCarryAsked() && this.carryRow, row,
             element('p', { class: 'small quiet' }, ...this.footnote(ready)));
     }
 

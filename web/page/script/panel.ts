@@ -169,6 +169,7 @@ export class ScriptPanel {
             if (app.panel !== 'script') return;
             if (this.isOld) this.drawAll();
             else this.editor.draw();
+            this.check.draw();
             this.editor.goTo(this.editor.current);
             this.explain();
         });

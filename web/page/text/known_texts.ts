@@ -1,11 +1,9 @@
 // The texts of a disc as the page shows them: each distinct text once, with its places and its new text.
 
-import type { OrderedImage } from '../../core/disc/views.js';
-import { Translation, type Placed, type roomInTrack } from '../../core/tasks/index.js';
+import type { Placed, Translation, roomInTrack } from '../../core/tasks/index.js';
 import { Glyphs, type ListedText } from '../../core/texts/views.js';
 import { isTurnDue, letOthersIn, type Signal } from '../../core/turns.js';
 import type { App } from '../app/index.js';
-import type { List } from './texts_card.js';
 
 // The table of texts as a view of its document: what is typed goes into the document, from which the lines of the script are generated
 // soon; and lines that others have changed are read into it when the table is seen.
@@ -13,13 +11,14 @@ import type { List } from './texts_card.js';
 /** A text with a different new text at all its places. */
 export type Change = { known: KnownText, fresh: string };
 /**
- * The callbacks to the table: the new texts that are still being typed in their fields; drawing after changes; and the display of an error.
+ * The callbacks to the panel: the new texts that are still being typed in their fields; drawing places that have changed, or all; the
+ * display of an error; a function that puts the texts that are due into the script or the file; and one that reads the script.
  */
-type ChangesOwner = { inFields: () => Change[], redraw: () => void, failed: (error: unknown) => void };
+type ChangesOwner = { inFields: () => Change[], refresh: (places: Placed[]) => void, redraw: () => void, failed: (error: unknown) => void,
+    generate: () => Promise<unknown>, read: (areKept: boolean) => Promise<boolean> };
 
-/** The changes of the document of a list. */
+/** The changes of the translations of the open image or file. */
 export class TextChanges {
-    list: List | null = null;
     /** Ends when the script has all that was typed, and the table all that is in the script. */
     queue = Promise.resolve();
     waiting = 0;
@@ -30,39 +29,28 @@ export class TextChanges {
     constructor(readonly app: App, readonly owner: ChangesOwner) {
         app.on('script', () => this.update());
         app.on('panel', () => this.update());
-    }
-
-    /** @param list to be typed in */
-    take(list: List | null) {
-        this.list = list;
-        this.saved = this.typings;
-        this.update();
-    }
-
-    get translation() {
-        return this.list === null ? null : this.list.texts.translation;
+        app.on('image', () => {
+            if (app.translation === null) this.saved = this.typings;
+        });
     }
 
     /** Whether a typed text is neither in the script nor in a saved list. */
     isLost() {
-        const { list } = this;
-        if (list === null) return false;
-        const isUnsaved = this.typings > this.saved && (list.texts.translation.due.size > 0 || list.texts.counts.left > 0);
-        return isUnsaved || this.owner.inFields().length > 0;
+        const { translation } = this.app;
+        if (translation === null) return false;
+        return (this.typings > this.saved && translation.left.length > 0) || this.owner.inFields().length > 0;
     }
 
     /**
-     * Saves the list with all that was typed, also in a field that still has the focus. If that fails, the list does not count as saved.
+     * Saves all that was typed, also in a field that still has the focus. If that fails, it does not count as saved.
      */
-    async saveBy(save: (list: List) => Promise<void>) {
-        const { list } = this;
-        if (list === null) return;
+    async saveBy(save: () => Promise<void>) {
         this.typed(this.owner.inFields());
         await this.queue;
         const { typings } = this;
         try {
-            await save(list);
-            if (this.list === list) this.saved = typings;
+            await save();
+            this.saved = typings;
         } catch (error) {
             this.owner.failed(error);
         }
@@ -70,29 +58,25 @@ export class TextChanges {
 
     /** Notes new texts that were typed. */
     typed(changes: Change[]) {
-        const { translation } = this;
+        const { translation } = this.app;
         if (translation === null) return;
         this.show(translation.change(changes.filter(({ known, fresh }) => known.fresh !== fresh).flatMap(({ known, fresh }) =>
-            known.places.flatMap(it => ({ place: translation.placeOf(it), fresh })))));
+            known.places.map(it => ({ place: translation.placeOf(it), fresh })))));
     }
 
-    /** Undoes the last change, or redoes what was undone last, and returns the first of these texts. */
+    /** Undoes the last change, or redoes what was undone last, and returns the first place that has changed. */
     turnBack(way: 'undo' | 'redo') {
-        const { list, translation } = this;
-        if (list === null || translation === null) return null;
-        const places = translation.turnBack(way);
+        const places = this.app.translation?.turnBack(way) || [];
         this.show(places);
-        return places.length === 0 ? null : list.texts.of(places[0].listed) || null;
+        return places.length === 0 ? null : places[0];
     }
 
     /** Shows places that have changed, whose lines are generated soon. */
     show(places: Placed[]) {
-        const { list } = this;
-        if (list === null || places.length === 0) return;
+        if (places.length === 0) return;
         this.typings += 1;
-        list.texts.refresh(places);
-        this.owner.redraw();
-        this.next(() => this.write(list));
+        this.owner.refresh(places);
+        this.next(() => this.write());
     }
 
     /** @param work that begins when all earlier work has ended */
@@ -104,39 +88,41 @@ export class TextChanges {
         });
     }
 
-    /** @param list whose lines are generated */
-    async write(list: List) {
-        if (this.app.opened !== list.image || list.texts.translation.due.size === 0) return;
+    /** Generates the lines of texts that are due. */
+    async write() {
+        const { translation } = this.app;
+        if (translation === null || translation.due.size === 0) return;
         try {
-            await list.generate();
+            await this.owner.generate();
         } catch (error) {
-            if (this.list === list) this.owner.failed(error);
+            if (this.app.translation === translation) this.owner.failed(error);
         }
-        if (this.list === list) this.owner.redraw();
+        if (this.app.translation === translation) this.owner.redraw();
     }
 
     /** Reads all lines of the script again, because pointers may lead elsewhere. Typed texts that do not fit are kept. */
     readAgain() {
-        const { list } = this;
-        if (list !== null) this.next(() => this.readScript(list, true));
+        this.next(() => this.readScript(true));
     }
 
     /** Reads the lines that others have changed, if the table is seen. */
     update() {
-        const { app, list } = this;
-        if (list === null || app.panel !== 'text' || this.waiting > 0 || app.script.lines === list.texts.translation.seen) return;
-        this.next(() => this.readScript(list, false));
+        const { app, app: { translation } } = this;
+        if (translation === null || app.panel !== 'text' || this.waiting > 0 || translation.hasRead(app.script)) return;
+        this.next(() => this.readScript(false));
     }
 
-    async readScript(list: List, areKept: boolean) {
+    async readScript(areKept: boolean) {
+        const { translation } = this.app;
+        if (translation === null) return;
         try {
-            if (this.list !== list || !await list.read(areKept) || this.list !== list) return;
+            if (!await this.owner.read(areKept) || this.app.translation !== translation) return;
             this.owner.redraw();
             // A line that was in the way is gone.
-            if (list.texts.translation.due.size > 0) this.next(() => this.write(list));
+            if (translation.due.size > 0) this.next(() => this.write());
         } catch (error) {
-            if (this.list !== list) return;
-            list.texts.translation.seen = this.app.script.lines;
+            if (this.app.translation !== translation) return;
+            translation.noteRead(this.app.script);
             this.owner.failed(error);
         }
     }
@@ -210,10 +196,6 @@ export class KnownTexts {
     listed: ListedText[] = [];
     /** By encoding and text. */
     byText = new Map<string, KnownText>();
-    /** By place, filled when it is first needed. */
-    byPlace = new Map<string, ListedText>();
-    /** The document with the new texts. */
-    translation = new Translation({ order: undefined }, []);
     /** Whether texts that are due wait until the script of all texts is generated. */
     areWaiting = false;
     glyphs = new Glyphs();
@@ -223,13 +205,12 @@ export class KnownTexts {
     waiting = 0;
     /** How many new texts have each character that no old text has. */
     signs = new Map<string, number>();
-    news;
 
-    /** @param words the sentence on why the script does not have a new text */
-    constructor(readonly words: (place: Placed) => string = () => '') {
-        /** The new texts of places, or ''. */
-        this.news = { get: (it: ListedText) => this.translation.placeOf(it).fresh };
-    }
+    /**
+     * @param translation the document with the new texts
+     * @param words the sentence on why the script does not have a new text
+     */
+    constructor(readonly translation: Translation, readonly words: (place: Placed) => string = () => '') {}
 
     of({ encoding, text }: { encoding: string, text: string }) {
         return this.byText.get(`${encoding} ${text}`);
@@ -249,26 +230,26 @@ export class KnownTexts {
         }
     }
 
-    /** Gives the texts their document. */
-    begin(image: Pick<OrderedImage, 'order'>) {
-        this.translation = new Translation(image, this.listed);
+    /** The texts of some places, each once. */
+    *textsOf(places: Iterable<Placed>) {
+        const some = new Set<KnownText>();
+        for (const { listed } of places) {
+            const known = this.of(listed);
+            if (known === undefined || some.has(known)) continue;
+            some.add(known);
+            yield known;
+        }
     }
 
     /** Shows what the document has for some places. */
     refresh(places: Iterable<Placed>) {
-        const some = new Set<KnownText>();
-        for (const { listed } of places) some.add(this.of(listed)!);
-        for (const known of some) this.show(known);
+        for (const known of this.textsOf(places)) this.show(known);
     }
 
     /** Like refresh, but others get turns in between. */
     async refreshInTurns(places: Iterable<Placed>, signal: Signal) {
-        const some = new Set<KnownText>();
-        for (const { listed } of places) {
-            const known = this.of(listed);
+        for (const known of this.textsOf(places)) {
             if (isTurnDue()) await letOthersIn(signal);
-            if (known === undefined || some.has(known)) continue;
-            some.add(known);
             this.show(known);
         }
     }
@@ -284,22 +265,6 @@ export class KnownTexts {
         const left = places.find(({ why }) => why !== null);
         const written = waits ? 0 : places.filter(it => it.fresh === fresh && it.why === null).length;
         this.note(known, fresh, { written, why: left === undefined ? '' : this.words(left), waits });
-    }
-
-    /**
-     * The text at a place.
-     * @param row of a list
-     */
-    at(row: { block: number, offset: number, isInFile: boolean, text: string }) {
-        const place = this.placeAt(row);
-        return place && this.of(place.listed);
-    }
-
-    /** @param row of a list */
-    placeAt({ block, offset, isInFile, text }: { block: number, offset: number, isInFile: boolean, text: string }) {
-        if (this.byPlace.size === 0) for (const it of this.listed) this.byPlace.set(`${it.block}+${it.offset}`, it);
-        const listed = this.byPlace.get(`${isInFile ? '-' : block}+${offset}`);
-        return listed && listed.text === text ? this.translation.placeOf(listed) : undefined;
     }
 
     /** Notes at how many places the script writes a new text, and why not at all of them. */

@@ -4,20 +4,29 @@ import { encodingOf, usualBytes } from '../../core/encodings/views.js';
 import type { Facts, Remark } from '../../core/faults.js';
 import type { ScriptLine } from '../../core/script/views.js';
 import {
-    importRows, leftTable, roomInTrack, type FittedLists, type LeftRow, type ListRow, type RowOptions, type roomOfRow,
+    leftTable, roomInTrack, type FittedLists, type LeftRow, type ListRow, type RowOptions, type roomOfRow,
 } from '../../core/tasks/index.js';
 import type { App, Image } from '../app/index.js';
 import { downloadText } from '../save/index.js';
 import { format, remarkText, say } from '../texts/index.js';
 import {
     button, capital, element, fill, isDisabled, keyed, messageArea, notice, sentence, setDisabled, showFailure, showMessageAt, shownText,
-    tableCard,
+    tableCard, type Child,
 } from '../ui/index.js';
-import { lineBeside, linesOfTexts, mergedWords, rowsMerged } from './generated_script.js';
+import { mergedWords } from './generated_script.js';
 import { AroundCard, readAround } from './hits_card.js';
 import { chosenEncoding } from './search.js';
-import { gauge, sizeWords } from './text_row.js';
+import { gauge, sizeWords, whyLeft } from './text_row.js';
+import type { TextsTable } from './texts_table.js';
 import * as texts from '../texts/index.js';
+
+/** What Check and Publish say of new texts that the script lacks, with a button that goes to the first one; nothing if it has all. */
+export function leftWordsOf({ translation, services }: App): Child[] {
+    const n = translation === null ? 0 : translation.left.length;
+    return n === 0 ? [] : [format('{n} translation in the table of texts is not in the script.|\
+{n} translations in the table of texts are not in the script.', { n }), ' ',
+    button('slim bare tiny', () => services.showLeft(), 'Show the first one')];
+}
 
 // The card that corrects the new text of a row that does not fit, with its length compared with the room there.
 
@@ -127,8 +136,7 @@ export class LeftRows {
     list = element('div', { class: 'side' });
     row: RowCard; around: AroundCard; part;
 
-    /** @param ended is called when the last row was added to the script */
-    constructor(readonly app: App, readonly ended: () => void) {
+    constructor(readonly app: App, readonly owner: TextsTable) {
         this.row = new RowCard((row, all) => void this.add(row, all), () => void this.choose(this.chosen + 1));
         this.around = new AroundCard(app);
         this.part = element('div', { class: 'two even', hidden: true }, this.list,
@@ -214,20 +222,19 @@ export class LeftRows {
      * @param all whether rows with the same texts are corrected too, as far as they then fit
      */
     async add(row: ListRow, all: boolean) {
-        const { app, left, chosen } = this;
+        const { left, chosen } = this;
         if (left === null) return;
         const say = (words: HTMLElement) => showMessageAt(this.row.message, words);
         const rows = all ? this.equalRows() : [left.rows[chosen]];
         const fresh = rows.map(({ text }) => ({ ...text, fresh: row.fresh }));
         try {
-            const earlier = { lines: await linesOfTexts(app, left.image), textOf: null };
-            const { script, left: others } = await importRows(app, left.image.opened, fresh, { ...left.options, earlier });
-            const why = others.map(it => `${capital(remarkText(it.why))}.`)[0] || '';
+            const made = await this.owner.putRows(fresh, left.image, left.options);
+            if (made === null) return undefined;
+            const { left: others, merged } = made;
+            if (this.left === null && others.length === 0) return this.end();
+            if (this.left !== left) return undefined;
+            const why = others.length === 0 ? '' : whyLeft(others[0].why);
             if (others.length === rows.length) return say(notice('bad', why, texts.discNothingAdded));
-            const line = lineBeside(app, script);
-            if (line > 0) return say(notice('bad', format(texts.textLineWritesHere, { line: String(line) }), texts.discNothingAdded));
-            const merged = await rowsMerged(app, left.image, script, app.closing.signal, earlier.lines);
-            if (merged === null || this.left !== left) return undefined;
             this.leave(left, rows, others);
             if (left.rows.length === 0) return this.end();
             const rest = others.length === 0 ? '' : `${format('{n} equal row still does not fit:|{n} equal rows still do not fit:',
@@ -270,7 +277,7 @@ export class LeftRows {
     /** Says that no row is left. */
     end() {
         this.show(null);
-        this.ended();
+        this.owner.ended();
     }
 }
 

@@ -4,10 +4,10 @@ import type { DiscFile } from '../../core/disc/views.js';
 import { encodingOf } from '../../core/encodings/views.js';
 import type { Remark } from '../../core/faults.js';
 import { tablesOfList, type ListedTable } from '../../core/pointers/views.js';
-import type { Merged } from '../../core/script/views.js';
+import type { Merged, ScriptLine, ScriptModel } from '../../core/script/views.js';
 import {
-    ListedSpans, PointedTexts, exportedPieces, findPointers, importMoving, importTable, newTextsOf, noteOtherLines, openPointedFiles,
-    type EarlierTexts, type ImportedTable, type MovingImport, type Watch,
+    ListedSpans, PointedTexts, exportedPieces, findPointers, importMoving, importTable, openPointedFiles, type ImportedTable,
+    type MovingImport, type Placed, type TextLines, type Translation, type Watch,
 } from '../../core/tasks/index.js';
 import type { ListedText } from '../../core/texts/views.js';
 import { isTurnDue, letOthersIn } from '../../core/turns.js';
@@ -17,68 +17,99 @@ import { discFileOf } from '../open/index.js';
 import { downloadText } from '../save/index.js';
 import { format, remarkText, say } from '../texts/index.js';
 import { announce, capital, failureNotice, fill, nameOf, notice, seen, sentence, showMessageAt } from '../ui/index.js';
-import { earlierTexts, rowsMerged } from './generated_script.js';
-import type { KnownTexts } from './known_texts.js';
-import type { LeftRows } from './left_rows.js';
-import { PointersCard, addSentences, movedList, movedWords } from './pointers_card.js';
+import { linesOfTexts, putInPlaceOf } from './generated_script.js';
+import { PointersCard } from './pointers_card.js';
 import { chosenEncoding } from './search.js';
-import { letWait, noteMade, type List, type TextsCard } from './texts_card.js';
+import type { List } from './texts_card.js';
 import type { TextsTable } from './texts_table.js';
 import * as texts from '../texts/index.js';
 
 // Generates the script of all new texts, which may move, and replaces the lines of earlier texts in the open script by it.
 
 /** The listed texts of a disc. */
-export type DiscList = List & { image: Image };
-type Rows = Pick<ImportedTable, 'count' | 'left' | 'codes' | 'glyphs' | 'fuzzy' | 'script'>;
+type DiscList = List & { image: Image };
 /** What was imported, and what has moved. */
-export type Made = Rows & Pick<MovingImport, 'moved' | 'few' | 'sharing' | 'longer'>;
-/**
- * The lists with the new texts; the tables of pointers by which texts may move, null if they stay in place; and all tables that an earlier
- * script may have used.
- */
-type Moving = { lists: DiscFile[], tables: ListedTable[] | null, used: ListedTable[][] };
+type Made = Pick<ImportedTable, 'count' | 'left' | 'codes' | 'glyphs' | 'fuzzy' | 'script'> & Pick<MovingImport, 'moved' | 'few'
+    | 'sharing' | 'longer'>;
+/** With the counts of lines. */
+export type Moved = Made & { merged: Merged };
 
 /** What an import in place lacks, and what an import without lists has. */
 const NOTHING_MOVED = { moved: [], few: [], sharing: [], longer: 0 };
 const NOTHING_MADE = { ...NOTHING_MOVED, count: 0, left: [], codes: [], glyphs: [], fuzzy: 0, script: null };
 
-/** Listed texts with new ones as the list that the table saves. */
-export async function listFile(listed: ListedText[], { news }: KnownTexts): Promise<DiscFile> {
+/** Texts with new ones as the list that the table saves. */
+async function listFile(freshOf: Map<ListedText, string>): Promise<DiscFile> {
     const pieces = [];
-    const all = (async function* () { yield listed; })();
-    for await (const { text } of exportedPieces(all, { form: 'tsv', freshOf: it => news.get(it) || '' })) pieces.push(text);
+    const all = (async function* () { yield [...freshOf.keys()]; })();
+    const areRecords = [...freshOf.keys()].some(({ fill: own }) => own !== undefined);
+    for await (const { text } of exportedPieces(all, { form: 'tsv', freshOf: it => freshOf.get(it) || '' }, areRecords)) pieces.push(text);
     return discFileOf(new File(pieces, texts.textAllTexts));
 }
 
-/** Imports lists, whose texts move by the pointers of tables, or stay in place. */
-async function imported(app: App, { image, options }: DiscList, { lists, tables, earlier }: Moving & { earlier: EarlierTexts },
-    watch: Watch): Promise<Made> {
-    const how = { ...options, lists, partial: true, earlier };
-    if (lists.length === 0) return NOTHING_MADE;
-    if (tables !== null) return importMoving(app, image.opened, { ...how, tables, isKept: () => false }, watch);
-    return { ...await importTable(app, image.opened, how, watch), ...NOTHING_MOVED };
+/** The lines in the way of texts: they write at the place of a text, but belong to something else. */
+async function linesInTheWay(translation: Translation, { script, closing: { signal } }: App, lines: TextLines) {
+    const found: Map<Placed, Remark> = new Map();
+    for (const place of translation.all) {
+        if (isTurnDue()) await letOthersIn(signal);
+        const line = translation.linesAt(script, place).others.find(it => !lines.isOfMoved(it));
+        if (line !== undefined) found.set(place, { code: 'list/line-across', facts: { line: line.number } });
+    }
+    return found;
 }
 
 /**
- * Generates the script of lists, and puts it into the open one in place of the lines that write texts which change, or what moves them.
- * Returns what was imported, with the counts of lines; null if the image was closed meanwhile.
+ * Generates the lines of all new texts. Texts move by the pointers of tables, or stay in place (null). The lines replace those that write
+ * the texts, or what moves them, by all tables that an earlier script may have used. Returns null if the image was closed, or the script
+ * was edited meanwhile.
  */
-async function movedScript(app: App, list: DiscList, moving: Moving, watch: Watch & { signal: AbortSignal }) {
+async function movedScript(app: App, { image, options }: DiscList, translation: Translation, tables: ListedTable[] | null,
+    used: ListedTable[][], watch: Watch & { signal: AbortSignal }): Promise<Moved | null> {
     if (app.script.long !== null) throw ownFault(
         'The script is too long to be changed here. Use cdscript replace --list with --pointers instead.');
-    const { image, options: { encodings: [{ end }] }, texts: { listed, news } } = list;
-    const pointed = [];
-    for (const tables of moving.used) pointed.push(new PointedTexts(await openPointedFiles(image.opened, tables, watch.signal)));
-    const earlier = await earlierTexts(app, image, { end: end || undefined, movable: { pointed, listed, isRemade: true } });
-    await noteOtherLines(listed, it => news.get(it) || '', earlier, watch.signal);
-    const made = await imported(app, list, { ...moving, earlier }, watch);
-    const merged = await rowsMerged(app, image, made.script, watch.signal, earlier.lines);
-    return merged === null ? null : { made, merged };
+    const pointed: PointedTexts[] = [];
+    for (const some of used) pointed.push(new PointedTexts(await openPointedFiles(image.opened, some, watch.signal)));
+    const before = app.script.lines;
+    const lines = await linesOfTexts(app, image, translation, pointed);
+    const inTheWay = await linesInTheWay(translation, app, lines);
+    const fresh = new Map(translation.all.map(place => [place, place.fresh]));
+    // A text to which no pointer leads, and that does not change, keeps its lines.
+    const encodingFor = ({ as }: Placed) => encodingOf(as.encoding) || chosenEncoding(app);
+    const keeps = (place: Placed) => place.fresh !== '' && !place.isLeft && !translation.due.has(place) &&
+        pointed.every(some => some.of(place.as, encodingFor(place)) === null);
+    const kept = new Set(translation.all.filter(place => inTheWay.has(place) || keeps(place)));
+    const list = new Map([...fresh].map(([place, text]) => [place.as, kept.has(place) ? '' : text]));
+    const made = await imported(app, image, { ...options, lists: [await listFile(list)], partial: true, tables,
+        isKept: () => false, isTaken: range => app.script.linesWriting(range).some(it => !isReplaced(it)) }, [...list.values()], watch);
+    if (app.script.lines !== before) return null;
+    const merged = await putInPlaceOf(app, image, made.script, isReplaced, () => note(translation, app.script, fresh, inTheWay, made));
+    return merged && { ...made, merged };
+    function isReplaced(line: ScriptLine) {
+        const owner = translation.ownerOf(line);
+        if (owner !== null && kept.has(owner)) return false;
+        return lines.isOfMoved(line) || (owner !== null && (owner.fresh !== '' || owner.written !== ''));
+    }
 }
 
-/** The table of texts, and the message about an import, as TextsTable returns it. */
-type MovingOwner = { known: TextsCard, madeNotice: TextsTable['madeNotice'] };
+/** Imports a list with new texts, which move by the pointers of tables, or stay in place. */
+async function imported(app: App, image: Image, how: Omit<Parameters<typeof importMoving>[2], 'tables'> & { tables: ListedTable[] | null },
+    fresh: string[], watch: Watch): Promise<Made> {
+    const { tables } = how;
+    if (fresh.every(text => text === '')) return NOTHING_MADE;
+    if (tables !== null) return importMoving(app, image.opened, { ...how, tables }, watch);
+    return { ...await importTable(app, image.opened, how, watch), ...NOTHING_MOVED };
+}
+
+/** Notes which texts the script has, and why not the others. */
+function note(translation: Translation, { lines }: ScriptModel, fresh: Map<Placed, string>, inTheWay: Map<Placed, Remark>, { left }: Made) {
+    const whys = new Map([...inTheWay, ...left.map(({ text, why }) => [translation.at(text), why] as const)]);
+    for (const [place, text] of fresh) {
+        const why = text === '' ? null : whys.get(place) || null;
+        if (!inTheWay.has(place)) place.written = why === null ? text : '';
+        if (place.fresh === text) translation.settle(place, place.written, why);
+    }
+    translation.seen = lines;
+}
 
 /** The listed texts, if pointers can lead to them: not names in records, lines, nor the texts of an ordinary file. */
 function discListOf(list: List | null) {
@@ -103,12 +134,14 @@ export class MovingTexts {
     used: ListedTable[] | null = null;
     card;
 
-    constructor(readonly app: App, readonly owner: MovingOwner) {
+    constructor(readonly app: App, readonly owner: TextsTable) {
         this.card = new PointersCard({
             find: () => void this.find(), open: file => void this.open(file), save: list => this.save(list),
             chosen: () => void this.judge(), turn: isOn => void this.turn(isOn), make: () => void this.make(),
         });
-        app.on('image', () => this.forget());
+        app.on('image', () => {
+            if (app.translation === null) this.forget();
+        });
     }
 
     forget() {
@@ -134,11 +167,6 @@ export class MovingTexts {
         const isOld = this.used === null || !this.card.areChosen(this.used);
         const { isOn, isOwn, pointed } = this;
         this.card.drawSwitch({ isOn, isOwn, isReady: pointed !== null, waiting: list === null ? 0 : list.texts.waiting, isOld });
-    }
-
-    /** The texts that may have moved, and those of the list. */
-    get movable() {
-        return { pointed: this.pointed === null ? [] : [this.pointed], listed: this.list === null ? [] : this.list.texts.listed };
     }
 
     /** Whether the new texts of a list wait until the script of all texts is generated. */
@@ -221,7 +249,7 @@ export class MovingTexts {
             if (!this.isOn && this.pointed?.hasPointerIn(range => this.app.script.lineAt(range) > 0)) {
                 this.isOn = true;
                 this.isOwn = true;
-                letWait(list);
+                this.letWait(list);
             }
         } catch (error) {
             if (!isCurrent()) return;
@@ -242,13 +270,20 @@ export class MovingTexts {
         if (this.list === list) this.owner.known.redraw();
     }
 
+    /** Lets the texts wait that do not fit in place. */
+    letWait({ texts: own }: DiscList) {
+        own.areWaiting = true;
+        own.translation.tryAgain();
+        void this.owner.show(own.translation.due);
+    }
+
     /** Lets texts move, or puts them back in place. */
     async turn(isOn: boolean) {
         const { list } = this;
         if (list === null) return;
         this.isOn = isOn;
         this.isOwn = false;
-        if (isOn) letWait(list);
+        if (isOn) this.letWait(list);
         else list.texts.areWaiting = false;
         await this.mark(list);
         if (!isOn && (list.texts.waiting > 0 || this.used !== null)) await this.make();
@@ -266,61 +301,31 @@ export class MovingTexts {
         const { list, isOn } = this;
         if (list === null) return;
         const words = { name: texts.discMakingLines, noun: texts.textMakingOfRows, failure: texts.discNothingAdded, replaces: !isOn };
-        await this.work(words, (bar, signal) => this.inTurn(async () => {
-            if (this.isOn && this.pointed === null) return null;
-            const isAny = list.texts.all.some(({ fresh }) => fresh !== '');
-            const lists = isAny ? [await listFile(list.texts.listed, list.texts)] : [];
-            return this.script(list, lists, { signal, progress: bar.things });
-        }), result => result && showMessageAt(this.card.message, this.noticeOf(result, false)), () => {
+        await this.work(words, (bar, signal) => this.inTurn(async () =>
+            this.isOn && this.pointed === null ? null : this.generate({ signal, progress: bar.things })), made => made && showMessageAt(
+            this.card.message, this.owner.madeNotice(made, made.merged, { made, hasButtons: false })), () => {
             this.isOn = this.isOn || !isOn;
             void this.mark(list);
         });
     }
 
-    /** Generates the script of lists, and notes which texts it has. */
-    async script(list: DiscList, lists: DiscFile[], watch: Watch & { signal: AbortSignal }) {
+    /** Generates the script of all new texts. Returns null if the image was closed. */
+    async generate(watch: Watch & { signal: AbortSignal }) {
+        const { app, list } = this;
         const tables = this.isOn ? this.card.chosen : null;
-        const before = new Map([...list.texts.translation.places.values()].map(place => [place, place.fresh]));
         const used = [...tables === null ? [] : [tables], ...this.used === null ? [] : [this.used]];
-        const result = await movedScript(this.app, list, { lists, tables, used }, watch);
-        if (result === null || this.list !== list) return null;
+        let made = null as Moved | null;
+        while (made === null) {
+            const { translation } = app;
+            if (list === null || translation === null || this.list !== list) return null;
+            while (!translation.hasRead(app.script)) await this.owner.read(false);
+            made = await movedScript(app, list, translation, tables, used, watch);
+        }
         this.used = tables;
-        this.app.checkAfterChange();
-        noteMade(list, result.made.left, before, this.app);
+        app.checkAfterChange();
+        await this.owner.show(list?.texts.translation.all || []);
         this.owner.known.redraw();
-        return result;
-    }
-
-    /**
-     * Imports a list whose texts may move, and shows the rows that do not fit. The new texts of the table that it lacks stay in the script.
-     * Returns the message about it, or null if the disc was closed meanwhile.
-     */
-    async importList(file: File, rows: LeftRows, watch: Watch & { signal: AbortSignal }) {
-        const { list } = this;
-        if (list === null) return null;
-        const own = discFileOf(file);
-        const { news } = await newTextsOf([own], watch);
-        const rest = list.texts.listed.filter(it => list.texts.news.get(it) && !news.has(it));
-        const lists = rest.length === 0 ? [own] : [own, await listFile(rest, list.texts)];
-        const result = await this.script(list, lists, watch);
-        if (result === null) return null;
-        const { left } = result.made;
-        this.owner.known.takeLeft(left);
-        const message = this.noticeOf(result, true);
-        addSentences(message, rest.length > 0 ? [format(
-            '{n} translation of the table that the list lacks is kept.|{n} translations of the table that the list lacks are kept.',
-            { n: rest.length })] : []);
-        const shown = left.filter(({ text }) => rest.length === 0 || text.list === file.name);
-        await rows.show({ image: list.image, name: file.name, rows: shown, options: list.options });
-        return message;
-    }
-
-    /** The message about an import. */
-    noticeOf({ made, merged }: { made: Made, merged: Merged }, hasButtons: boolean) {
-        const message = this.owner.madeNotice(made, merged, [], hasButtons);
-        addSentences(message, movedWords(made));
-        fill(this.card.moved, movedList(made.moved));
-        return message;
+        return made;
     }
 
     /** @param list of the chosen tables */

@@ -1,88 +1,28 @@
 // The card of an ordinary file that is open in place of an image: saves a copy of it with the new texts.
 
 import { PieceCutter, type Piece } from '../../core/bytes.js';
-import type { DiscFile } from '../../core/disc/views.js';
-import {
-    NewTexts, importIntoFile, importRowsIntoFile, rowOfListed, type LeftRow, type ListRow, type RowOptions, type Translation,
-} from '../../core/tasks/index.js';
-import type { ListedText } from '../../core/texts/views.js';
-import type { Signal } from '../../core/turns.js';
+import type { Remark } from '../../core/faults.js';
+import { importRowsIntoFile, rowOfListed, type LeftRow, type Placed, type Translation } from '../../core/tasks/index.js';
 import { jobAt, type App, type PlainFile } from '../app/index.js';
 import { givingAll, patchedName, saveImage, type SavedFile } from '../save/index.js';
 import { format, playerTexts, say } from '../texts/index.js';
 import { askBeforeLeaving, button, element, failureNotice, fill, messageArea, nameOf, notice, showMessageAt } from '../ui/index.js';
 import { reasonWords } from './left_rows.js';
+import type { TextsTable } from './texts_table.js';
 import * as texts from '../texts/index.js';
 
-// The new texts of an ordinary file. They are kept here until they are saved in a copy of the file.
-
-/** Receives the number of rows. */
-type Watched = { signal: Signal, progress: (done: number, all: number) => void };
-
-/** The new texts. */
-export class PlainTexts {
-    /** The rows that fit, by the places of their texts. */
-    rows = new Map<number, ListRow>();
-    /** The rows that do not fit, by the places of their texts. */
-    left = new Map<number, LeftRow>();
-    /** How often new texts were put into the file, and how often before it was saved last. */
-    changes = 0;
-    saved = 0;
-
-    constructor(readonly file: PlainFile) {}
-
-    /** The function that finds the new text of a listed text, as that of an exported list. */
-    newTextOf() {
-        const news = new NewTexts([...this.rows.values()]);
-        return (listed: ListedText) => news.of(listed);
+/** Notes which new texts fit the file. */
+export async function putIntoFile({ opened }: PlainFile, translation: Translation) {
+    const given = new Map([...translation.due].map(place => [place, place.fresh]));
+    const rows = new Map([...given].flatMap(([place, fresh]) => fresh === '' ? [] : [[rowOfListed(place.as, fresh), place] as const]));
+    const whys: Map<Placed | undefined, Remark> = new Map();
+    for (const how of new Set([...given.keys()].map(place => place.how))) {
+        const { left } = await importRowsIntoFile(opened, [...rows.keys()].filter(row => rows.get(row)?.how === how), how);
+        for (const { text, why } of left) whys.set(rows.get(text), why);
     }
-
-    /**
-     * @param rows that fit
-     * @param left those that do not
-     */
-    add(rows: ListRow[], left: LeftRow[]) {
-        for (const row of rows) {
-            this.rows.set(row.offset, row);
-            this.left.delete(row.offset);
-        }
-        for (const row of left) this.left.set(row.text.offset, row);
-        this.changes += 1;
-    }
-
-    /** Keeps the new texts that are due where they fit. */
-    async put(translation: Translation, options: RowOptions) {
-        const given = new Map([...translation.due].map(place => [place, place.fresh]));
-        const owners = new Map([...given].flatMap(([place, fresh]) => fresh === '' ? []
-            : [[rowOfListed(place.listed, fresh), place] as const]));
-        const { changes, left } = await importRowsIntoFile(this.file.opened, [...owners.keys()], options);
-        for (const { listed: { offset } } of given.keys()) {
-            this.rows.delete(offset);
-            this.left.delete(offset);
-        }
-        this.add(changes.map(({ row }) => row), left);
-        const whys = new Map(left.map(({ text, why }) => [owners.get(text), why]));
-        for (const [place, fresh] of given) {
-            const why = whys.get(place) || null;
-            if (place.fresh === fresh) translation.settle(place, why === null ? fresh : '', why);
-        }
-    }
-
-    /** Keeps the new texts of lists that fit. Throws what importIntoFile throws. */
-    async importList(lists: DiscFile[], options: RowOptions, watch: Watched) {
-        const { changes, ...made } = await importIntoFile(this.file.opened, { ...options, lists, partial: true }, watch);
-        this.add((changes || []).map(({ row }) => row), made.left);
-        return made;
-    }
-
-    /** The pieces of the file with its new texts, and all rows that are not in it, since they do not fit. */
-    async pieces(options: RowOptions, watch: Watched) {
-        const { changes, left } = await importRowsIntoFile(this.file.opened, [...this.rows.values()], options, watch);
-        const pieces: Piece[] = [];
-        const cutter = new PieceCutter(piece => void pieces.push(piece));
-        for (const { at, bytes } of changes) await cutter.put(at, bytes);
-        await cutter.keep(this.file.reader.size);
-        return { pieces, left: [...this.left.values(), ...left] };
+    for (const [place, fresh] of given) {
+        const why = whys.get(place) || null;
+        if (place.fresh === fresh) translation.settle(place, why === null ? fresh : '', why);
     }
 }
 
@@ -95,9 +35,7 @@ export class PlainCard {
     message = messageArea();
     card;
 
-    /** @param owner the new texts of the file; how they are fitted; and a promise that is kept when all that was typed is among them */
-    constructor(readonly app: App, readonly owner: { plain: () => PlainTexts | null, options: () => RowOptions, settled: () =>
-        Promise<void> }) {
+    constructor(readonly app: App, readonly owner: TextsTable) {
         this.card = element('section', { class: 'card', 'aria-labelledby': 'plain-title', hidden: true }, element('header', {}, this.title,
             button('main slim', () => void this.save(), 'Save the translated file…'),
             button('slim bare away', () => void app.services.close(), playerTexts.close)),
@@ -108,8 +46,8 @@ export class PlainCard {
 
     /** Whether new texts are not in a saved file. */
     isLost() {
-        const plain = this.owner.plain();
-        return plain !== null && plain.changes > plain.saved;
+        const { changes, saved } = this.owner.plain;
+        return this.app.plain !== null && changes > saved;
     }
 
     draw() {
@@ -126,25 +64,28 @@ as it is.|An ordinary file of {n} bytes, not a disc image. A copy with your text
     /** Saves a copy of the file with the new texts. */
     async save() {
         const { app, owner } = this;
-        await owner.settled();
-        const plain = owner.plain();
-        if (plain === null) return undefined;
-        if (plain.rows.size === 0) return showMessageAt(this.message, notice('warn', 'No new text fits yet.'));
-        const { changes, file: { name, reader } } = plain;
+        await owner.known.settled();
+        const { plain, translation } = app;
+        if (plain === null || translation === null || !translation.all.some(({ fresh, why }) => fresh !== '' && why === null)) {
+            return showMessageAt(this.message, notice('warn', 'No new text fits yet.'));
+        }
+        const { changes } = owner.plain;
+        const { name, reader, opened } = plain;
         return jobAt(app, this.job, {
             name: 'Saving the file', noun: texts.textMakingOfRows, of: 'image', saves: true, run: async (bar, signal) => {
-                let left = [] as LeftRow[];
-                const making = async () => {
-                    const made = await plain.pieces(owner.options(), { signal, progress: bar.things });
-                    ({ left } = made);
-                    return givingAll(made.pieces);
-                };
-                const saved = await saveImage([reader], making, patchedName(name), app.openFiles(), { signal, progress() {} });
-                return { saved, left };
+                const rows = translation.all.flatMap(({ as, fresh }) => fresh === '' ? [] : [rowOfListed(as, fresh)]);
+                const made = await importRowsIntoFile(opened, rows, translation.how, { signal, progress: bar.things });
+                const pieces: Piece[] = [];
+                const cutter = new PieceCutter(piece => void pieces.push(piece));
+                for (const { at, bytes } of made.changes) await cutter.put(at, bytes);
+                await cutter.keep(reader.size);
+                const saving = async () => givingAll(pieces);
+                const saved = await saveImage([reader], saving, patchedName(name), app.openFiles(), { signal, progress() {} });
+                return { saved, left: made.left };
             },
             done: ({ saved, left }) => {
                 if (saved === null) return;
-                plain.saved = changes;
+                owner.plain.saved = changes;
                 showMessageAt(this.message, savedNotice(saved, left));
             },
             failed: error => showMessageAt(this.message, failureNotice(error, 'The file was not saved.', [name])),

@@ -4,7 +4,7 @@ import type { Remark } from '../../core/faults.js';
 import { baseText, pointerList, type ListedTable } from '../../core/pointers/views.js';
 import { format, remarkText } from '../texts/index.js';
 import { button, capital, element, fill, messageArea, oneTabStop, seen, setDisabled, shownText } from '../ui/index.js';
-import type { Made } from './moving_texts.js';
+import type { Moved } from './moving_texts.js';
 import * as texts from '../texts/index.js';
 
 // The sentences about texts that have moved, which are those of the command.
@@ -21,7 +21,7 @@ function sentencesOf(remarks: Remark[]) {
 }
 
 /** How many texts fit only because some moved, how many bytes are missing in which files, and what is to be looked at. */
-export function movedWords({ left, few, sharing, longer }: Pick<Made, 'left' | 'few' | 'sharing' | 'longer'>) {
+export function movedWords({ left, few, sharing, longer }: Pick<Moved, 'left' | 'few' | 'sharing' | 'longer'>) {
     const missing = left.flatMap(({ why }) => why.code === 'pointers/no-room' ? [why] : []);
     return [...longer > 0 ? [format('{n} translation fits only because texts moved.|{n} translations fit only because texts moved.',
         { n: longer })] : [], ...sentencesOf(missing), ...sentencesOf(few),
@@ -29,19 +29,13 @@ export function movedWords({ left, few, sharing, longer }: Pick<Made, 'left' | '
 }
 
 /** The texts that moved, each with its old and its new place. */
-export function movedList(moved: Made['moved']) {
+export function movedList(moved: Moved['moved']) {
     if (moved.length === 0) return null;
     const rows = moved.slice(0, MOST_MOVED).map(it => element('li', {}, shownText(`${capital(remarkText(it))}.`)));
     const others = moved.length - rows.length;
     const more = others > 0 && element('p', { class: 'quiet' }, format(texts.andMore, { n: String(others) }));
     return element('div', { class: 'pad small moved' }, element('b', {}, format('{n} text moved|{n} texts moved', { n: moved.length })),
         element('ul', { class: 'scroll' }, ...rows), more);
-}
-
-/** Adds sentences to a message, before its buttons. */
-export function addSentences(message: HTMLElement, sentences: string[]) {
-    const buttons = message.querySelector(':scope > .row');
-    for (const words of sentences) message.insertBefore(element('p', {}, words), buttons);
 }
 
 /**

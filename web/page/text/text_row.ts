@@ -1,6 +1,7 @@
 // A row of the table of texts: its file and places, the old text, the field for the new one, and a bar that compares it with its room.
 
 import type { Remark } from '../../core/faults.js';
+import type { Placed } from '../../core/tasks/index.js';
 import { partsWithCodes, type ListedText } from '../../core/texts/views.js';
 import { format, remarkText } from '../texts/index.js';
 import { capital, element, fill, hexOf, seen, sentence, setAttribute, shownText, turnBackKey, type Child } from '../ui/index.js';
@@ -144,9 +145,16 @@ export function gauge(bytes: Uint8Array, size: number, filling: Uint8Array | nul
 
 // Words about new texts that do not fit.
 
-/** The sentence on why a row does not fit. */
-export function leftWords(why: Remark) {
-    return `${capital(remarkText(why))}.`;
+/** The sentence on why the script cannot have a new text. */
+export function whyLeft(why: Remark) {
+    return why.code === 'list/line-across' ? format(texts.textLineWritesHere, { line: String(why.facts.line) })
+        : `${capital(remarkText(why))}.`;
+}
+
+/** The sentence on why the script does not have the new text of a place. */
+export function leftSentence({ why, written }: Placed) {
+    if (why === null) return '';
+    return written === '' || why.code === 'list/line-across' ? whyLeft(why) : `${whyLeft(why)} ${texts.textScriptKeeps}`;
 }
 
 /**

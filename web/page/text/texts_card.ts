@@ -1,81 +1,26 @@
 // The card with the table of all texts: filters, a search, the rows, and the texts that were typed.
 
-import { roomInTrack, rowOfListed, type LeftRow, type Placed, type RowOptions } from '../../core/tasks/index.js';
+import { roomInTrack, rowOfListed, type Placed, type RowOptions } from '../../core/tasks/index.js';
 import type { App, Image, PlainFile } from '../app/index.js';
 import { format, remarkText } from '../texts/index.js';
 import {
     askBeforeLeaving, askUser, button, capital, element, fill, keyed, messageArea, notice, oneTabStop, sentence, setDisabled,
 } from '../ui/index.js';
-import { KINDS, TextChanges, type Change, type Kind, type KnownText, type KnownTexts } from './known_texts.js';
+import { KINDS, TextChanges, type Kind, type KnownText, type KnownTexts } from './known_texts.js';
 import { encodingLabel } from './search.js';
 import { TextRow, VirtualRows, placeWords, withCodes } from './text_row.js';
 import * as texts from '../texts/index.js';
 
-// New texts that the script does not have: those that do not fit, and those that wait because texts may move.
-
-/** The typed texts of a list that are not in the script, as changes of the list that takes its place, and how many have no row there. */
-function keptTexts(before: List | null, { image, texts: now }: List) {
-    const changes: Change[] = [];
-    let lost = 0;
-    for (const { encoding, text, fresh, why, waits } of before?.image === image ? before.texts.all : []) {
-        if (why === '' && !waits) continue;
-        const known = now.of({ encoding, text });
-        if (known === undefined) lost += 1;
-        else changes.push({ known, fresh });
-    }
-    return { changes, lost };
-}
-
-/** Asks whether typed texts that have no row in the next list are to be saved or lost before that list is shown. */
-function askToLose(n: number) {
-    return askUser(['Show the other texts?'], [format('{n} typed text is not in the script, and the other list has no row for it.|\
-{n} typed texts are not in the script, and the other list has no rows for them.', { n })],
-        [['save', ['Save a list, then show the other texts']], ['show', [texts.textShowAnyway]]], 'save');
-}
-
-/** Notes the new texts of an imported list that do not fit. */
-function noteLeft({ texts: own }: List, left: LeftRow[]) {
-    const places = left.flatMap(({ text: row, why }) => {
-        const place = own.placeAt(row);
-        return place === undefined || row.fresh === '' ? [] : [{ place, fresh: row.fresh, why }];
-    });
-    own.translation.leave(places);
-    own.refresh(places.map(({ place }) => place));
-}
-
-/** The rows of an imported list that do not fit, without those whose texts have a different new text now. */
-export function currentLeft({ texts: own }: List, left: LeftRow[]) {
-    return left.filter(({ text: row }) => ['', row.fresh].includes(own.at(row)?.fresh || ''));
-}
-
-/** Lets the texts wait that do not fit in place. */
-export function letWait({ texts: own }: List) {
-    own.areWaiting = true;
-    own.translation.tryAgain();
-    own.refresh(own.translation.due);
-}
-
-/** Notes which texts the generated script has, and why not the others. `before` is the new texts when the script was generated. */
-export function noteMade({ texts: own }: List, left: LeftRow[], before: Map<Placed, string>, { script }: App) {
-    const whys = new Map(left.map(({ text, why }) => [own.placeAt(text), why]));
-    for (const [place, fresh] of before) {
-        const why = whys.get(place) || null;
-        if (place.fresh === fresh) own.translation.settle(place, why === null ? fresh : '', why);
-    }
-    own.translation.seen = script.lines;
-    own.refresh(before.keys());
-}
-
 /**
- * The texts of an image or an ordinary file; how new ones are fitted; the bytes that were found to end texts; whether the texts are names
- * in records, or lines; a function that puts the new texts that are due into the script or the file; and one that reads those of the
- * script, and returns whether it stayed the same meanwhile.
+ * The listed texts of an image or an ordinary file; how new ones are fitted; the bytes that were found to end texts; and whether the texts
+ * are names in records, or lines.
  */
 export type List = { image: Image | PlainFile, texts: KnownTexts, options: RowOptions, ends: string[], areRecords: boolean,
-    areLines: boolean, generate: () => Promise<void>, read: (areKept: boolean) => Promise<boolean> };
+    areLines: boolean };
 export type Form = 'csv' | 'tsv' | 'po';
-/** The callbacks to the panel: saving the list; and noting changes of texts. */
-type CardOwner = { save: (list: List, form: Form) => Promise<void>, changed: () => void };
+/** The callbacks to the panel: saving the list; noting changes of texts; and those of TextChanges. */
+type CardOwner = { save: (form: Form) => Promise<void>, changed: () => void, generate: () => Promise<unknown>,
+    read: (areKept: boolean) => Promise<boolean> };
 
 const FILTERS = { all: 'All {n}', empty: 'Empty {n}', left: 'Do not fit {n}',
     signs: 'New characters {n}', done: 'Done {n}' } as const;
@@ -110,7 +55,11 @@ export class TextsCard {
     changes; find; back; table; box; rows; card;
 
     constructor(readonly app: App, readonly owner: CardOwner) {
-        this.changes = new TextChanges(app, { inFields: () => this.inFields(), redraw: () => this.redraw(),
+        this.changes = new TextChanges(app, { ...owner, inFields: () => this.inFields(), redraw: () => this.redraw(),
+            refresh: places => {
+                this.list?.texts.refresh(places);
+                this.redraw();
+            },
             failed: error => fill(this.message, notice('bad', sentence(error))) });
         this.find = element('input', { type: 'text', id: 'texts-find', class: 'slim', autocomplete: 'off', spellcheck: 'false',
             placeholder: texts.textFindInTexts, 'aria-label': texts.textFindInTexts, input: () => this.filter() });
@@ -141,7 +90,9 @@ export class TextsCard {
         for (const [isPlain, what] of ([[false, texts.textTypedAreLost], [true, texts.textTypedNotInFile]] as const)) {
             askBeforeLeaving(() => (app.plain !== null) === isPlain && this.changes.isLost(), what, () => this.saveAs('csv'), true);
         }
-        app.on('image', () => this.take(null));
+        app.on('image', () => {
+            if (app.translation === null) this.take(null);
+        });
     }
 
     /** The new texts that are only in their fields, because they are still being typed. */
@@ -149,29 +100,10 @@ export class TextsCard {
         return [...this.drawn].flatMap(([known, { input: { value }, shown }]) => value === shown ? [] : [{ known, fresh: value }]);
     }
 
-    /**
-     * Shows other texts of the open image or file, with those that were typed and are not in the script. If some have no row there, the
-     * user is asked first. Returns whether the list is shown.
-     */
-    async replace(list: List) {
-        while (this.changes.waiting > 0 || this.inFields().length > 0) await this.settled();
-        const { changes, lost } = keptTexts(this.list, list);
-        if (lost > 0 && this.changes.isLost()) {
-            const answer = await askToLose(lost);
-            if (answer === 'save') await this.saveAs('csv');
-            if (answer === '' || (answer === 'save' && this.changes.isLost())) return false;
-        }
-        this.take(list);
-        this.changes.typed(changes);
-        list.texts.translation.done = [];
-        return true;
-    }
-
     /** Shows the texts of an image. */
     take(list: List | null) {
         this.list = list;
         this.card.hidden = list === null;
-        this.changes.take(list);
         this.kind = 'all';
         this.find.value = '';
         this.others.value = '';
@@ -196,6 +128,16 @@ export class TextsCard {
         this.filter();
     }
 
+    /** Shows a text among all others, and moves the focus to it. */
+    showText({ listed }: Placed) {
+        this.find.value = '';
+        this.showKind('all');
+        const index = this.shown.findIndex(known => known === this.list?.texts.of(listed));
+        if (index < 0) return;
+        this.choose(index);
+        this.move(0);
+    }
+
     /** Draws the filters with their counts, and how many texts are done. */
     drawHead() {
         this.owner.changed();
@@ -207,7 +149,7 @@ export class TextsCard {
         bar.style.width = `${100 * counts.done / counts.all}%`;
         fill(this.meter, element('span', { class: 'filled', 'aria-hidden': 'true' }, bar),
             format('{done} of {all} done', { done: counts.done, all: counts.all }));
-        setDisabled(this.back, this.list.texts.translation.done.length === 0);
+        setDisabled(this.back, this.app.translation?.done.length === 0);
         const characters = [...signs.keys()];
         fill(this.signs, characters.length > 0 && capital(remarkText({ code: 'list/new-characters', facts: { characters } })));
     }
@@ -261,18 +203,13 @@ export class TextsCard {
 
     /** Undoes the last change, or redoes what was undone last, and shows it. */
     turnBack(way: 'undo' | 'redo') {
-        const known = this.changes.turnBack(way);
+        const place = this.changes.turnBack(way);
         fill(this.message);
+        const known = place && this.list?.texts.of(place.listed);
         const index = this.shown.findIndex(it => it === known);
         if (index < 0) return;
         this.choose(index);
         this.rows.reveal(index);
-    }
-
-    /** Shows the new texts of an imported list that do not fit. */
-    takeLeft(left: LeftRow[]) {
-        if (this.list !== null) noteLeft(this.list, left);
-        this.redraw();
     }
 
     /** Replaces the words that are sought by others, in all new texts that are shown. */
@@ -321,7 +258,12 @@ export class TextsCard {
         return this.changes.queue;
     }
 
+    /** Like settled, until nothing is typed. */
+    async allSettled() {
+        while (this.changes.waiting > 0 || this.inFields().length > 0) await this.settled();
+    }
+
     saveAs(form: Form) {
-        return this.changes.saveBy(list => this.owner.save(list, form));
+        return this.changes.saveBy(() => this.owner.save(form));
     }
 }

@@ -1,25 +1,26 @@
 // Saves all texts of the disc as a table or a PO file for a translator, and generates lines of the script from lists with new texts.
 
 import { isTableList } from '../../core/pointers/views.js';
-import { changesOfLists, importTable, type FreshOf, type ListRow, type Placed, type Watch } from '../../core/tasks/index.js';
+import {
+    Translation, changesOfLists, changesOfRows, rowOfListed, type FreshOf, type ListRow, type Placed, type RowOptions, type Watch,
+} from '../../core/tasks/index.js';
 import { ownFault } from '../../sentences/index.js';
 import { jobAt, type App, type Bar, type Image, type PlainFile } from '../app/index.js';
 import { fileReader } from '../open/index.js';
 import { downloadBytes } from '../save/index.js';
 import { format, say } from '../texts/index.js';
 import { announce, button, element, failureNotice, fill, menuButton, nameOf, notice, showMessageAt, type Child } from '../ui/index.js';
-import { earlierTexts, isWritten, mergedWords, putIntoScript, rowsMerged, withdrawnLines } from './generated_script.js';
+import { mergedWords, putIntoScript, textsOfScript } from './generated_script.js';
 import { rowOptionsOf } from './search.js';
 import { WhatToList, bestWords, exportedList, exportedWords, inParts, listName } from './what_to_list.js';
 import { LeftRows, importedWords } from './left_rows.js';
 import { KnownTexts } from './known_texts.js';
-import { MovingTexts, type DiscList } from './moving_texts.js';
-import { PlainCard, PlainTexts } from './plain_card.js';
-import { TextsCard, currentLeft, type Form, type List } from './texts_card.js';
-import { leftWords } from './text_row.js';
+import { MovingTexts, type Moved } from './moving_texts.js';
+import { PlainCard, putIntoFile } from './plain_card.js';
+import { movedList, movedWords } from './pointers_card.js';
+import { TextsCard, type Form } from './texts_card.js';
+import { leftSentence } from './text_row.js';
 import type { Merged, ScriptLine } from '../../core/script/views.js';
-import type { ListedText } from '../../core/texts/views.js';
-import type { DiscFile } from '../../core/disc/views.js';
 import * as texts from '../texts/index.js';
 
 /** The buttons for tables, their messages, and the rows that do not fit. */
@@ -31,20 +32,21 @@ export class TextsTable {
     job = element('div', { class: 'stack' });
     message = element('div', { role: 'status' });
     moving: MovingTexts;
-    plain: PlainTexts | null = null;
+    known: TextsCard;
+    /** How often new texts were put into the ordinary file, and how often before it was saved last. */
+    plain = { changes: 0, saved: 0 };
     label = element('span', { class: 'small quiet' }, texts.textAllTextsAsTable);
-    left; what; known; plainCard; part;
+    left; what; plainCard; part;
 
     constructor(readonly app: App) {
         this.input = element('input', { type: 'file', class: 'hide', tabindex: -1, accept: '.tsv,.csv,.txt,.po',
             'aria-label': 'A table or PO file to import', change: () => this.chosen() });
-        this.left = new LeftRows(app, () => this.ended());
+        this.left = new LeftRows(app, this);
         this.what = new WhatToList(app);
-        this.known = new TextsCard(app, { changed: () => this.changed(),
-            save: (list, form) => this.saveKnown(list, form) });
-        this.moving = new MovingTexts(app, { known: this.known, madeNotice: (...made) => this.madeNotice(...made) });
-        this.plainCard = new PlainCard(app, { plain: () => this.plain, options: () => this.rowOptions(),
-            settled: () => this.known.settled() });
+        this.known = new TextsCard(app, { changed: () => this.changed(), save: form => this.saveKnown(form),
+            generate: () => this.generate(), read: areKept => this.read(areKept) });
+        this.moving = new MovingTexts(app, this);
+        this.plainCard = new PlainCard(app, this);
         this.part = element('div', { class: 'stack tight' }, element('div', { class: 'row texts-table' }, this.label,
             button('slim', () => void this.list(), texts.textShowAllTexts),
             menuButton('slim', 'export', 'Export', () => [
@@ -55,20 +57,75 @@ export class TextsTable {
         this.what.hint, this.what.part, this.job, this.message, this.input);
         for (const name of (['image', 'plain'] as const)) app.on(name, () => this.opened());
         app.addTaker(file => this.isTable(file));
+        app.serve({ showLeft: () => this.showLeft() });
     }
 
     opened() {
-        const { plain } = this.app;
-        this.plain = plain && new PlainTexts(plain);
+        const { app, app: { image, plain, translation }, known: { list } } = this;
+        this.plain = { changes: 0, saved: 0 };
         fill(this.label, plain === null ? texts.textAllTextsAsTable : 'All text in the file:');
         this.forget();
+        if (image === null || translation === null) return;
+        // The same disc, perhaps with another base.
+        this.known.changes.next(async () => {
+            const { part } = await image.opened.contents();
+            if (app.translation !== translation) return;
+            const by = part.base - translation.image.base;
+            translation.rebase(part);
+            if (by !== 0) app.changeScript(script => script.shift(by));
+            translation.seen = [];
+            if (list !== null) this.known.take({ ...list, image });
+        });
     }
 
-    /** The sentence on why the script does not have the new text of a place. */
-    leftSentence({ why, written }: Placed) {
-        if (why === null) return '';
-        if (why.code === 'list/line-across') return format(texts.textLineWritesHere, { line: String(why.facts.line) });
-        return `${leftWords(why)}${written === '' ? '' : ` ${texts.textScriptKeeps}`}`;
+    /** The document with the new texts of what is open. */
+    async document(opened: Image | PlainFile) {
+        const { app } = this;
+        const { part } = await opened.opened.contents();
+        return app.translation || app.setTranslation(new Translation(part, this.rowOptions()));
+    }
+
+    /** Shows places that have changed, if they are listed. */
+    async show(places: Iterable<Placed>) {
+        await this.known.list?.texts.refreshInTurns(places, this.app.closing.signal);
+    }
+
+    /** Puts the texts that are due into the script or the file. Returns the counts of lines, null if what was open was closed. */
+    async generate(watch: Watch = {}): Promise<Merged | null> {
+        const { app, app: { image, plain, translation }, known: { list } } = this;
+        if (translation === null) return null;
+        if (list !== null) list.texts.areWaiting = this.moving.letsWait(list);
+        const due = [...translation.due];
+        if (plain !== null) await putIntoFile(plain, translation);
+        this.plain.changes += 1;
+        if (plain === null && image !== null && !this.moving.letsWait(list)) {
+            return putIntoScript(app, image, translation, () => this.read(false), places => this.show(places), watch);
+        }
+        await this.show(due);
+        return { added: 0, replaced: 0, same: 0 };
+    }
+
+    /** Reads the script, and returns whether it stayed the same meanwhile. */
+    async read(areKept: boolean) {
+        const { app, app: { image, translation } } = this;
+        if (translation !== null && image === null) translation.noteRead(app.script);
+        if (translation === null || image === null) return true;
+        const { pointed } = this.moving;
+        const textOf = await textsOfScript(app, image, translation, pointed, this.endByte());
+        const how = { signal: app.closing.signal, all: pointed !== null || areKept, areKept };
+        const places = await translation.read(app.script, textOf, how);
+        if (places !== null) await this.show(places);
+        return places !== null;
+    }
+
+    /** Shows the first new text that the script lacks: in the table, in the card of the rows that do not fit, or after all were listed. */
+    async showLeft() {
+        const { app, known } = this;
+        app.showPanel('text');
+        const [first] = app.translation?.left || [];
+        if (first === undefined || !this.left.part.hidden) return;
+        if (known.list === null) await this.list();
+        known.showText(first);
     }
 
     forget() {
@@ -79,9 +136,7 @@ export class TextsTable {
     /** Texts of the table may have changed: those that did not fit may be in the script now. */
     changed() {
         this.moving.draw();
-        const own = this.known.list?.texts;
-        this.app.noteTextsLeft(own === undefined ? 0 : own.counts.left + own.waiting);
-        if (this.left.leaveWritten(row => own?.at(row)?.isWritten === true)) fill(this.message);
+        if (this.left.leaveWritten(row => this.app.translation?.at(row)?.isLeft === false)) fill(this.message);
     }
 
     /**
@@ -123,46 +178,36 @@ export class TextsTable {
     }
 
     async listInto(image: Image | PlainFile, bar: Bar, signal: AbortSignal) {
-        const { app, plain } = this;
-        const found = new KnownTexts(it => this.leftSentence(it));
+        const { known } = this;
+        const translation = await this.document(image);
+        const found = new KnownTexts(translation, leftSentence);
         const options = this.rowOptions();
         const { pieces, areRecords, areLines, best, ends } = await this.what.listing(image.opened, this.endByte(), bar, signal);
         for await (const some of pieces) await found.add(some, signal);
         if (found.all.length === 0) return notice('plain', texts.textNoTextFound, texts.textAnotherEncoding);
-        found.begin('disc' in image ? (await image.opened.contents()).part : { order: undefined });
-        await this.known.settled();
-        const generate = async () => {
-            found.areWaiting = this.moving.letsWait(list);
-            const due = [...found.translation.due];
-            if (plain !== null) await plain.put(found.translation, options);
-            if (plain !== null || found.areWaiting) return found.refresh(due);
-            await putIntoScript(app, list as DiscList);
-            return undefined;
-        };
-        const read = async (areKept: boolean) => {
-            const textOf = await this.newTextOf(image, found.listed) as FreshOf;
-            const all = this.moving.pointed !== null || areKept || plain !== null;
-            const places = await found.translation.read(app.script, textOf, { signal: app.closing.signal, all, areKept });
-            if (places !== null) await found.refreshInTurns(places, app.closing.signal);
-            return places !== null;
-        };
-        const list = { image, texts: found, options, ends: [...ends], areRecords, areLines, generate, read };
-        while (!await read(false));
-        found.translation.done = [];
-        if (!await this.known.replace(list)) return null;
-        const { left } = this.left;
-        if (left !== null) this.known.takeLeft(currentLeft(list, left.rows));
+        await known.allSettled();
+        translation.list(found.listed, options);
+        while (!await this.read(false));
+        await found.refreshInTurns(translation.all, signal);
+        await known.allSettled();
+        translation.done = [];
+        known.take({ image, texts: found, options, ends: [...ends], areRecords, areLines });
         const [names] = bestWords(best);
         return names === undefined ? null : notice('plain', names);
     }
 
-    /** Saves the texts of the table, with the new texts that were typed. */
-    async saveKnown({ image, areRecords, texts: { listed, news } }: List, form: Form) {
+    /** Saves the texts of the table, with their new texts, and all other new texts. */
+    async saveKnown(form: Form) {
         this.assertRead();
-        const { pieces } = await exportedList(inParts(listed), { form, areRecords, newTextOf: it => news.get(it) || '' });
-        const name = listName(image.name, areRecords, form);
+        const { known: { list }, app: { opened, translation } } = this;
+        if (translation === null || opened === null) return;
+        const others = translation.others.filter(({ fresh }) => fresh !== '').map(({ as }) => as);
+        const areRecords = list?.areRecords || others.some(({ fill: own }) => own !== undefined);
+        const { pieces } = await exportedList(inParts([...translation.places.keys(), ...others]), { form, areRecords,
+            newTextOf: it => translation.placeOf(it).fresh });
+        const name = listName(opened.name, areRecords, form);
         downloadBytes(pieces, name);
-        if (this.plain !== null) this.plain.saved = this.plain.changes;
+        this.plain.saved = this.plain.changes;
         showMessageAt(this.known.message, notice('good', say(texts.discFileSaved, { name: nameOf(name) })));
     }
 
@@ -174,9 +219,8 @@ export class TextsTable {
             const listed = [];
             for await (const part of some) listed.push(...part);
             await this.known.settled();
-            const newTextOf = await this.newTextOf(image, listed);
-            const freshOf = newTextOf && this.withTyped(image, newTextOf);
-            const { pieces, ...counts } = await exportedList(inParts(listed), { form, areRecords, newTextOf: freshOf, signal });
+            const newTextOf = await this.newTextOf(image);
+            const { pieces, ...counts } = await exportedList(inParts(listed), { form, areRecords, newTextOf, signal });
             if (counts.all === 0) return notice('plain', texts.textNoTextFound, texts.textAnotherEncoding);
             const name = listName(image.name, areRecords, form);
             downloadBytes(pieces, name);
@@ -193,24 +237,18 @@ export class TextsTable {
             'export again.');
     }
 
-    /** The function that finds the new texts of the script, and those that were typed in the table and are not in it. */
-    withTyped(image: Image | PlainFile, newTextOf: FreshOf): FreshOf {
-        const { list } = this.known;
+    /** The function that finds the new texts of the document, and of the script for texts that the document does not have. */
+    async newTextOf(opened: Image | PlainFile): Promise<FreshOf> {
+        const translation = await this.document(opened);
+        const inScript = 'disc' in opened ? await textsOfScript(this.app, opened, translation, this.moving.pointed, this.endByte())
+            : () => '';
         return listed => {
-            const known = list?.image === image ? list.texts.of(listed) : undefined;
-            return known && (known.why !== '' || known.waits) ? known.fresh : newTextOf(listed);
+            const { block } = listed;
+            const isInFile = block === '-';
+            const place = translation.at({ ...listed, block: isInFile ? 0 : block, isInFile });
+            // A name in a record would be padded differently.
+            return place === undefined || place.as.fill !== listed.fill ? inScript(listed) : place.fresh;
         };
-    }
-
-    /**
-     * The function that finds the new texts of the script, or of the ordinary file; null if that was closed.
-     * @param listed all listed texts
-     */
-    async newTextOf(image: Image | PlainFile, listed: ListedText[]): Promise<FreshOf | null> {
-        if (!('disc' in image)) return this.plain && this.plain.newTextOf();
-        const { pointed: moved } = this.moving;
-        const movable = { pointed: moved === null ? [] : [moved], listed };
-        return (await earlierTexts(this.app, image, { end: this.endByte(), movable, moved })).textOf;
     }
 
     chosen() {
@@ -242,81 +280,95 @@ export class TextsTable {
         return this.known.list && fill(this.message, notice('warn', 'Pointers lead to the texts of a disc.', 'List these texts first.'));
     }
 
-    /** Generates lines of the script from a table in a file, and shows the rows that do not fit. */
+    /** Changes the texts as a list says. Returns the message about it. */
     async take(file: File, image: Image | PlainFile, bar: Bar, signal: AbortSignal) {
-        const { app } = this;
-        this.forget();
-        const { moving } = this;
-        const watch = { signal, progress: bar.things };
-        if (moving.letsWait(this.known.list)) return moving.inTurn(() => moving.importList(file, this.left, watch));
-        const options = this.rowOptions();
-        const lists = [{ name: file.name, reader: fileReader(file) }];
-        if (!('disc' in image)) return this.takeIntoFile(image, lists, bar, signal);
-        const listed = await this.takeIntoList(lists, image, watch);
-        if (listed !== null) return listed;
-        const earlier = await earlierTexts(app, image, { end: this.endByte(), movable: moving.movable });
-        const isAlso = (row: ListRow) => isWritten(app, row);
-        const imported = { ...options, lists, isAlso, partial: true, earlier };
-        const made = await importTable(app, image.opened, imported, watch);
-        const merged = await rowsMerged(app, image, made.script, signal, earlier.lines);
-        if (merged === null) return null;
-        app.checkAfterChange();
-        const withdrawn = withdrawnLines(earlier.lines, made.empty);
-        this.known.takeLeft(made.left);
-        await this.left.show({ image, name: file.name, rows: made.left, options });
-        return this.madeNotice(made, merged, withdrawn);
-    }
-
-    /** Changes the listed texts as lists say. Returns the message about it, or null if a row of them belongs to no listed text. */
-    async takeIntoList(lists: DiscFile[], image: Image, watch: Watch & { signal: AbortSignal }) {
         const { app, known } = this;
-        const { list } = known;
-        if (list === null || list.areRecords || list.image !== image) return null;
+        this.forget();
+        if (app.plain !== null && known.list === null) await this.listInto(image, bar, signal);
+        const watch = { signal, progress: bar.things };
+        const lists = [{ name: file.name, reader: fileReader(file) }];
+        const options = this.rowOptions();
         await known.settled();
-        const { texts: own, options } = list;
-        const given = await changesOfLists(row => own.placeAt(row), lists, options, watch.signal);
-        if (given === null) return null;
-        const { changes, empty, ...remarks } = given;
+        const translation = await this.document(image);
+        const isAlso = ({ block, offset }: ListRow) => app.script.lineAt({ block, offset, size: 1 }) > 0;
+        const given = await changesOfLists(image.opened, translation, lists, options, watch, isAlso);
+        const put = await this.put(given, watch);
+        if (put === null) return null;
+        const { left, merged, withdrawn, made } = put;
+        await this.left.show('disc' in image ? { image, name: file.name, rows: left, options } : null);
+        const { length: count } = [...given.changes, ...given.left];
+        return this.madeNotice({ ...given, count, left }, merged, { withdrawn, made, equal: translation.emptyLike(given.changes.keys()) });
+    }
+
+    /** Gives empty texts the new texts of equal ones. */
+    fillEqual(equal: Map<Placed, string>): Promise<unknown> {
+        return this.work(texts.discMakingLines, texts.textMakingOfRows, texts.discNothingAdded, async (_, bar, signal) => {
+            const changes = new Map([...equal].map(([place, fresh]) => [place, rowOfListed(place.as, fresh)]));
+            const put = await this.put({ changes, empty: new Set(), left: [] }, { signal, progress: bar.things });
+            const rows = { count: changes.size, left: put?.left || [], codes: [], glyphs: [], fuzzy: 0 };
+            return put && this.madeNotice(rows, put.merged, { made: put.made });
+        });
+    }
+
+    /**
+     * Changes the texts as rows say. Returns the rows that do not fit, the counts of lines, those of texts for which the rows have no new
+     * text, and what has moved; null if the image was closed.
+     */
+    async put({ changes, empty, left: others }: Awaited<ReturnType<typeof changesOfRows>>, watch: Watch & { signal: AbortSignal }) {
+        const { app, known } = this;
+        const { translation } = app;
+        if (translation === null) return null;
+        while (!translation.hasRead(app.script)) await this.read(false);
         let same = 0;
-        for (const [{ fresh, written, lines }, row] of changes) if (row.fresh === fresh && fresh === written) same += lines.length;
-        const withdrawn = [...empty].flatMap(place => own.translation.linesAt(app.script, place).own);
-        const changed = own.translation.change([...changes].map(([place, row]) => ({ place, fresh: row.fresh })));
-        const step = changed.length === 0 ? undefined : own.translation.done[own.translation.done.length - 1];
-        const merged = await own.refreshInTurns(changed, watch.signal)
-            .then(() => putIntoScript(app, list as DiscList, watch))
-            .catch(error => {
-                known.changes.show(own.translation.withdraw(step));
-                throw error;
-            });
-        if (merged === null) return null;
+        for (const [place, row] of changes) {
+            if (row.fresh === place.fresh && !place.isLeft) same += translation.linesAt(app.script, place).own.length;
+        }
+        const withdrawn = [...empty].flatMap(place => place.fresh === '' ? [] : translation.linesAt(app.script, place).own);
+        const changed = translation.change([...changes].map(([place, row]) => ({ place, fresh: row.fresh })));
+        const step = changed.length === 0 ? undefined : translation.done[translation.done.length - 1];
+        await this.show(changed);
+        const isMoving = this.moving.letsWait(known.list);
+        const made = isMoving ? await this.moving.inTurn(() => this.moving.generate(watch)).catch(cancel) : null;
+        const merged = isMoving ? made && made.merged : await this.generate(watch).catch(cancel);
+        function cancel(error: unknown): never {
+            known.changes.show(translation?.withdraw(step) || []);
+            throw error;
+        }
+        if (merged === null || app.translation !== translation) return null;
         app.checkAfterChange();
-        const left = [...changes].flatMap(([{ why }, text]) => why === null ? [] : [{ text, why }]);
         known.redraw();
-        await this.left.show({ image, name: lists[0].name, rows: left, options });
-        const made = { ...remarks, count: changes.size, left };
-        return this.madeNotice(made, { ...merged, same }, withdrawn.sort((a, b) => a.number - b.number));
+        const left = [...others, ...[...changes].flatMap(([{ why }, text]) => why === null ? [] : [{ text, why }])];
+        withdrawn.sort((a, b) => a.number - b.number);
+        return { left, merged: { ...merged, same: merged.same + (isMoving ? 0 : same) }, withdrawn, made };
     }
 
-    /** Keeps the new texts of lists for the ordinary file, and shows those that do not fit in the table. */
-    async takeIntoFile(file: PlainFile, lists: DiscFile[], bar: Bar, signal: AbortSignal) {
-        const { plain, known } = this;
-        if (plain === null) return null;
-        const made = await plain.importList(lists, this.rowOptions(), { signal, progress: bar.things });
-        if (known.list === null) await this.listInto(file, bar, signal);
-        else await known.list.read(false);
-        known.takeLeft(made.left);
-        const { isGood, words: [head, ...more] } = importedWords(made, format(
-            '{n} new text is ready to be saved in the file.|{n} new texts are ready to be saved in the file.', { n: plain.rows.size }), []);
-        return notice(isGood ? 'good' : 'warn', head, ...more.map(it => element('p', {}, it)));
+    /** Changes the texts of some rows. */
+    async putRows(rows: ListRow[], { opened }: Image, options: RowOptions) {
+        const { app } = this;
+        if (app.translation === null) return null;
+        const { signal } = app.closing;
+        return this.put(await changesOfRows(opened, app.translation, rows, options, { signal }), { signal });
     }
 
-    madeNotice(made: Parameters<typeof importedWords>[0], merged: Merged, withdrawn: ScriptLine[] = [], hasButtons: boolean = true) {
-        const { isGood, words: [added, rows, ...remarks] } = importedWords(made, mergedWords(merged) || texts.discNothingAdded, withdrawn);
-        const isAny = hasButtons && merged.added + merged.replaced + merged.same + withdrawn.length > 0;
-        announce([added, rows, ...remarks].join(' '));
+    /** The message about imported rows, and what has moved. */
+    madeNotice(rows: Parameters<typeof importedWords>[0], merged: Merged, { withdrawn = [], made = null, equal = new Map(),
+        hasButtons = true }: { withdrawn?: ScriptLine[], made?: Moved | null, equal?: Map<Placed, string>, hasButtons?: boolean } = {}) {
+        const { plain, translation } = this.app;
+        const n = plain === null ? 0 : translation?.all.filter(({ fresh, why }) => fresh !== '' && why === null).length || 0;
+        const head = plain === null ? mergedWords(merged) || texts.discNothingAdded : format(
+            '{n} new text is ready to be saved in the file.|{n} new texts are ready to be saved in the file.', { n });
+        const { isGood, words: [added, fit, ...remarks] } = importedWords(rows, head, withdrawn);
+        const isAny = hasButtons && plain === null && merged.added + merged.replaced + merged.same + withdrawn.length > 0;
+        if (made !== null) {
+            remarks.push(...movedWords(made));
+            fill(this.moving.card.moved, movedList(made.moved));
+        }
+        announce([added, fit, ...remarks].join(' '));
         const more = remarks.map(it => element('p', {}, it));
-        return notice(isGood ? 'good' : 'warn', added, rows, ...more, isAny && element('div', { class: 'row' },
-            withdrawn.length > 0 && button('slim', () => this.remove(withdrawn), 'Remove from the script'), this.scriptButton()));
+        const words = 'Use them for {n} equal text that is empty|Use them for {n} equal texts that are empty';
+        return notice(isGood ? 'good' : 'warn', added, fit, ...more, isAny && element('div', { class: 'row' }, equal.size > 0 &&
+            button('slim', () => void this.fillEqual(equal), format(words, { n: equal.size })), withdrawn.length > 0 &&
+            button('slim', () => this.remove(withdrawn), 'Remove from the script'), this.scriptButton()));
     }
 
     /** Says that all rows that did not fit are in the script. */

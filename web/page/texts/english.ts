@@ -275,7 +275,6 @@ export const textEndsFound = 'In some files, texts end with {bytes}.';
 export const textLookingForTexts = 'Looking for text';
 export const textNoTextFound = 'No text was found.';
 export const textMakingOfRows = 'rows';
-export const textScriptLongerThanTaken = 'The script would be longer than cdpatch accepts. Use cdscript replace --list instead.';
 export const textColumnPlace = 'Block, offset';
 
 // the table of all texts
