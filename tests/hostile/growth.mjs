@@ -29,6 +29,7 @@ const { rowsOfLists } = await core('tasks/list_rows.js');
 const { ScriptModel, linesUnder } = await core('script/model.js');
 const { openDisc } = await core('disc/disc.js');
 const { FilesAlong } = await core('texts/all_texts.js');
+const { findIn } = await core('texts/find.js');
 const { applyScript } = await core('tasks/scripts.js');
 const { newTextsOf } = await core('tasks/list_tables.js');
 const { Verdicts, gameLines } = await command('hashes.js');
@@ -225,6 +226,14 @@ function replacedParts(count) {
     };
 }
 
+/** Finds a text of one letter with another one at its end, in user data of the first letter. */
+function nearlyFound(letters, bytes) {
+    const user = new Uint8Array(USER * Math.ceil(bytes / USER)).fill(0x41);
+    const sectors = calls.encodeBlocks(0, user);
+    const texts = [CP932.units(`${'A'.repeat(letters)}B`)];
+    return () => findIn(sectors, 0, { texts, count: user.length / USER, limit: 9 });
+}
+
 /** Finds the pointers of a file of numbers to texts of a few distances. */
 function searched(bytes, texts, numberAt) {
     const held = new Uint8Array(Math.max(4 * bytes, 16 * texts) + 64);
@@ -278,6 +287,7 @@ export const GROWTH = {
     'rows over one another': size => replaced(HEAD + times(size, i => `0\t${i % 1000}\tAAAA\tBB\n`)),
     'rows that do not fit': size => replaced(HEAD + times(size, i => `${i % 9}\t0\tBA\tBB\n`)),
     'a long text': size => replaced(`${HEAD}0\t0\t${'A'.repeat(size)}\t${'B'.repeat(size)}\n`),
+    'a text that nearly occurs at each place': size => nearlyFound(size, 8 * size),
     'a row of codes': size => counted('{00}'.repeat(size), '{01}'.repeat(size)),
     'a row of codes in one': size => counted(`{${'00'.repeat(size)}}`, `{${'01'.repeat(size)}}`),
     'a PO file of entries': size => listedPo(times(size, i => `#. room 9 bytes, CP932\n#: /A+1 ${i}+7\nmsgid "a ${i}"\nmsgstr "b"\n\n`)),

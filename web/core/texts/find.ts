@@ -10,9 +10,8 @@ import { asWords, userOfRange } from '../sectors/index.js';
 import { anyBegins } from './all_texts.js';
 import { Matching, unitsAlike } from './matching.js';
 
-/** How many bytes of a range are counted to find rare values, and how many of the first bytes of a hit are compared by rarity. */
+/** How many bytes of a range are counted to find rare values. */
 const SAMPLES = 4000;
-const MOST_OPENINGS = 64;
 
 /** The parts of a wanted text, in order, each with its spellings, as `Encoding.units` returns them. */
 export type Wanted = Uint8Array[][];
@@ -91,9 +90,10 @@ function anchorOf(parts: Wanted, user: Uint8Array) {
     const counts = new Float64Array(256);
     const step = Math.floor(user.length / SAMPLES) + 1;
     for (let at = 0; at < user.length; at += step) counts[user[at]] += 1;
-    const rarity = openings(parts).map(values => values.reduce((sum, value) => sum + counts[value], 0));
-    const distance = rarity.indexOf(Math.min(...rarity));
-    const values = openings(parts)[distance] || [];
+    const fixed = openings(parts);
+    const rarity = fixed.map(values => values.reduce((sum, value) => sum + counts[value], 0));
+    const distance = rarity.indexOf(rarity.reduce((least, it) => Math.min(least, it), Infinity));
+    const values = fixed[distance] || [];
     const rare = rarity[distance] * step < user.length / 32;
     return {
         distance,
@@ -103,11 +103,11 @@ function anchorOf(parts: Wanted, user: Uint8Array) {
     };
 }
 
-/** The values that each of the first MOST_OPENINGS bytes of a hit may have, as far as their distance from its beginning is fixed. */
+/** The values that each byte of a hit may have whose distance from its beginning is fixed. */
 function openings(parts: Wanted) {
     const values: number[][] = [];
     for (const part of parts) {
-        const shortest = part.reduce((least, { length }) => Math.min(least, length), MOST_OPENINGS - values.length);
+        const shortest = part.reduce((least, { length }) => Math.min(least, length), Infinity);
         for (let k = 0; k < shortest; k++) values.push([...new Set(part.map(bytes => bytes[k]))]);
         if (part.some(({ length }) => length !== shortest)) break;
     }
