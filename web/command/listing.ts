@@ -121,11 +121,9 @@ async function importedMoving(job: Job, opened: OpenedTrack, options: Awaited<Re
     return made;
 }
 
-/** A function that reports a number of patches if cdpatch does not accept as many. */
-function countedBy(job: Job) {
-    return (patches: number) => {
-        if (patches > MOST_PATCHES) job.say(sentenceOf({ code: 'script/many', facts: { patches, most: MOST_PATCHES } }));
-    };
+/** Reports a number of patches if cdpatch does not accept as many. */
+function sayOfPatches(job: Job, patches: number) {
+    if (patches > MOST_PATCHES) job.say(sentenceOf({ code: 'script/many', facts: { patches, most: MOST_PATCHES } }));
 }
 
 /** @param names of the lists */
@@ -134,7 +132,7 @@ export async function replaceListJob(job: Job, names: string[]) {
     const opened = await openTrackOf(job, job.names[0]);
     const { pointers } = job.options;
     const tables = pointers === undefined ? [] : await pointersIn(job, pointers);
-    const options = { ...await importOptions(job, names), counted: countedBy(job) };
+    const options = { ...await importOptions(job, names), counted: (patches: number) => sayOfPatches(job, patches) };
     const { script, ...made } = await ofLists<Pick<ImportedTable, 'script' | 'left' | 'codes' | 'glyphs' | 'fuzzy'>>(names, () =>
         tables.length > 0 ? importedMoving(job, opened, options, tables) : importTable(job, opened, options));
     sayOfLists(job, made, 'script');
