@@ -120,8 +120,12 @@ def image_of(users: list[bytes], base: int = 0) -> bytes:
     return b''.join(sector(base + i, user) for i, user in enumerate(users))
 
 
+# The offset of a byte of the EDC. Parity corrects no sector with a wrong one.
+IN_EDC = 2048
+
+
 def damaged(image: bytes, block: int, offset: int = 100) -> bytes:
-    """Changes one user byte in a block of an image and leaves its codes as they are."""
+    """Changes one byte in a block of an image, by its offset from the user data, and leaves the codes as they are."""
     changed = bytearray(image)
     changed[block * SECTOR_SIZE + 16 + offset] ^= 0x55
     return bytes(changed)

@@ -8,10 +8,10 @@ from event_files import TEXTS, event_file
 
 
 @functools.cache
-def game(files: int = 2, program: int = 0) -> bytes:
-    """An image of a disc with event files, and with a program of this size."""
+def game(files: int = 2, data: int = 0) -> bytes:
+    """An image of a disc with event files, and with a data file of this size."""
     events = {f'EVENT{file}.DAT': event_file(file) for file in range(files)}
-    return common.image_of(common.iso_of({**events, 'MAIN.EXE': bytes(program)} if program > 0 else events))
+    return common.image_of(common.iso_of({**events, 'MAIN.DAT': bytes(data)} if data > 0 else events))
 
 
 @functools.cache

@@ -91,8 +91,11 @@ class Access(States):
             self.assertEqual(self.has_focus(), 'map' if moved else 'second-body')
         self.setUp()
         self.to_second_repair()
-        self.browser.press(Keys.TAB)
-        self.assertEqual(self.has_focus(), 'Save repaired image…')
+        labels = []
+        while not labels or labels[-1] == 'Show the blocks':
+            self.browser.press(Keys.TAB)
+            labels.append(self.has_focus())
+        self.assertEqual(labels[-1], 'Save repaired image…')
 
     @in_check
     def test_a_menu_is_used_by_the_keyboard_and_gives_the_focus_back(self) -> None:

@@ -57,12 +57,16 @@ class Facts(PageTest):
         self.browser.wait('.legend', 'data damaged')
 
     def test_a_count_of_none_is_not_green(self) -> None:
-        self.pair(common.damaged(discs.game(), 40), common.damaged(discs.game(), 40))
+        image = common.damaged(discs.game(), 40, common.IN_EDC)
+        self.pair(image, image)
         self.assertEqual(self.tally(), ['0', '1', '0'])
         self.assertEqual(self.browser.run('return document.querySelectorAll("#second-body .good-ink").length'), 0)
 
     def test_a_sector_that_is_lost_in_both_dumps_cannot_be_repaired(self) -> None:
-        image = with_lost(common.damaged(common.damaged(discs.game(), 40), 60), 90)
+        image = discs.game()
+        for block in (40, 60, 90):
+            image = common.damaged(image, block, common.IN_EDC)
+        image = with_lost(image, 90)
         self.pair(image, image)
         self.assertEqual(self.tally(), ['0', '3', '0'])
         self.browser.wait('[aria-label="Without a sound copy: 3"]', '90')
@@ -95,7 +99,7 @@ class Facts(PageTest):
         self.browser.wait('#sheet', 'This is the image that is already open.')
 
     def test_a_file_that_is_listed_late_is_named_all_the_same(self) -> None:
-        image = common.damaged(discs.game(), discs.first_block())
+        image = common.damaged(discs.game(), discs.first_block(), common.IN_EDC)
         files = discs.written(first=image, second=image)
         self.browser.run(LATE_FILES)
         self.open_files(files['first'], files['second'])

@@ -110,7 +110,8 @@ class Messages(PageTest):
         common.waited(lambda: self.browser.text(css).split('\n')[0].strip() == label, f'{css} says it still')
 
     def test_each_copy_button_says_so_for_a_moment(self) -> None:
-        files = discs.written(game=discs.scratched(), other=discs.scratched(), english=discs.script())
+        image = common.damaged(discs.game(), discs.first_block() + 1, common.IN_EDC)
+        files = discs.written(game=image, other=image, english=discs.script())
         packed = files['game'].with_suffix('.chd')
         packed.write_bytes(b'MComprHD' + bytes(5000))
         self.browser.run(CLIPBOARD + HELD_TIMERS, 2000)
