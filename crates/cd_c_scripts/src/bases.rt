@@ -1,13 +1,12 @@
 //! The call of C that finds out for which base a script was made.
 
-ghost use Rattle.std.specs.Prelude.{◌≡◌, ◌-◌, ◌<◌, None, Some, drop, false, length, take, true};
+ghost use Rattle.std.specs.Prelude.{◌≡◌, ◌-◌, ◌<◌, None, Some, false, length, take, true};
 ghost use Rattle.std.specs.Str.Lines.{lines};
-ghost use Rattle.cd_script.specs.Number.{number};
 ghost use Rattle.cd_script.specs.Words.{is_space};
 ghost use Rattle.cd_c_scripts.specs.Bases.{first_other, named_base, other_base, trimmed};
 
 use crate::entries::rest_of;
-use cd_script::{MAX_DIGITS, first_line};
+use cd_script::{first_line, number};
 
 /// A line that names a base, as C's `struct cdpatch_named_base`.
 #[derive(Clone, Copy)]
@@ -47,24 +46,6 @@ fn trimmed(line: &[u8]) -> &[u8]
         rest = &rest[..rest.len() - 1];
     }
     rest
-}
-
-/// The value of 1 to 9 decimal digits; `None` for any other bytes.
-#[tactic(auto, unfolding(cd_script::specs::Number::number))]
-fn number(word: &[u8]) -> Option<u32>
-    ensures { result ≡ number word.now }
-{
-    if word.is_empty() || word.len() > MAX_DIGITS {
-        return None;
-    }
-    let mut value = 0;
-    for digit in word {
-        if !digit.is_ascii_digit() {
-            return None;
-        }
-        value = 10 * value + u32::from(*digit - b'0');
-    }
-    Some(value)
 }
 
 /// The base that a line names, if it names one.

@@ -14,7 +14,7 @@ use Rattle.cd_read.specs.Messages.{fault_line}
 use Rattle.cd_read.specs.Printing.{Ends, PrintsLine}
 use Rattle.cd_image.specs.Running.{script_status}
 use Rattle.cd_args.specs.declared.settings.Settings.{Settings}
-use Rattle.cd_stream.specs.Rooms.{fresh_outgoing}
+use Rattle.cd_stream.specs.Fresh.{fresh_outgoing}
 use Rattle.cd_memory.specs.Whole.{Environment, Opened, Patches, Prints, ProgramResult, StopsPatching, WhyPatchingStopped}
 use Rattle.cd_stream.proofs.KnownLemmas.{Appends-Some, Consumes-known, Some-injective}
 use Rattle.cd_read.proofs.KnownLemmas.{Fits-beyond, MayBeImageAtEnd-within, read-whole}

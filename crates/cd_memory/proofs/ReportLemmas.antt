@@ -10,7 +10,7 @@ use Rattle.cd_report.specs.Report.{Reports, ReportSpec}
 use Rattle.cd_stream.specs.Stream.{Incoming, Outgoing}
 use Rattle.cd_read.specs.Messages.{fault_line}
 use Rattle.cd_read.specs.Printing.{Ends}
-use Rattle.cd_stream.specs.Rooms.{fresh_outgoing}
+use Rattle.cd_stream.specs.Fresh.{fresh_outgoing}
 use Rattle.cd_memory.specs.Whole.{Environment, ProgramResult, ReportsOn, WhyStopped, image_at}
 use Rattle.cd_stream.proofs.KnownLemmas.{Appends-Some, Consumes-known, Some-injective}
 use Rattle.cd_read.proofs.KnownLemmas.{Fits-beyond, MayBeImageAtEnd-within, read-front, read-whole}

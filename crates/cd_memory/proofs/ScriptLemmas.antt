@@ -21,7 +21,7 @@ use Rattle.cd_host.specs.declared.script.LoadFault.{LoadFault}
 use Rattle.cd_host.specs.declared.script.LoadFault.TheVariants.{NoMemory, Read, TooLong}
 use Rattle.cd_memory.specs.Files.{file_bytes}
 use Rattle.cd_memory.specs.Memory.{Opens, memory_hosting}
-use Rattle.cd_stream.specs.Rooms.{fresh_incoming}
+use Rattle.cd_stream.specs.Fresh.{fresh_incoming}
 use Rattle.cd_memory.specs.Whole.{Environment, HasPatches, NoPatches}
 use Rattle.cd_stream.proofs.KnownLemmas.{Consumes-known}
 use Rattle.cd_read.proofs.KnownLemmas.{read-whole}

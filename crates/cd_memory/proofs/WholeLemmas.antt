@@ -28,7 +28,7 @@ use Rattle.cd_args.specs.declared.settings.Settings.{Settings}
 use Rattle.cd_memory.specs.Files.{file_bytes, named_file, with_bytes}
 use Rattle.cd_memory.specs.declared.memory.Memory.{Memory}
 use Rattle.cd_memory.specs.Memory.{Makes, Opens, TakesBack, files_of, input_of, is_there, made_of, memory_hosting}
-use Rattle.cd_stream.specs.Rooms.{fresh_incoming, fresh_outgoing}
+use Rattle.cd_stream.specs.Fresh.{fresh_incoming, fresh_outgoing}
 use Rattle.cd_memory.specs.Whole.{AppliesOn, ChecksOn, DoesOn, DoesTask, Environment, Explains, FailsWith, HasPatches, NoPatches, Opened, ProgramResult, ReportsOn, RunsOn, environment, image_at}
 use Rattle.cd_stream.proofs.KnownLemmas.{Appends-Some, Keeps-Some, Some-injective}
 use Rattle.cd_memory.proofs.KnownLemmas.{none-failed, some-failed}

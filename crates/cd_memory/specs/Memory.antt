@@ -3,7 +3,7 @@ use Rattle.std.specs.Prelude.{◌≡◌, ℕ, Bool, false, true, ◌||◌, List,
 use Rattle.std.specs.Prelude.{Option, None, Some, Result, Ok, Err}
 use Rattle.cd_stream.specs.Stream.{Incoming, Outgoing}
 use Rattle.cd_stream.specs.Adapters.{slice_incoming}
-use Rattle.cd_stream.specs.Rooms.{fresh_incoming, fresh_outgoing}
+use Rattle.cd_stream.specs.Fresh.{fresh_incoming, fresh_outgoing}
 use Rattle.cd_stream.specs.declared.adapters.slice_source.SliceSource.{SliceSource}
 use Rattle.cd_host.specs.Hosting.{Hosting}
 use Rattle.cd_host.specs.declared.host.OpenFault.{OpenFault}

@@ -1,7 +1,7 @@
 //! A sink that appends its bytes to a vector.
 
 ghost use Rattle.std.specs.Prelude.{◌≡◌, Some};
-ghost use Rattle.cd_stream.specs.Rooms.{fresh_outgoing};
+ghost use Rattle.cd_stream.specs.Fresh.{fresh_outgoing};
 ghost use Rattle.cd_memory.specs.Memory.{growing_outgoing};
 
 use cd_stream::{Count, Sink, SinkFailed};

@@ -1,5 +1,5 @@
 -- Images cut at the largest size, and images whose bytes are known.
-use Rattle.std.proofs.Common.{◌≡◌, ℕ, ◌+◌, ◌-◌, ◌≤◌, List, [], ◌∷◌, ◌++◌, length, take, Some, refl, sym, ap, ◌∙◌, subst, arith, append-nil}
+use Rattle.std.proofs.Common.{◌≡◌, ℕ, ◌+◌, ◌-◌, ◌≤◌, List, [], ◌∷◌, ◌++◌, length, take, Some, sym, ap, ◌∙◌, arith, append-nil}
 use Rattle.std.proofs.lemmas.List.{length-take, take-append-le, take_all}
 use Rattle.std.proofs.Math.Seq.{take-append-add}
 use Rattle.cd_read.specs.Ends.{MayBeImage, MayBeImageAtEnd}
@@ -49,11 +49,3 @@ read-front count all read rest is size =
 -- if no bytes are left, all bytes were read
 pub read-whole : (all read rest : List ℕ) → all ≡ read ++ rest → rest ≡ [] → all ≡ read
 read-whole all read rest is none = is ∙ ap (λ r. read ++ r) none ∙ append-nil read
-
--- an image of at most the largest size may be the one that was being read
-pub may-be : (image read left : List ℕ) → image ≡ read ++ left → length read ≤ image_limit
-    → length image ≤ image_limit → MayBeImageAtEnd (Some left) read image
-may-be image read left is within small =
-    subst (MayBeImageAtEnd (Some left) read)
-    (ap (take image_limit) (sym is) ∙ take_all image_limit image small)
-    (MayBeImageAtEnd-within read left within)

@@ -1,14 +1,13 @@
 -- The printing of a line of the program, and the end of a command.
-use Rattle.std.proofs.Common.{◌≡◌, ◌≢◌, ◌⊎◌, arith, ℕ, ◌+◌, Bool, true, false, cond, subst, List, [], take, drop, Result, Ok, Err, OnOk, is_ok, refl, sym, ap, inl, inr, append-nil, take-append-drop}
+use Rattle.std.proofs.Common.{◌≡◌, ◌≢◌, arith, ℕ, ◌+◌, Bool, true, false, cond, subst, List, [], take, drop, Result, Ok, Err, OnOk, is_ok, refl, sym, append-nil, take-append-drop}
 use Rattle.cd_stream.specs.Stream.{Incoming, Outgoing}
 use Rattle.cd_stream.specs.Transfer.{Counts, CountsFlush, Flushes, Sends}
 use Rattle.cd_stream.specs.declared.sink.SinkFailed.{SinkFailed}
 use Rattle.cd_stream.proofs.TransferLemmas.{Takes-flushed}
 use Rattle.cd_read.specs.Ends.{IsTooLong}
-use Rattle.cd_read.specs.Printing.{Ends, PrintsLine}
+use Rattle.cd_read.specs.Printing.{PrintsLine}
 use Rattle.cd_read.specs.Status.{failed_status}
-use Rattle.cd_read.specs.declared.fault.Fault.{Fault}
-use Rattle.cd_read.specs.declared.fault.Fault.TheVariants.{Log, Read, TooLong, Write}
+use Rattle.cd_read.specs.declared.fault.Fault.TheVariants.{TooLong}
 use Rattle.cd_read.proofs.EndLemmas.{Ending, too_long}
 
 module _ (line : List ℕ) (before after : Outgoing) where
@@ -62,20 +61,3 @@ is-too-long e = record {
   unended = e.by.2;
   beyond = λ bytes left gives leaves. (too_long (Err TooLong) e bytes left gives leaves).0 refl;
 }
-
-same-or-other : (a b : Fault) → (a ≡ b) ⊎ (a ≢ b)
-same-or-other Read Read = inl refl
-same-or-other Write Write = inl refl
-same-or-other Log Log = inl refl
-same-or-other TooLong TooLong = inl refl
-same-or-other _ _ = inr (λ is. cc)
-
--- printing the line for an error leaves the same slice
-pub Ends-lent : {T : Type 0} (own : Fault) (status_of : T → ℕ) (result : Result T Fault)
-    (before after : Outgoing) (status : ℕ) → Ends own status_of result before after status
-    → after.lent ≡ before.lent
-Ends-lent own status_of (Ok tally) before after status ends = ap (λ o. o.lent) ends.0
-Ends-lent own status_of (Err fault) before after status ends = elim (same-or-other fault own) [
-  | inl same ↦ ap (λ o. o.lent) (ends.0.0 same)
-  | inr other ↦ (ends.0.1 other).takes.lent
-]

@@ -1,5 +1,4 @@
 pub mod AuditLemmas
-pub mod InMemoryLemmas
 pub mod LineCountLemmas
 pub mod ListLemmas
 pub mod OpenRunLemmas

@@ -1,5 +1,4 @@
 pub mod AuditText
-pub mod InMemory
 pub mod Lines
 pub mod ListText
 pub mod OpenRun

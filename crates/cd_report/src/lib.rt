@@ -19,7 +19,7 @@
 //! The number of the image's first block is from 0 to [`MAX_BASE`], the last block with an address.
 //! An image has at most a million sectors. A report holds one sector at a time, and allocates no
 //! memory. [`run_list`] and [`run_audit`] are the commands: they also print a line for an error, and
-//! return a status. [`list_image`] and [`audit_image`] run them on an image in memory.
+//! return a status.
 //!
 //! Tests: `crates/cd_image_tests`.
 #![tactic(auto)]
@@ -27,7 +27,6 @@
 mod auditing;
 mod commands;
 mod findings;
-mod in_memory;
 mod laws;
 mod listing;
 mod scan;
@@ -36,7 +35,6 @@ pub use auditing::{AuditTally, audit, audit_end};
 use cd_address::MAX_BLOCK;
 pub use commands::{run_audit, run_list};
 pub use findings::{Findings, finding_line, has_other_address, is_any};
-pub use in_memory::{audit_image, list_image};
 pub use laws::{audit_counts_lines, runs_spell_kinds};
 pub use listing::{ListTally, list, list_end, run_line};
 

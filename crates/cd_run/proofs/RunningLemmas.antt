@@ -1,5 +1,5 @@
 -- The steps of a run, whoever reads and writes.
-use Rattle.std.proofs.Common.{◌≡◌, ℕ, ◌+◌, ◌-◌, ◌*◌, ◌<◌, ◌≤◌, ◌⊎◌, inl, inr, Bool, true, false, List, [], ◌∷◌, ◌++◌, length, get_or, Option, None, Some, refl, sym, ap, ◌∙◌, subst, arith, append_assoc, append-nil, length-append}
+use Rattle.std.proofs.Common.{◌≡◌, ℕ, ◌+◌, ◌-◌, ◌*◌, ◌<◌, ◌≤◌, ◌⊎◌, inl, inr, Bool, true, false, List, [], ◌∷◌, ◌++◌, length, get_or, Option, None, Some, refl, sym, ap, ◌∙◌, subst, arith, append_assoc, length-append}
 use Rattle.std.proofs.lemmas.List.{nil_from_length}
 use Rattle.std.specs.Prelude.{All, IsSome, cond}
 use Rattle.std.specs.List.Sorted.{IsNonDecreasingBy}
@@ -16,13 +16,9 @@ use Rattle.cd_patch.specs.declared.outcome.Outcome.{Outcome}
 use Rattle.cd_patch.proofs.FrameLemmas.{Effect-frame, Effect-length, Effect-missing, outcome-frame, outcome-missing}
 use Rattle.cd_patch.proofs.RangeLemmas.{blocks_met-most}
 use Rattle.cd_patch.proofs.SequenceLemmas.{PatchSequence-append, PatchSequence-lengths}
-use Rattle.cd_sector.specs.Image.{bytes_of, image_limit, sector_limit}
+use Rattle.cd_sector.specs.Image.{image_limit, sector_limit}
 use Rattle.cd_sector.proofs.general.Counts.{count_by_push}
-use Rattle.cd_sector.proofs.ImageLemmas.{cut_of_joined}
 use Rattle.cd_run.proofs.BytesLemmas.{AreSized, AreSized-more}
-use Rattle.cd_run.proofs.PatchLogLemmas.{counts-all}
-use Rattle.cd_run.specs.Patched.{IsPatched}
-use Rattle.cd_run.specs.PatchLog.{counts_line, log_lines, log_text, refused_count}
 use Rattle.cd_run.specs.Running.{Reached}
 
 -- ---- the next step
@@ -254,28 +250,3 @@ module _ {carry : Bool} {taken : List Patch} {p : Patch} {left : List Patch} {ba
 
       none_left : window' ≡ []
       none_left = nil_from_length window' (same_length ∙ ap length closes.0)
-
--- ---- at the end
-
-pub record Ends (carry : Bool) (patches : List Patch) (base : ℕ) (seen done : List (List ℕ))
-    (outcomes : List Outcome) (sectors applied : ℕ) (bytes : List ℕ) : Type 0 where
-  pub patched : IsPatched carry patches outcomes base (bytes_of seen ++ bytes) (bytes_of done ++ bytes)
-  pub log : log_text patches outcomes
-      ≡ log_lines patches outcomes ++ counts_line applied (length patches - applied)
-
-pub Reached-ends : (carry : Bool) (patches : List Patch) (base : ℕ) (seen done : List (List ℕ))
-    (outcomes : List Outcome) (block sectors applied : ℕ) (bytes : List ℕ) (closed : Bool)
-    → Reached carry patches [] base seen done [] outcomes block sectors applied (Some bytes) closed
-    → Ends carry patches base seen done outcomes sectors applied bytes
-unfolding log_text
-Reached-ends carry patches base seen done outcomes block sectors applied bytes closed g =
-    let old = cut_of_joined seen bytes g.seen_sizes g.counts.short in
-    let new = cut_of_joined done bytes g.done_sizes g.counts.short in
-    let run = simp append-nil at (g.run [] (λ _. refl)) in
-    let sizes = PatchSequence-lengths carry patches outcomes base seen done run in
-    let refused : length patches - applied ≡ refused_count outcomes =
-    omega (arith, counts-all outcomes, g.counts.counted) in
-    record {
-      patched = record { run = rw (← old.0, ← new.0) run; same_tail = sym new.1 ∙ old.1 };
-      log = rw (refused, g.counts.counted);
-    }

@@ -1,13 +1,11 @@
 -- The steps of a run in terms of bytes, for callers that read and write the bytes themselves.
-use Rattle.std.proofs.Common.{◌≡◌, ℕ, zero, suc, ◌<◌, Bool, false, List, [], ◌∷◌, ◌++◌, length, take, drop, Option, None, Some, refl, sym, ap, ◌∙◌, arith, append-nil}
-use Rattle.std.specs.List.{slice_get}
+use Rattle.std.proofs.Common.{◌≡◌, ℕ, Bool, false, List, [], ◌∷◌, ◌++◌, take, drop, Option, None, Some, refl, sym, ap, ◌∙◌, arith, append-nil}
 use Rattle.cd_script.specs.PatchForm.{Patch}
 use Rattle.cd_sector.specs.Image.{bytes_of}
-use Rattle.cd_run.specs.Running.{HasReached, IsRun, closed_at, sent_bytes, tail_at, tail_bytes, tail_of}
+use Rattle.cd_run.specs.Running.{HasReached, IsRun, closed_at, sent_bytes, tail_bytes, tail_of}
 use Rattle.cd_run.specs.Underway.{Underway}
 use Rattle.cd_run.specs.declared.run.PatchRun.{PatchRun}
 use Rattle.cd_run.proofs.BytesLemmas.{bytes_of-append, bytes_of-more}
-use Rattle.cd_run.proofs.RunningLemmas.{Reached-start}
 
 -- the bytes sent, before the tail was sent
 pub sent_open : (done : List (List ℕ)) (tail : Option (List ℕ)) (closed : Bool) → closed ≡ false
@@ -121,34 +119,3 @@ module _ {carry : Bool} {patches : List Patch} {base : ℕ} {read sent log_bytes
         ∙ sym (sent_open (h.done ++ sector ∷ []) (tail_of new hand') (closed_at new.stage) unclosed');
     logged = rw decided h.logged;
   }
-
--- before the first step
-pub Underway-start : (carry : Bool) (patches : List Patch) (base : ℕ) (run : PatchRun)
-    (hand : List (List ℕ))
-    → IsRun run → run.block ≡ base → run.held ≡ 0 → run.sectors ≡ 0 → run.decided ≡ 0 → run.applied ≡ 0
-    → run.stage ≡ 0 → Underway carry patches base [] [] [] run hand
-Underway-start carry patches base run hand sound block held sectors decided applied stage = record {
-  seen = [];
-  done = [];
-  outcomes = [];
-  sound = sound;
-  known = omega (arith, decided);
-  state = rw (block, held, sectors, decided, applied, stage) (Reached-start carry patches base);
-  came = rw stage refl;
-  went = rw stage refl;
-  logged = rw decided refl;
-}
-
-pub tail_some : (stage : ℕ) (bytes : List ℕ) → 0 < stage → tail_at stage bytes ≡ Some bytes
-tail_some zero bytes some = absurd (omega arith)
-tail_some (suc stage) bytes some = refl
-
--- the next patch among all patches
-pub first_left : (ps : List Patch) (d : ℕ) (p : Patch) (others : List Patch)
-    → drop d ps ≡ p ∷ others
-    → (slice_get ps d ≡ Some p) × (d < length ps) × (others ≡ drop (suc d) ps)
-first_left [] zero p others is = absurd (omega (arith, ap length is))
-first_left [] (suc d) p others is = absurd (omega (arith, ap length is))
-first_left (q ∷ ps) zero p others is = (cc, omega arith, cc)
-first_left (q ∷ ps) (suc d) p others is =
-    let more = first_left ps d p others is in (more.0, omega (arith, more.1), more.2)

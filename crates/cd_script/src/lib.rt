@@ -70,5 +70,6 @@ pub use laws::{
 pub use limits::{MAX_BYTES, MAX_DIGITS, MAX_NUMBER, MAX_OFFSET, MAX_PATCHES, MAX_TEXT};
 pub use patch::{Edit, Patch, lend, without_old};
 pub use script::{Script, parse};
+pub use value::number;
 pub use version::Version;
 pub use writing::write_patch;

@@ -10,8 +10,15 @@ use crate::hex_word::HexWord;
 use crate::limits::{MAX_BYTES, MAX_DIGITS, MAX_OFFSET};
 
 /// The value of 1 to 9 decimal digits; `None` for any other word.
+///
+/// # Examples
+///
+/// ```
+/// assert_eq!(rt; number(b"150"), Some(150));
+/// assert_eq!(rt; number(b"-1"), None);
+/// ```
 #[tactic(auto, unfolding(crate::specs::Number::number))]
-pub(crate) fn number(word: &[u8]) -> Option<u32>
+pub fn number(word: &[u8]) -> Option<u32>
     ensures { result ≡ number word.now }
 {
     if word.is_empty() || word.len() > MAX_DIGITS {

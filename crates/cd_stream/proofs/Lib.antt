@@ -1,4 +1,3 @@
 pub mod BufferLemmas
 pub mod KnownLemmas
-pub mod RoomLemmas
 pub mod TransferLemmas

@@ -1,5 +1,5 @@
 pub mod Adapters
 pub mod Buffering
-pub mod Rooms
+pub mod Fresh
 pub mod Stream
 pub mod Transfer

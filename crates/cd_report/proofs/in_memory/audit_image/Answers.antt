@@ -1,8 +1,0 @@
-use Rattle.std.proofs.Common.{rules}
-use Rattle.cd_report.proofs.InMemoryLemmas.{reports-clauses}
-use Rattle.cd_report.proofs.in_memory.audit_image.Goals as goal
-
-pub returns : goal.returns
-returns c =
-    reports-clauses c.args.out.now c.run_audit.new.out (search rules) _ c.new.ensures
-    c.run_audit.new.image c.run_audit.ensures
