@@ -91,7 +91,7 @@ class Access(States):
             self.assertEqual(self.has_focus(), 'map' if moved else 'second-body')
         self.setUp()
         self.to_second_repair()
-        labels = []
+        labels: list[str] = []
         while not labels or labels[-1] == 'Show the blocks':
             self.browser.press(Keys.TAB)
             labels.append(self.has_focus())
