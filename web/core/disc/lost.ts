@@ -47,7 +47,8 @@ async function ifVolume<T>(reading: Promise<T>) {
 }
 
 /**
- * The volume of a Mode 1 or Mode 2 track, which may be longer than the track, and its descriptors; null if there is none.
+ * The volume of a Mode 1 or Mode 2 track, which may be longer than the track, and its descriptors; null if there is none. It is read with
+ * the layout of each mode, because the mode byte of a sector may be what is damaged.
  * @param part the track in it
  * @param first the number that the volume gives the track's first sector
  */

@@ -50,7 +50,7 @@ class JoinedPieces extends PieceCutter {
     }
 }
 
-/** How many sectors are patched at a time. */
+/** How many sectors are patched at a time, if adjacent patches touch them: copying others costs more than a further call. */
 const PATCHED_AT_ONCE = 64;
 
 /**

@@ -52,6 +52,7 @@ export async function listRecords(opened: Pick<OpenedTrack, 'contents'>, { entri
     const records = () => recordsIn(reader, options, watch);
     const encoding = withEnd(options.encoding || await bestEncoding(records(), watch.signal), options.end);
     const filler = await usualFiller(encoding, records());
+    // A code such as {00}, because spreadsheets turn 00 into 0.
     const fill = codeOfBytes(filler);
     const listed = ({ at, bytes }: TableRecord) => {
         const place = { ...shownPlace(part, placeOf(at)), file: `${visible(file.path)}+${at}` };

@@ -1,4 +1,5 @@
 // Finds where texts begin and end exactly: by the byte that ends the texts of a file, or by the letters and marks beside their scored part.
+// This comes after a text is accepted, so that it adds no row without a text.
 
 import { FULL } from '../encodings/index.js';
 import { MOST_EXTENSION, isZero, readTo, type Candidate } from './candidates.js';

@@ -29,7 +29,7 @@ function quoted(text: string) {
     return `"${text.replace(/[\n\t\r"\\]/g, sign => ESCAPED[sign])}"`;
 }
 
-/** The name of a place in a PO file: its block and offset, as in `28+26`. */
+/** The name of a place in a PO file: its block and offset, as in `28+26`. A line of a file would need the image's directories. */
 function nameOfPlace({ block, offset }: Pick<PlacedText, 'block' | 'offset'>) {
     return `${block}+${offset}`;
 }
