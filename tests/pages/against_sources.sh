@@ -80,14 +80,14 @@ sed -n 's/^    //p' "$top/docs/CONTRACTS.md" | sed 's/^ *//' > example
 sed 's/^ *//' "$top/crates/cd_sector/src/encoding.rt" | grep -xFf - example | cmp -s - example
 judge 'the contract that docs/CONTRACTS.md shows is that of encode' test $? = 0 -a -s example
 
-# docs/TRUST.md explains only clauses of `apply` that exist, and parts of its clause `plain`.
+# docs/CONTRACTS.md explains only clauses of `apply` that exist, and parts of its clause `plain`.
 {
     sed -n '/^pub fn apply</,/^{/s/^ *ensures \([a-z_]*\) .*/\1/p' "$top/crates/cd_image/src/applying.rt"
     sed -n '/^pub record AppliesPlainly /,/^$/s/^  pub \([a-z_]*\) : .*/\1/p' "$top/crates/cd_image/specs/Applying.antt"
 } | sort > clauses
-sed -n '/^| Clause | In words/,/^$/s/^| \(`[^|]*`\) | .*/\1/p' "$top/docs/TRUST.md" | grep -o '[a-z_]*' | sort > rows
+sed -n '/^| Clause | In words/,/^$/s/^| \(`[^|]*`\) | .*/\1/p' "$top/docs/CONTRACTS.md" | grep -o '[a-z_]*' | sort > rows
 gone=$(comm -23 rows clauses | paste -sd ' ')
-judge "each clause of apply that docs/TRUST.md explains is there: ${gone:-all}" test -s rows -a -z "$gone"
+judge "each clause of apply that docs/CONTRACTS.md explains is there: ${gone:-all}" test -s rows -a -z "$gone"
 
 # The program calls only functions that docs/TRUST.md lists.
 if ! missing nm binutils 'what the program is linked to'; then
