@@ -17,7 +17,7 @@ const inLanguage = (tag, run) => {
     try {
         return run();
     } finally {
-        setLanguage('en');
+        setLanguage('en', false);
     }
 };
 const textsOf = tag => inLanguage(tag, () => ({ ...playerTexts }));
@@ -81,6 +81,18 @@ test('the failures that a player can see have sentences in each language, with t
             assert.doesNotMatch(said, /[{}]|undefined/, `${tag}: ${each}`);
         }
     }
+});
+
+test('a player is told which file to choose, and sees no command of a program; an author sees it', () => {
+    const said = kind => remarkText({ code: 'disc/other-file', facts: { name: 'FILE', kind } });
+    const commands = kind => said(kind).match(/`|chdman|unecm|toc2cue|cdscript|cdpatch|docs|terminal/g) || [];
+    // A player's ISO image, or one with subchannels, is converted, and gets no such sentence.
+    const kinds = Object.keys(KINDS).filter(kind => !['iso', 'subchannels'].includes(kind));
+    for (const [tag] of LANGUAGES) {
+        for (const kind of kinds) assert.deepEqual(inLanguage(tag, () => commands(kind)), [], `${tag}: ${kind}`);
+        for (const kind of ['chd', 'ecm', 'toc']) assert.match(inLanguage(tag, () => said(kind)), /\bBIN\b/, `${tag}: ${kind}`);
+    }
+    assert.deepEqual(['chd', 'ecm', 'toc'].map(kind => commands(kind)[1]), ['chdman', 'unecm', 'toc2cue']);
 });
 
 test('a failure without a translation is said in English', () => {

@@ -18,7 +18,7 @@ type PlayerHow = { note: () => Child, back: (() => void) | null };
 
 /** Shows the frame of the full page, which is in English, or of a patcher. */
 function showFrame(language: Language, isPatcher: boolean) {
-    setLanguage(language);
+    setLanguage(language, isPatcher);
     document.documentElement.lang = current.tag;
     document.body.classList.toggle('player', isPatcher);
     (byId('home').lastChild as Text).data = isPatcher ? texts.playerPatcherMadeWith : 'cdpatch';
@@ -108,7 +108,7 @@ export async function mountPatchers(app: App) {
         showPlayer(app, await readPatcherText(app.calls, text), { note: () => null, back: null });
     } catch (error) {
         showNotice('bad', texts.playerPatcherUnusable, format(texts.playerGetPatcherAgain, { fault: sentence(error) }));
-        setLanguage('en');
+        setLanguage('en', false);
     }
 }
 

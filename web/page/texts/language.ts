@@ -17,15 +17,18 @@ export type PlayerTexts = { readonly [Key in keyof typeof ENGLISH]: Key extends 
 export const LANGUAGES = [['en', 'English'], ['es', 'Español'], ['pt-BR', 'Português (Brasil)'], ['fr', 'Français'],
     ['de', 'Deutsch'], ['it', 'Italiano']] as const;
 
-/** The texts that players see, in the current language. */
-export const playerTexts = { ...ENGLISH };
+/** The texts that players see, in the current language. The full page has the sentences of web/sentences, which name tools. */
+export const playerTexts = { ...ENGLISH, sentences: {} as Record<string, string> };
 
 /** The current language, as a tag for Intl and for documents. */
 export const current = { tag: LANGUAGE };
 
-/** @param language of `playerTexts`, and of the numbers that the page shows */
-export function setLanguage(language: Language) {
-    Object.assign(playerTexts, ALL[language]);
+/**
+ * @param language of `playerTexts`, and of the numbers that the page shows
+ * @param forPlayers whether the page is that of a patcher
+ */
+export function setLanguage(language: Language, forPlayers = true) {
+    Object.assign(playerTexts, ALL[language], !forPlayers && { sentences: {} });
     current.tag = language === 'en' ? LANGUAGE : language;
 }
 

@@ -6,9 +6,10 @@ export const DE: PlayerTexts = {
     sentences: {
         'disc/two-sheets': '{one} und {other} sind beide CUE-Dateien. Öffnen Sie nur eine davon.',
         'disc/no-image': 'Öffnen Sie ein Image oder eine CUE-Datei zusammen mit den Dateien, auf die sie verweist.',
-        'disc/other-file/chd': '{name} ist eine CHD-Datei. Entpacken Sie sie mit `chdman extractcd`, das eine CUE-Datei und ein Image ' +
-            'anlegt.',
-        'disc/other-file/ecm': '{name} ist eine ECM-Datei. Entpacken Sie sie mit `unecm`, das das vollständige Image anlegt.',
+        'disc/other-file/chd': '{name} ist ein komprimiertes Image (CHD). Wählen Sie die CUE-Datei der Disc oder ihre BIN-Datei. Wenn ' +
+            'Sie nur die CHD-Datei haben, muss sie zuerst entpackt werden: Fragen Sie den Autor des Patches, wie das geht.',
+        'disc/other-file/ecm': '{name} ist ein komprimiertes Image (ECM). Wählen Sie die CUE-Datei der Disc oder ihre BIN-Datei. Wenn ' +
+            'Sie nur die ECM-Datei haben, muss sie zuerst entpackt werden: Fragen Sie den Autor des Patches, wie das geht.',
         'disc/other-file/archive': '{name} ist ein Archiv. Entpacken Sie es, und wählen Sie die CUE-Datei oder das Image darin.',
         'disc/other-file/wave': '{name} ist Audio in einer RIFF/WAVE-Datei. Wählen Sie die Datenspur der Disc.',
         'disc/other-file/scrambled': '{name} ist ein verwürfeltes Image (scrambled), mit den Sektoren, wie sie auf der Disc sind. Machen ' +
@@ -19,8 +20,8 @@ export const DE: PlayerTexts = {
         'disc/other-file/mds': '{name} ist die Beschreibung eines MDF-Images (MDS). Wählen Sie die MDF-Datei: Mit 2352 Byte pro Sektor ' +
             'ist sie ein vollständiges Image.',
         'disc/other-file/ccd': '{name} ist eine Steuerdatei von CloneCD (CCD). Wählen Sie die IMG-Datei daneben.',
-        'disc/other-file/toc': '{name} ist eine TOC-Datei von cdrdao. Wandeln Sie sie mit `toc2cue` in eine CUE-Datei um, oder wählen ' +
-            'Sie das Image, auf das sie verweist.',
+        'disc/other-file/toc': '{name} ist eine TOC-Datei, die nur beschreibt, was auf der Disc ist. Wählen Sie die BIN-Datei, die dazu ' +
+            'gehört.',
         'disc/other-file/gdi': '{name} ist eine GDI-Datei, die die Spuren einer Dreamcast-Disc auflistet. Wählen Sie die Datenspur des ' +
             'Spiels, meist track03.bin.',
         'disc/other-file/sub': '{name} enthält die Subchannels eines Images (SUB). Wählen Sie das Image selbst.',

@@ -2,8 +2,22 @@
 // show too. They have the form that english.js, one directory up, explains.
 
 export const ENGLISH = {
-    // the sentences for failures of the core, by code and kind of file; the English ones are in web/sentences
-    sentences: { 'disc/other-file/headerless': '{name} is an image of 2336 bytes per sector: Mode 2, which no patch can change.' },
+    // the sentences for failures of the core, by code and kind of file; the other English ones are in web/sentences. Players use no
+    // terminal: a sentence for them says which file to choose, and names no program's command
+    sentences: {
+        'disc/other-file/chd': '{name} is a compressed image (CHD). Choose the cue sheet of the disc, or its BIN file. If you have only ' +
+            'the CHD file, it must be unpacked first: ask the author of the patch how to do that.',
+        'disc/other-file/ecm': '{name} is a compressed image (ECM). Choose the cue sheet of the disc, or its BIN file. If you have only ' +
+            'the ECM file, it must be unpacked first: ask the author of the patch how to do that.',
+        'disc/other-file/toc': '{name} is a TOC file, which only describes what is on the disc. Choose the BIN file that belongs to it.',
+        'disc/other-file/scrambled': '{name} is a scrambled image, with its sectors as they are on the disc. Descramble it first with ' +
+            'the program that read the disc.',
+        'disc/other-file/headerless': '{name} is an image of 2336 bytes per sector: Mode 2, which no patch can change.',
+        'disc/other-file/unaligned': '{name} is a raw image whose first sector is cut. Read the disc again.',
+        'disc/other-file/workbook': '{name} is a workbook, such as XLSX. Choose the image of the disc.',
+        'disc/other-file/patch': '{name} is a patch of a different program (PPF, xdelta, IPS, BPS, or UPS). Apply it with that program ' +
+            'to a copy of the image.',
+    },
 
     // buttons, and the progress of a job
     cancel: 'Cancel',

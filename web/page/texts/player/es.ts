@@ -6,8 +6,10 @@ export const ES: PlayerTexts = {
     sentences: {
         'disc/two-sheets': '{one} y {other} son archivos CUE. Abre solo uno de ellos.',
         'disc/no-image': 'Abre una imagen, o un archivo CUE junto con los archivos a los que hace referencia.',
-        'disc/other-file/chd': '{name} es un archivo CHD. Descomprímelo con `chdman extractcd`, que crea un archivo CUE y una imagen.',
-        'disc/other-file/ecm': '{name} es un archivo ECM. Descomprímelo con `unecm`, que crea la imagen completa.',
+        'disc/other-file/chd': '{name} es una imagen comprimida (CHD). Elige el archivo CUE del disco o su archivo BIN. Si solo tienes ' +
+            'el archivo CHD, primero hay que descomprimirlo: pregunta al autor del parche cómo se hace.',
+        'disc/other-file/ecm': '{name} es una imagen comprimida (ECM). Elige el archivo CUE del disco o su archivo BIN. Si solo tienes ' +
+            'el archivo ECM, primero hay que descomprimirlo: pregunta al autor del parche cómo se hace.',
         'disc/other-file/archive': '{name} es un archivo comprimido. Descomprímelo, y elige el archivo CUE o la imagen que contiene.',
         'disc/other-file/wave': '{name} es audio en un archivo RIFF/WAVE. Elige la pista de datos del disco.',
         'disc/other-file/scrambled': '{name} es una imagen aleatorizada (scrambled), con los sectores tal como están en el disco. Deshaz ' +
@@ -18,8 +20,8 @@ export const ES: PlayerTexts = {
         'disc/other-file/mds': '{name} es la descripción de una imagen MDF (MDS). Elige el archivo MDF: si tiene 2352 bytes por sector, ' +
             'es una imagen completa.',
         'disc/other-file/ccd': '{name} es un archivo de control de CloneCD (CCD). Elige el archivo IMG que está a su lado.',
-        'disc/other-file/toc': '{name} es un archivo TOC de cdrdao. Conviértelo en un archivo CUE con `toc2cue`, o elige la imagen a la ' +
-            'que hace referencia.',
+        'disc/other-file/toc': '{name} es un archivo TOC, que solo describe lo que hay en el disco. Elige el archivo BIN que lo ' +
+            'acompaña.',
         'disc/other-file/gdi': '{name} es un archivo GDI, que enumera las pistas de un disco de Dreamcast. Elige la pista de datos del ' +
             'juego, normalmente track03.bin.',
         'disc/other-file/sub': '{name} contiene los subcanales de una imagen (SUB). Elige la imagen.',

@@ -6,8 +6,10 @@ export const FR: PlayerTexts = {
     sentences: {
         'disc/two-sheets': '{one} et {other} sont des fichiers CUE. N’en ouvrez qu’un.',
         'disc/no-image': 'Ouvrez une image, ou un fichier CUE avec les fichiers qu’il référence.',
-        'disc/other-file/chd': '{name} est un fichier CHD. Décompressez-le avec `chdman extractcd`, qui crée un fichier CUE et une image.',
-        'disc/other-file/ecm': '{name} est un fichier ECM. Décompressez-le avec `unecm`, qui crée l’image complète.',
+        'disc/other-file/chd': '{name} est une image compressée (CHD). Choisissez le fichier CUE du disque ou son fichier BIN. Si vous ' +
+            'n’avez que le fichier CHD, il faut d’abord le décompresser\u00a0: demandez à l’auteur du patch comment faire.',
+        'disc/other-file/ecm': '{name} est une image compressée (ECM). Choisissez le fichier CUE du disque ou son fichier BIN. Si vous ' +
+            'n’avez que le fichier ECM, il faut d’abord le décompresser\u00a0: demandez à l’auteur du patch comment faire.',
         'disc/other-file/archive': '{name} est une archive. Décompressez-la, et choisissez le fichier CUE ou l’image qu’elle contient.',
         'disc/other-file/wave': '{name} est de l’audio dans un fichier RIFF/WAVE. Choisissez la piste de données du disque.',
         'disc/other-file/scrambled': '{name} est une image embrouillée (scrambled), avec les secteurs tels qu’ils sont sur le disque. ' +
@@ -18,8 +20,8 @@ export const FR: PlayerTexts = {
         'disc/other-file/mds': '{name} est la description d’une image MDF (MDS). Choisissez le fichier MDF\u00a0: s’il a 2352 octets par ' +
             'secteur, c’est une image complète.',
         'disc/other-file/ccd': '{name} est un fichier de contrôle de CloneCD (CCD). Choisissez le fichier IMG placé à côté.',
-        'disc/other-file/toc': '{name} est un fichier TOC de cdrdao. Convertissez-le en fichier CUE avec `toc2cue`, ou choisissez ' +
-            'l’image qu’il référence.',
+        'disc/other-file/toc': '{name} est un fichier TOC, qui décrit seulement le contenu du disque. Choisissez le fichier BIN qui ' +
+            'l’accompagne.',
         'disc/other-file/gdi': '{name} est un fichier GDI, qui énumère les pistes d’un disque Dreamcast. Choisissez la piste de données ' +
             'du jeu, en général track03.bin.',
         'disc/other-file/sub': '{name} contient les sous-canaux d’une image (SUB). Choisissez l’image elle-même.',

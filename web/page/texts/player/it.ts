@@ -6,8 +6,10 @@ export const IT: PlayerTexts = {
     sentences: {
         'disc/two-sheets': '{one} e {other} sono entrambi file CUE. Apri solo uno dei due.',
         'disc/no-image': 'Apri un’immagine, oppure un file CUE insieme ai file che indica.',
-        'disc/other-file/chd': '{name} è un file CHD. Estrailo con `chdman extractcd`, che crea un file CUE e un’immagine.',
-        'disc/other-file/ecm': '{name} è un file ECM. Estrailo con `unecm`, che crea l’immagine completa.',
+        'disc/other-file/chd': '{name} è un’immagine compressa (CHD). Scegli il file CUE del disco o il suo file BIN. Se hai solo il ' +
+            'file CHD, prima bisogna estrarlo: chiedi all’autore della patch come si fa.',
+        'disc/other-file/ecm': '{name} è un’immagine compressa (ECM). Scegli il file CUE del disco o il suo file BIN. Se hai solo il ' +
+            'file ECM, prima bisogna estrarlo: chiedi all’autore della patch come si fa.',
         'disc/other-file/archive': '{name} è un archivio. Estrailo, e scegli il file CUE o l’immagine che contiene.',
         'disc/other-file/wave': '{name} è audio in un file RIFF/WAVE. Scegli la traccia dati del disco.',
         'disc/other-file/scrambled': '{name} è un’immagine rimescolata (scrambled), con i settori così come sono sul disco. Prima ' +
@@ -18,8 +20,8 @@ export const IT: PlayerTexts = {
         'disc/other-file/mds': '{name} è la descrizione di un’immagine MDF (MDS). Scegli il file MDF: se ha 2352 byte per settore, è ' +
             'un’immagine completa.',
         'disc/other-file/ccd': '{name} è un file di controllo di CloneCD (CCD). Scegli il file IMG che gli sta accanto.',
-        'disc/other-file/toc': '{name} è un file TOC di cdrdao. Convertilo in un file CUE con `toc2cue`, oppure scegli l’immagine che ' +
-            'indica.',
+        'disc/other-file/toc': '{name} è un file TOC, che descrive soltanto il contenuto del disco. Scegli il file BIN che lo ' +
+            'accompagna.',
         'disc/other-file/gdi': '{name} è un file GDI, che elenca le tracce di un disco Dreamcast. Scegli la traccia dati del gioco, di ' +
             'solito track03.bin.',
         'disc/other-file/sub': '{name} contiene i sottocanali di un’immagine (SUB). Scegli l’immagine stessa.',

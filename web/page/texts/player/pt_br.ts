@@ -6,8 +6,10 @@ export const PT_BR: PlayerTexts = {
     sentences: {
         'disc/two-sheets': '{one} e {other} são arquivos CUE. Abra só um deles.',
         'disc/no-image': 'Abra uma imagem, ou um arquivo CUE junto com os arquivos para os quais ele aponta.',
-        'disc/other-file/chd': '{name} é um arquivo CHD. Descompacte-o com `chdman extractcd`, que cria um arquivo CUE e uma imagem.',
-        'disc/other-file/ecm': '{name} é um arquivo ECM. Descompacte-o com `unecm`, que cria a imagem completa.',
+        'disc/other-file/chd': '{name} é uma imagem comprimida (CHD). Escolha o arquivo CUE do disco ou o arquivo BIN. Se você tiver só ' +
+            'o arquivo CHD, ele precisa ser descompactado antes: pergunte ao autor do patch como fazer isso.',
+        'disc/other-file/ecm': '{name} é uma imagem comprimida (ECM). Escolha o arquivo CUE do disco ou o arquivo BIN. Se você tiver só ' +
+            'o arquivo ECM, ele precisa ser descompactado antes: pergunte ao autor do patch como fazer isso.',
         'disc/other-file/archive': '{name} é um arquivo compactado. Descompacte-o, e escolha o arquivo CUE ou a imagem que está nele.',
         'disc/other-file/wave': '{name} é áudio em um arquivo RIFF/WAVE. Escolha a faixa de dados do disco.',
         'disc/other-file/scrambled': '{name} é uma imagem embaralhada, com os setores como estão no disco. Desembaralhe-a antes com o ' +
@@ -18,8 +20,7 @@ export const PT_BR: PlayerTexts = {
         'disc/other-file/mds': '{name} é a descrição de uma imagem MDF (MDS). Escolha o arquivo MDF: se tiver 2352 bytes por setor, é ' +
             'uma imagem completa.',
         'disc/other-file/ccd': '{name} é um arquivo de controle do CloneCD (CCD). Escolha o arquivo IMG que está ao lado dele.',
-        'disc/other-file/toc': '{name} é um arquivo TOC do cdrdao. Converta-o em um arquivo CUE com `toc2cue`, ou escolha a imagem ' +
-            'para a qual ele aponta.',
+        'disc/other-file/toc': '{name} é um arquivo TOC, que só descreve o que há no disco. Escolha o arquivo BIN que o acompanha.',
         'disc/other-file/gdi': '{name} é um arquivo GDI, que lista as faixas de um disco de Dreamcast. Escolha a faixa de dados do jogo, ' +
             'em geral track03.bin.',
         'disc/other-file/sub': '{name} contém os subcanais de uma imagem (SUB). Escolha a própria imagem.',
