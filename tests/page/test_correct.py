@@ -296,7 +296,7 @@ class Correct(PageTest):
         self.open_files(files['other'])
         self.browser.answer()
         self.browser.wait('.tally', 'can be repaired')
-        self.assertEqual(self.planned(), {'By their own parity': (1, 'block 40'), 'From other.bin': (1, 'block 50'), 'Damaged in both dumps': (1, 'block 60')})
+        self.assertEqual(self.planned(), {'By their own parity': (1, 'block 40'), 'From other.bin': (1, 'block 50'), 'Without a sound copy': (1, 'block 60')})
         self.assertNotIn('Nothing confirms', self.browser.text('#second-body'))
         self.go_to(40)
         self.waits_for(CORRECT, ALL, REPAIR, REBUILD)

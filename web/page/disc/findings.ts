@@ -174,7 +174,7 @@ export class Findings {
     }
 
     drawFindings(survey: Surveyed) {
-        const head = element('tr', {}, element('th', {}, ...say('Place ({blocks})', { blocks: term('block', 'blocks') })),
+        const head = element('tr', {}, element('th', {}, term('block', 'Blocks')),
             element('th', { class: 'n' }, texts.discSectorsColumn), element('th', {}, 'What'),
             element('th', {}, 'Looks like'));
         const rows = placesOf(survey.marks).flatMap(place => this.placeRows(survey, place));

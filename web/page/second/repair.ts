@@ -161,10 +161,10 @@ function notReadText(unread: Run[]) {
 }
 
 /** What confirms the copies: the rest of the sector or, if it was not read, the other sectors. */
-function copiesText({ taken, doubtful, unread, different: [different], same: [same], ranges: [{ common }] }: Repair) {
+function copiesText({ taken, doubtful, unread, unlike, different: [different], same: [same], ranges: [{ common }] }: Repair) {
     const n = blocksIn(taken) - blocksIn(doubtful);
-    const isSame = different === 0 && format(
-        'It is the same disc: {n} of {all} sectors are equal, and none is sound in both but different.',
+    const isSame = different === 0 && unlike.length === 0 && format(
+        'It is probably the same disc: {n} of {all} compared sectors are equal, and none is sound in both but different.',
         { n: same, all: blocksIn(common) });
     return [n > 0 && format('{n} copy agrees with what is left of the sector.|{n} copies agree with what is left of the sectors.', { n }),
         unread.length > 0 && notReadText(unread), unread.length > 0 && isSame].filter(Boolean).join(' ');
@@ -183,7 +183,7 @@ function planOf(app: App, repair: Repair, unrepaired: Run[], second: Image | nul
     const left = second === null
         ? planRow(unrepaired, 'bad-ink', ['Not corrected'], 'Another dump can have a sound copy. ',
             button('slim', () => app.choose('repair'), texts.imageRepairFromOther))
-        : planRow(unrepaired, 'bad-ink', ['Damaged in both dumps'],
+        : planRow(unrepaired, 'bad-ink', ['Without a sound copy'],
             'A third dump can have a sound copy: save the repaired image, open it, and repair it from that dump.');
     return element('ul', { class: 'plan' },
         planRow(repair.corrected, 'good-ink', ['By their own parity'], 'The EDC that was read confirms each. No other dump is needed.'),
@@ -198,6 +198,7 @@ function planOf(app: App, repair: Repair, unrepaired: Run[], second: Image | nul
 function foundWords(app: App, { repair, unrepaired }: Found, image: Image, second: Image | null, otherJobs: Child[]): Child[] {
     const { unlike, different: [different = 0], tails: [tail = false], ranges: [range] } = repair;
     const { missing, beyond } = range || { missing: [], beyond: [] };
+    const untested = blocksIn(repair.untested);
     const isLonger = beyond.length > 0;
     const [repaired, damaged] = [[...repair.corrected, ...repair.taken], unrepaired].map(blocksIn);
     const tally = countsRow([[repaired, texts.secondCanBeRepaired, repaired > 0 ? 'good-ink' : ''],
@@ -214,7 +215,9 @@ function foundWords(app: App, { repair, unrepaired }: Found, image: Image, secon
         unlike.length > 0 && notice('warn', format('{n} sector was not tested, and differs.|{n} sectors were not tested, and differ.',
             { n: blocksIn(unlike) }), 'These are audio or Mode 2 sectors without codes that show damage. They stay as they are here.'),
         tail && notice('warn', texts.secondTailsDiffer, 'They stay as they are here.'),
-        element('p', { class: 'small quiet' }, 'Only sectors that are damaged or lost here are written. Your file stays as it is. ' +
+        element('p', { class: 'small quiet' }, untested > 0 && `${format('{n} sector was not tested: nothing in it would show damage.|\
+{n} sectors were not tested: nothing in them would show damage.', { n: untested })} `,
+            'Only sectors that are damaged or lost here are written. Your file stays as it is. ' +
             'Damage may be deliberate: some copy protections need it.')];
 }
 
