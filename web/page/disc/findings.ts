@@ -46,7 +46,7 @@ async function takeList(app: App, file: File) {
         };
         return { needsImage: false, use };
     } catch (error) {
-        const use = () => showNotice('bad', say('This list of known dumps cannot be read: {name}', { name: nameOf(file.name) }),
+        const use = () => showNotice('bad', say('This DAT cannot be read: {name}', { name: nameOf(file.name) }),
             messageOf(error));
         return { needsImage: false, use };
     }

@@ -250,8 +250,8 @@ function imageParts(app: App, image: Image): Child[] {
     const tracks = image.disc.tracks.filter(track => track.image !== null);
     const size = format('{size} bytes · {n} sector|{size} bytes · {n} sectors', { size: image.reader.size, n: image.sectors });
     return [element('p', { class: 'small quiet num fact' }, size,
-        image.tail > 0 && ` · ${format('a tail of {n} byte|a tail of {n} bytes', { n: image.tail })}`, ...from), tracks.length > 1 &&
-            trackChoice(app, image)];
+        image.tail > 0 && ` · ${format('incomplete last sector of {n} byte|incomplete last sector of {n} bytes', { n: image.tail })}`,
+        ...from), tracks.length > 1 && trackChoice(app, image)];
 }
 
 /** A choice among the data tracks of a disc. */
