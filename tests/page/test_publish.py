@@ -429,6 +429,8 @@ class Player(PageTest):
             self.assertIn(common.text('playerFromIso' if name == 'mine.iso' else 'playerFromSubchannels'), self.browser.text('#player'))
             self.assertNotIn(common.text('playerIsoLacksMusic'), self.browser.text('#player'))
             self.saves_sheet('Save a cue sheet', 'Starlit (English)')
+            # A cue sheet of the player's would describe other sectors.
+            self.assertFalse(self.browser.run('return document.querySelector("#player-sheet") !== null'), name)
             self.assertIn('It is exactly the image that the author made: the SHA-1 is the same.', self.browser.text('#player'))
             saved = self.browser.downloaded('Starlit (English).bin')
             self.assertEqual(saved.read_bytes(), result())

@@ -38,11 +38,11 @@ export function playWords(name: string, sheet: string): Child[] {
  * The text if no cue sheet is known. If the player has one, it belongs to the unpatched image.
  * @param name of the image to play
  * @param sheet of a disc that has one track, or '' if this one may have more
- * @param take accepts a cue sheet that the player has; returns whether it names the image
+ * @param take accepts a cue sheet that the player has; returns whether it names the image. Null if such a sheet describes other sectors
  */
-export function wordsWithoutSheet(name: string, sheet: string, take: (file: File) => Promise<boolean>): Child[] {
+export function wordsWithoutSheet(name: string, sheet: string, take: ((file: File) => Promise<boolean>) | null): Child[] {
     const image = { name: element('b', {}, nameOf(name)) };
-    const own = [element('p', {}, texts.playerOldSheetStartsOld), ...sheetChooser(take)];
+    const own = take === null ? [] : [element('p', {}, texts.playerOldSheetStartsOld), ...sheetChooser(take)];
     if (sheet === '') return [element('p', {}, ...say(texts.playerOpenInEmulator, image)), ...own];
     return [element('p', {}, ...say(texts.playerSaveOneSheetBeside, image)), ...sheetSaver(name, sheet, texts.saveCueSheet),
         element('p', { class: 'small quiet' }, texts.playerSheetOfOneTrack), ...own];

@@ -327,7 +327,9 @@ export class Player {
     /** @param name of the image to play */
     playStep(name: string): HTMLElement {
         const data = { ...this.data, ...this.lacksMusic && { cue: '' } };
-        const sheet = () => sheetFor(name, this.sheet, this.image ? this.image.name : '', data);
+        // A sheet of an image that was converted describes other sectors.
+        const takesOwn = this.kind === null;
+        const sheet = () => sheetFor(name, takesOwn ? this.sheet : '', this.image ? this.image.name : '', data);
         const take = async (file: File) => {
             this.sheet = await this.chosen.sheetText(file).catch(() => '');
             if (sheet() === '') return false;
@@ -337,7 +339,7 @@ export class Player {
             return true;
         };
         const words = sheet() !== '' ? playWords(name, sheet())
-            : wordsWithoutSheet(name, this.oneTrack ? sheetOfOneTrack(name) : '', take);
+            : wordsWithoutSheet(name, this.oneTrack ? sheetOfOneTrack(name) : '', takesOwn ? take : null);
         const made = step('3', 'now', texts.playerStepPlay, ...words);
         return made;
     }
