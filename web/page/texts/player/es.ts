@@ -173,7 +173,7 @@ export const ES: PlayerTexts = {
     playerChooseAnotherImage: 'Elegir otra imagen…',
     playerHoldOtherBytes: '{n} de {places} contiene otros bytes.|{n} de {places} contienen otros bytes.',
     playerOtherReleaseProbably: 'Probablemente sea otra edición del juego, u otro juego.',
-    playerOlderPatchPerhaps: 'O una versión anterior de este parche la ha modificado: elige la imagen original.',
+    playerOlderPatchPerhaps: 'O una versión anterior de este parche ha modificado la imagen: elige la original.',
     playerAreDamaged: '{n} de {places} está dañado.|{n} de {places} están dañados.',
     playerTryAnotherDump: 'Prueba con otro volcado de este disco, o repara este con el cdpatch completo.',
     playerHoldNoData: '{n} de {places} no está aquí en un sector Mode 1.|{n} de {places} no están aquí en un sector Mode 1.',

@@ -174,7 +174,7 @@ export const FR: PlayerTexts = {
     playerChooseAnotherImage: 'Choisir une autre image…',
     playerHoldOtherBytes: '{n} sur {places} contient d’autres octets.|{n} sur {places} contiennent d’autres octets.',
     playerOtherReleaseProbably: 'C’est probablement une autre édition du jeu, ou un autre jeu.',
-    playerOlderPatchPerhaps: 'Ou une version plus ancienne de ce patch l’a modifiée\u00a0: choisissez l’image d’origine.',
+    playerOlderPatchPerhaps: 'Ou une version plus ancienne de ce patch a modifié l’image\u00a0: choisissez celle d’origine.',
     playerAreDamaged: '{n} sur {places} est endommagé.|{n} sur {places} sont endommagés.',
     playerTryAnotherDump: 'Essayez un autre dump de ce disque, ou réparez celui-ci avec le cdpatch complet.',
     playerHoldNoData: '{n} sur {places} n’est pas dans un secteur Mode 1 ici.|{n} sur {places} ne sont pas dans un secteur Mode 1 ici.',

@@ -174,7 +174,7 @@ export const IT: PlayerTexts = {
     playerChooseAnotherImage: 'Scegli un’altra immagine…',
     playerHoldOtherBytes: '{n} su {places} contiene altri byte.|{n} su {places} contengono altri byte.',
     playerOtherReleaseProbably: 'È probabilmente un’altra edizione del gioco, o un altro gioco.',
-    playerOlderPatchPerhaps: 'Oppure una versione precedente di questa patch l’ha modificata: scegli l’immagine originale.',
+    playerOlderPatchPerhaps: 'Oppure una versione precedente di questa patch ha modificato l’immagine: scegli quella originale.',
     playerAreDamaged: '{n} su {places} è danneggiato.|{n} su {places} sono danneggiati.',
     playerTryAnotherDump: 'Prova un altro dump di questo disco, oppure ripara questo con il cdpatch completo.',
     playerHoldNoData: '{n} su {places} qui non è in un settore Mode 1.|{n} su {places} qui non sono in un settore Mode 1.',

@@ -172,7 +172,7 @@ export const PT_BR: PlayerTexts = {
     playerChooseAnotherImage: 'Escolher outra imagem…',
     playerHoldOtherBytes: '{n} de {places} contém outros bytes.|{n} de {places} contêm outros bytes.',
     playerOtherReleaseProbably: 'É provavelmente outra edição do jogo, ou outro jogo.',
-    playerOlderPatchPerhaps: 'Ou uma versão mais antiga deste patch a alterou: escolha a imagem original.',
+    playerOlderPatchPerhaps: 'Ou uma versão mais antiga deste patch alterou a imagem: escolha a original.',
     playerAreDamaged: '{n} de {places} está danificado.|{n} de {places} estão danificados.',
     playerTryAnotherDump: 'Tente outro dump deste disco, ou repare este com o cdpatch completo.',
     playerHoldNoData: '{n} de {places} não está em um setor Mode 1 aqui.|{n} de {places} não estão em um setor Mode 1 aqui.',
