@@ -115,9 +115,9 @@ test('an image fits only if it is as long as the author’s and all that is writ
     const image = { size, sha1: '' };
     const set = 'set 0 0 4A was 68\n';
     const rows = [
-        [`${set}set 1 0 41 was 77\n`, image, 'hurt', /^All 2 places match\. 1 sector of your image is damaged\. The game may stop there\. Try another dump of this disc, or repair this one with the full cdpatch\.$/],
+        [`${set}set 1 0 41 was 77\n`, image, 'hurt', /^All 2 places match\. 1 sector of your image is damaged\. This may stop the game\. Try another dump of this disc, or repair this one with the full cdpatch\.$/],
         [set, image, 'hurt', /^The place matches\./],
-        [`${set}set 1 0 41\n`, image, 'unknown', /^1 of 2 places to patch matches\. 1 of 2 patches has no old bytes to compare, so cdpatch cannot tell whether it matches\. 1 sector of your image is damaged\. The game may stop there\. Try another dump of this disc, or repair this one with the full cdpatch\.$/],
+        [`${set}set 1 0 41\n`, image, 'unknown', /^1 of 2 places to patch matches\. 1 of 2 patches has no old bytes to compare, so cdpatch cannot tell whether it matches\. 1 sector of your image is damaged\. This may stop the game\. Try another dump of this disc, or repair this one with the full cdpatch\.$/],
         ['set 0 0 41\nfill 1 0 100 00\n', image, 'unknown', /^2 of 2 patches have no old bytes to compare, so cdpatch cannot tell whether they match\. 1 sector/],
         [`${set}fill 1 0 1 41\n`, image, 'unknown', /^1 of 2 places to patch matches\. 1 of 2 patches/],
         [`${set}set 1 0 4A was 77\nrebuild 1\n`, image, 'unknown', /^2 of 3 places to patch match\. 1 of 3 patches has no/],
@@ -146,7 +146,7 @@ test('music is perhaps shifted only if the author’s cue sheet lists some in th
     assert.doesNotMatch((await said(changed(sound, 2352 + 20), SCRIPT, { cue: data + audio }))[1], /music/);
 });
 
-const AFTER = ' The game may stop there. Try another dump of this disc, or repair this one with the full cdpatch.';
+const AFTER = ' This may stop the game. Try another dump of this disc, or repair this one with the full cdpatch.';
 
 test('the damaged, lost, and missing sectors of an image that the patch matches are counted', async () => {
     const words = async bytes => {

@@ -254,7 +254,7 @@ class Player(PageTest):
         self.play(other, discs.named())
         self.browser.wait('#verdict', common.text('playerMatchesButDamaged'))
         said = self.browser.text('#player .say.bad')
-        for words in ('All 4 places match. 2 sectors of your image are damaged. The game may stop there.', 'Damaged: /DATA/STAGE.DAT', 'The damage stays in the new file.'):
+        for words in ('All 4 places match. 2 sectors of your image are damaged. This may stop the game.', 'Damaged: /DATA/STAGE.DAT', 'The damage stays in the new file.'):
             self.assertIn(words, said)
         self.assertEqual(self.browser.run("return [...document.querySelectorAll('#player .btn.main')].map(it => it.innerText)"), ['Choose another image…'])
         marks = self.browser.run("return [...document.querySelectorAll('#player .strip i')].map(it => parseFloat(it.style.left))")

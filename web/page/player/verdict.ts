@@ -96,7 +96,7 @@ function comparedWords({ patches, without }: Pick<Judged, 'patches' | 'without'>
 /** What is damaged, lost, or missing in an image, and what that means for the game. */
 function damageWords(findings: Finding[]): string[] {
     const words = findings.filter(isDamage).map(({ code, count }) => format(texts[DAMAGE[code as keyof typeof DAMAGE]], { n: count }));
-    return words.length === 0 ? [] : [...new Set(words), texts.playerGameMayStopThere, texts.playerTryAnotherDump];
+    return words.length === 0 ? [] : [...new Set(words), texts.playerDamageMayStopGame, texts.playerTryAnotherDump];
 }
 
 function isDamage({ code }: Finding) {

@@ -199,7 +199,7 @@ Alle {n} Stellen stimmen überein, aber es lässt sich nicht prüfen, ob der Res
     playerSectorsLost: '{n} Datensektor Ihres Images ist verloren.|{n} Datensektoren Ihres Images sind verloren.',
     playerSectorsMissing: 'An {n} Stelle Ihres Images fehlen Sektoren, oder es sind zu viele.|\
 An {n} Stellen Ihres Images fehlen Sektoren, oder es sind zu viele.',
-    playerGameMayStopThere: 'Dort kann das Spiel stehen bleiben.',
+    playerDamageMayStopGame: 'Dadurch kann das Spiel stehen bleiben.',
     playerWhereDamageIs: 'Wo die Disc beschädigt ist',
     playerDamageIsIn: 'Beschädigt: {files}',
     playerDamageStays: 'Der Schaden bleibt in der neuen Datei.',

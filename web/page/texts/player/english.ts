@@ -174,7 +174,7 @@ All {n} places match, but cdpatch cannot tell whether the rest of the disc does.
     playerSectorsLost: '{n} data sector of your image is lost.|{n} data sectors of your image are lost.',
     playerSectorsMissing: 'Sectors are missing or extra in {n} place of your image.|\
 Sectors are missing or extra in {n} places of your image.',
-    playerGameMayStopThere: 'The game may stop there.',
+    playerDamageMayStopGame: 'This may stop the game.',
     playerWhereDamageIs: 'Where the damage is on the disc',
     playerDamageIsIn: 'Damaged: {files}',
     playerDamageStays: 'The damage stays in the new file.',

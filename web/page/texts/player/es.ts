@@ -195,7 +195,7 @@ Los {n} lugares coinciden, pero no se puede saber si el resto es del mismo disco
     playerSectorsOfImageDamaged: '{n} sector de tu imagen está dañado.|{n} sectores de tu imagen están dañados.',
     playerSectorsLost: '{n} sector de datos de tu imagen está perdido.|{n} sectores de datos de tu imagen están perdidos.',
     playerSectorsMissing: 'En {n} lugar de tu imagen faltan o sobran sectores.|En {n} lugares de tu imagen faltan o sobran sectores.',
-    playerGameMayStopThere: 'El juego puede detenerse ahí.',
+    playerDamageMayStopGame: 'El juego puede detenerse por eso.',
     playerWhereDamageIs: 'Dónde está dañado el disco',
     playerDamageIsIn: 'Dañado: {files}',
     playerDamageStays: 'El daño permanece en el archivo nuevo.',

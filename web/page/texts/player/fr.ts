@@ -197,7 +197,7 @@ Les {n} endroits correspondent tous, mais il est impossible de savoir si le rest
     playerSectorsLost: '{n} secteur de données de votre image est perdu.|{n} secteurs de données de votre image sont perdus.',
     playerSectorsMissing: 'À {n} endroit de votre image, des secteurs manquent ou sont en trop.|\
 À {n} endroits de votre image, des secteurs manquent ou sont en trop.',
-    playerGameMayStopThere: 'Le jeu peut s’y arrêter.',
+    playerDamageMayStopGame: 'Le jeu peut s’arrêter à cause de cela.',
     playerWhereDamageIs: 'Où le disque est endommagé',
     playerDamageIsIn: 'Endommagé\u00a0: {files}',
     playerDamageStays: 'Les dommages restent dans le nouveau fichier.',

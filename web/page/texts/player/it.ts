@@ -197,7 +197,7 @@ Tutti i {n} punti corrispondono, ma non è possibile sapere se il resto è dello
     playerSectorsLost: '{n} settore di dati della tua immagine è perso.|{n} settori di dati della tua immagine sono persi.',
     playerSectorsMissing: 'In {n} punto della tua immagine mancano settori o ce ne sono di troppo.|\
 In {n} punti della tua immagine mancano settori o ce ne sono di troppo.',
-    playerGameMayStopThere: 'Il gioco può bloccarsi lì.',
+    playerDamageMayStopGame: 'Il gioco può bloccarsi per questo.',
     playerWhereDamageIs: 'Dove il disco è danneggiato',
     playerDamageIsIn: 'Danneggiato: {files}',
     playerDamageStays: 'Il danno rimane nel nuovo file.',

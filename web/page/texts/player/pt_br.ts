@@ -194,7 +194,7 @@ Todos os {n} lugares conferem, mas não há como saber se o resto é do mesmo di
     playerSectorsOfImageDamaged: '{n} setor da sua imagem está danificado.|{n} setores da sua imagem estão danificados.',
     playerSectorsLost: '{n} setor de dados da sua imagem está perdido.|{n} setores de dados da sua imagem estão perdidos.',
     playerSectorsMissing: 'Em {n} lugar da sua imagem faltam ou sobram setores.|Em {n} lugares da sua imagem faltam ou sobram setores.',
-    playerGameMayStopThere: 'O jogo pode travar ali.',
+    playerDamageMayStopGame: 'O jogo pode travar por causa disso.',
     playerWhereDamageIs: 'Onde o disco está danificado',
     playerDamageIsIn: 'Danificado: {files}',
     playerDamageStays: 'O dano permanece no arquivo novo.',
