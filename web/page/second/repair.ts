@@ -211,9 +211,9 @@ function foundWords(app: App, { repair, unrepaired }: Found, image: Image, secon
         second !== null && repaired === 0 && nothingWords(repair, damaged, image, isLonger ? [] : otherJobs),
         ...doubtWords(repair),
         different > 0 && notice('warn', format('{n} sector is sound in both, and differs.|{n} sectors are sound in both, and differ.',
-            { n: different }), 'Perhaps it is another release of the disc. They stay as they are here.'),
+            { n: different }), 'Perhaps it is another release of the disc. What differs stays as it is here.'),
         unlike.length > 0 && notice('warn', format('{n} sector was not tested, and differs.|{n} sectors were not tested, and differ.',
-            { n: blocksIn(unlike) }), 'These are audio or Mode 2 sectors without codes that show damage. They stay as they are here.'),
+            { n: blocksIn(unlike) }), 'Nothing in audio, or in Mode 2 without codes, would show damage. What differs stays as it is here.'),
         tail && notice('warn', texts.secondTailsDiffer, 'They stay as they are here.'),
         element('p', { class: 'small quiet' }, untested > 0 && `${format('{n} sector was not tested: nothing in it would show damage.|\
 {n} sectors were not tested: nothing in them would show damage.', { n: untested })} `,
