@@ -8,8 +8,9 @@ import { Lent, same } from './calls.mjs';
 
 const SECTOR = 2352;
 const [ENTRY_SIZE, INDEX_SIZE, ANSWER_SIZE, JOB_SIZE, PATCH_BYTES_SIZE, LINE_SIZE] = [24, 32, 24, 72, 8192, 96];
-const [MOST_ENTRIES, MOST_ANSWERS] = [64, 3];
+const MOST_ANSWERS = 3;
 const LAST = 2;
+const LINE_FEED = 10;
 const [MOST_SECTORS, LAST_SECTORS, FRONT_SECTORS] = [1000000, 999996, 8]; // the last two as in piece_cases.c
 const [VALID, INVALID, TOO_LONG] = [0, 1, 2];
 const [PIECE, CAPACITY] = [1, 2];
@@ -26,7 +27,8 @@ class Job {
     constructor(calls, asked, most) {
         this.calls = calls;
         this.asked = asked;
-        this.lent = new Lent(calls, [asked.script, MOST_ENTRIES * ENTRY_SIZE, INDEX_SIZE, PATCH_BYTES_SIZE, MOST_ANSWERS * ANSWER_SIZE, JOB_SIZE, 8,
+        const lines = asked.script.reduce((count, byte) => count + Number(byte === LINE_FEED), 1);
+        this.lent = new Lent(calls, [asked.script, lines * ENTRY_SIZE, INDEX_SIZE, PATCH_BYTES_SIZE, MOST_ANSWERS * ANSWER_SIZE, JOB_SIZE, 8,
             LINE_SIZE, most * SECTOR]);
         [this.script, this.entries, this.index, this.patchBytes, this.answers, this.job, this.doneAt, this.line, this.piece] = this.lent.places;
         this.view = new DataView(this.lent.memory.buffer);
@@ -34,7 +36,7 @@ class Job {
         this.log = [];
         this.done = 0;
         this.refused = 0;
-        const found = this.calls.exports.cdpatch_index_script(this.script, BigInt(asked.script.length), this.entries, BigInt(MOST_ENTRIES), this.index);
+        const found = this.calls.exports.cdpatch_index_script(this.script, BigInt(asked.script.length), this.entries, BigInt(lines), this.index);
         this.count = Number(this.view.getBigUint64(this.index, true));
         if (found === INVALID) this.print('fault', this.number(this.index + 16), this.number(this.index + 12));
         if (found === TOO_LONG) this.print('failure', LONG_SCRIPT);
