@@ -7,7 +7,7 @@
 
 enum { PIECE = 400 * CDPATCH_SECTOR_SIZE, SCRIPT = 65536 };
 
-/* Where a run stands: the sectors from the first block of the job on, which were read and not written yet, and the counts. */
+/* The state of a run: the sectors that were read and not written yet, from the first block of the job on, and the counts. */
 struct run {
     struct cdpatch_job job;
     uint8_t piece[PIECE];
